@@ -1,0 +1,4 @@
+pub mod Choice
+pub mod Parts
+pub mod BigEndian
+pub mod Compare

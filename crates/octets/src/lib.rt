@@ -1,0 +1,176 @@
+// Bytes in lent memory: parts of a slice, big-endian numbers, writing, comparing. Every public function is total:
+// a part that isn't there reads as empty, and a write that doesn't fit changes nothing.
+ghost use mathlib.Core.Path.{_≡_};
+ghost use Prim.Native.Nat.{ℕ, _+_, _^_, _≤_, _<_};
+ghost use lib.ListN.{length, drop, replicate};
+ghost use lib.Dec.{leb};
+ghost use Rattle.octets.specs.Parts.{part, pasted, written};
+ghost use Rattle.octets.specs.BigEndian.{num, bytesOf};
+ghost use Rattle.octets.specs.Compare.{zeros, same};
+
+// The bytes from a place on.
+pub fn rest(s: &[u8], at: usize) -> &[u8]
+    ensures { λ r. ⌜ now r ≡ drop at (now (s .entry)) ⌝ }
+{
+    if at < s.len() {
+        return &s[at..];
+    }
+    &s[..0]
+}
+
+// The n bytes from a place on, or as many of them as there are.
+pub fn part(s: &[u8], at: usize, n: usize) -> &[u8]
+    ensures { λ r. ⌜ now r ≡ part (now (s .entry)) at n ⌝ }
+{
+    let tail = rest(s, at);
+    if n < tail.len() {
+        return &tail[..n];
+    }
+    tail
+}
+
+// Whether n bytes stand from a place on.
+fn fits(len: usize, at: usize, n: usize) -> bool
+    ensures { λ r. ⌜ r ≡ leb (at + n) len ⌝ }
+{
+    if len < at {
+        return false;
+    }
+    n <= len - at
+}
+
+fn wide(x: u8) -> u64
+    ensures { λ r. ⌜ (r ≡ x) × (r < 256) ⌝ }
+{
+    x as u64
+}
+
+// The number at a place, n bytes wide. The three widths below are this one.
+fn number(s: &[u8], at: usize, n: usize) -> u64
+    requires { ⌜ (at + n ≤ length (now s)) × (n ≤ 8) ⌝ }
+    ensures { λ r. ⌜ (r ≡ num (now (s .entry)) at n) × (r < 256 ^ n) ⌝ }
+{
+    let mut v: u64 = 0;
+    let mut i: usize = 0;
+    while i < n {
+        v = v * 256 + wide(s[at + i]);
+        i += 1;
+    }
+    v
+}
+
+// The number at a place, at most n bytes wide: as many as there are.
+fn number_there(s: &[u8], at: usize, n: usize) -> u64
+    requires { ⌜ n ≤ 8 ⌝ }
+    ensures { λ r. ⌜ (r ≡ num (now (s .entry)) at n) × (r < 256 ^ n) ⌝ }
+{
+    if fits(s.len(), at, n) {
+        return number(s, at, n);
+    }
+    let there = part(s, at, n);
+    number(there, 0, there.len())
+}
+
+pub fn byte(s: &[u8], at: usize) -> u8
+    ensures { λ r. ⌜ r ≡ num (now (s .entry)) at 1 ⌝ }
+{
+    number_there(s, at, 1) as u8
+}
+
+pub fn be16(s: &[u8], at: usize) -> u16
+    ensures { λ r. ⌜ r ≡ num (now (s .entry)) at 2 ⌝ }
+{
+    number_there(s, at, 2) as u16
+}
+
+pub fn be32(s: &[u8], at: usize) -> u32
+    ensures { λ r. ⌜ r ≡ num (now (s .entry)) at 4 ⌝ }
+{
+    number_there(s, at, 4) as u32
+}
+
+pub fn be64(s: &[u8], at: usize) -> u64
+    ensures { λ r. ⌜ r ≡ num (now (s .entry)) at 8 ⌝ }
+{
+    number_there(s, at, 8)
+}
+
+// Writes the n lowest bytes of a number from its last byte to its first.
+fn paste_be(out: &mut [u8], at: usize, n: usize, v: u64)
+    requires { ⌜ at + n ≤ length (now out) ⌝ }
+    ensures { λ _. ⌜ now (out .exit) ≡ pasted (now (out .entry)) at (bytesOf n v) ⌝ }
+{
+    let mut k = n;
+    let mut w = v;
+    while 0 < k {
+        k -= 1;
+        out[at + k] = (w % 256) as u8;
+        w = w / 256;
+    }
+}
+
+// Writes a number n bytes wide.
+pub fn put_be(out: &mut [u8], at: usize, n: usize, v: u64)
+    ensures { λ _. ⌜ now (out .exit) ≡ written (now (out .entry)) at (bytesOf n v) ⌝ }
+{
+    if fits(out.len(), at, n) {
+        paste_be(out, at, n, v);
+    }
+}
+
+pub fn put_bytes(out: &mut [u8], at: usize, s: &[u8])
+    ensures { λ _. ⌜ now (out .exit) ≡ written (now (out .entry)) at (now (s .entry)) ⌝ }
+{
+    if fits(out.len(), at, s.len()) {
+        bytes::copy(s, &mut out[at..]);
+    }
+}
+
+fn paste_zeros(out: &mut [u8], at: usize, n: usize)
+    requires { ⌜ at + n ≤ length (now out) ⌝ }
+    ensures { λ _. ⌜ now (out .exit) ≡ pasted (now (out .entry)) at (replicate n 0) ⌝ }
+{
+    let mut i = 0;
+    while i < n {
+        out[at + i] = 0;
+        i += 1;
+    }
+}
+
+pub fn put_zeros(out: &mut [u8], at: usize, n: usize)
+    ensures { λ _. ⌜ now (out .exit) ≡ written (now (out .entry)) at (replicate n 0) ⌝ }
+{
+    if fits(out.len(), at, n) {
+        paste_zeros(out, at, n);
+    }
+}
+
+// Whether every byte is zero. With no way out of its loop it is compiled to vector code.
+pub fn all_zero(s: &[u8]) -> bool
+    ensures { λ r. ⌜ r ≡ zeros (now (s .entry)) ⌝ }
+{
+    let mut seen = 0u8;
+    let mut i = 0;
+    while i < s.len() {
+        seen = seen | s[i];
+        i += 1;
+    }
+    seen == 0
+}
+
+// Whether two slices hold the same bytes.
+pub fn same(s: &[u8], t: &[u8]) -> bool
+    ensures { λ r. ⌜ r ≡ same (now (s .entry)) (now (t .entry)) ⌝ }
+{
+    if s.len() != t.len() {
+        return false;
+    }
+    let mut i = 0;
+    while i < s.len() {
+        if s[i] != t[i] {
+            return false;
+        }
+        i += 1;
+    }
+    true
+}
