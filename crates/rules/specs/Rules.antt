@@ -1,0 +1,79 @@
+-- Statuses 1 to 3 of document 01, "first that applies", save the rules that need mode or clock.
+use Prim.Native.Nat.{ℕ, _+_, _-_, _/_, _%_}
+use mathlib.Core.List.{List}
+use mathlib.Core.Bool.{Bool, true, false, not, _&&_, _||_}
+use lib.ListN.{length, drop}
+use lib.Dec.{ltb, leb, eqb}
+use Rattle.octets.specs.Choice.{pick}
+use Rattle.shape.specs.Shapes.{shapeOf}
+use Rattle.shape.specs.declared.Shape.{Shape}
+use Rattle.header.specs.declared.Header.{Header}
+use Rattle.rules.specs.declared.WithMeta.{WithMeta}
+use Rattle.rules.specs.WithMeta.{withMeta, sectionOf}
+use Rattle.rules.specs.Section.{sectionOk}
+
+-- "wrong extras size": a shape's 24 stands for 24, 26, 28 and 30
+abbrev pub extrasOk : ℕ → ℕ → Bool
+extrasOk size n = eqb n size || (eqb size 24 && (eqb n 26 || (eqb n 28 || eqb n 30)))
+
+-- "key missing, forbidden or over 250"
+abbrev pub keyOk : ℕ → ℕ → Bool
+keyOk key n = (eqb key 0 && eqb n 0) || (eqb key 1 && (leb 1 n && leb n 250))
+
+-- status 2 as far as the header shows it: "datatype not 0; extras + key length over body; wrong extras size; key missing, forbidden or over 250; value missing or forbidden"
+unfoldable pub formOk : Shape → Header → Bool
+formOk s h =
+    eqb (h .datatype) 0
+    && (leb (h .extlen + h .keylen) (h .body)
+    && (extrasOk (s .extras) (h .extlen)
+    && (keyOk (s .key) (h .keylen)
+    && (eqb (s .value) 1 || eqb (h .body) (h .extlen + h .keylen)))))
+
+-- the largest CAS and revision that a request carries
+abbrev pub largest : ℕ
+largest = 0xfffffffeffffffff
+
+-- "CAS outside 1 to 0xfffffffeffffffff; revision over that; option bits other than 0x0f; 0x04 without 0x08"
+unfoldable pub numbersOk : WithMeta → Bool
+numbersOk w =
+    leb 1 (w .numbers .cas .0)
+    && (leb (w .numbers .cas .0) largest
+    && (leb (w .numbers .revision .0) largest
+    && (leb (w .options) 0x0f
+    && (eqb (w .options / 4 % 2) 0 || eqb (w .options / 8 % 2) 1))))
+
+-- "for Set and Add, no value byte before the extended meta; for Delete, such a byte, or flags or expiry not 0", n being the bytes before it
+unfoldable pub bodyOk : ℕ → WithMeta → ℕ → Bool
+bodyOk meta w n =
+    (eqb meta 1 && leb 1 n)
+    || (eqb meta 2 && (eqb n 0 && (eqb (w .numbers .flags) 0 && eqb (w .numbers .expiry) 0)))
+
+-- the field rules of a with-meta request, meta being its shape's; "a section longer than what follows the key"
+unfoldable pub withMetaOk : ℕ → WithMeta → List ℕ → Bool
+unfolding numbersOk bodyOk
+withMetaOk meta w value =
+    leb (w .section) (length value)
+    && (numbersOk w
+    && (bodyOk meta w (length value - w .section)
+    && sectionOk (drop (length value - w .section) value)))
+
+-- how many bytes of extended meta end the value
+unfoldable pub metaSize : Shape → List ℕ → ℕ
+metaSize s extras = pick (eqb (s .meta) 0) 0 (sectionOf extras)
+
+unfoldable pub fieldsOk : Shape → List ℕ → List ℕ → Bool
+unfolding withMetaOk
+fieldsOk s extras value = eqb (s .meta) 0 || withMetaOk (s .meta) (withMeta extras) value
+
+-- the status of the first rule that applies, or 0
+unfoldable pub judged : Shape → Header → List ℕ → List ℕ → ℕ
+unfolding formOk fieldsOk metaSize
+judged s h extras value =
+    pick (not (eqb (s .status) 0)) (s .status)
+    (pick (not (formOk s h)) 0x04
+    (pick (not (fieldsOk s extras value)) 0x04
+    (pick (ltb 1024 (length value - metaSize s extras)) 0x03 0)))
+
+unfoldable pub status : Header → List ℕ → List ℕ → ℕ
+unfolding judged
+status h extras value = judged (shapeOf (h .opcode)) h extras value

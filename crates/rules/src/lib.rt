@@ -1,0 +1,194 @@
+// The rules of document 01 that a request's parts must keep before any table is looked at: statuses 1 to 3, save those
+// that need mode or clock. Reader and writer share them.
+ghost use mathlib.Core.Path.{_≡_};
+ghost use Prim.Native.Nat.{_-_, _≤_};
+ghost use lib.ListN.{length};
+ghost use lib.Dec.{ltb};
+ghost use Rattle.rules.specs.Section.{fieldOk, fieldsOk, sectionOk};
+ghost use Rattle.rules.specs.WithMeta.{numbersOf, optionsOf, sectionOf, withMeta};
+ghost use Rattle.rules.specs.Rules.{formOk, numbersOk, bodyOk, withMetaOk, metaSize, fieldsOk as allFieldsOk, judged, status};
+use header::Header;
+use numbers::Cas;
+use numbers::Numbers;
+use numbers::Revision;
+use shape::Shape;
+
+// What the extras of a with-meta request carry.
+pub struct WithMeta {
+    pub numbers: Numbers,
+    pub options: u32,
+    // the length of the extended meta
+    pub section: u16,
+}
+
+fn numbers_of(extras: &[u8]) -> Numbers
+    ensures { λ r. ⌜ r ≡ numbersOf (now (extras .entry)) ⌝ }
+{
+    Numbers {
+        flags: octets::be32(extras, 0),
+        expiry: octets::be32(extras, 4),
+        revision: Revision(octets::be64(extras, 8)),
+        cas: Cas(octets::be64(extras, 16)),
+    }
+}
+
+fn options_of(extras: &[u8]) -> u32
+    ensures { λ r. ⌜ r ≡ optionsOf (now (extras .entry)) ⌝ }
+{
+    if 28 <= extras.len() {
+        return octets::be32(extras, 24);
+    }
+    0
+}
+
+fn section_of(extras: &[u8]) -> u16
+    ensures { λ r. ⌜ r ≡ sectionOf (now (extras .entry)) ⌝ }
+{
+    if extras.len() == 26 {
+        return octets::be16(extras, 24);
+    }
+    if extras.len() == 30 {
+        return octets::be16(extras, 28);
+    }
+    0
+}
+
+pub fn with_meta(extras: &[u8]) -> WithMeta
+    ensures { λ r. ⌜ r ≡ withMeta (now (extras .entry)) ⌝ }
+{
+    WithMeta {
+        numbers: numbers_of(extras),
+        options: options_of(extras),
+        section: section_of(extras),
+    }
+}
+
+// Whether a field of extended meta stands at the start of s.
+fn field_ok(s: &[u8]) -> bool
+    ensures { λ r. ⌜ r ≡ fieldOk (now (s .entry)) ⌝ }
+{
+    if s.len() < 3 {
+        return false;
+    }
+    let id = octets::byte(s, 0);
+    let size = octets::be16(s, 1) as usize;
+    ((id == 1) | (id == 2)) & (size <= s.len() - 3)
+}
+
+// Whether s is fields one after the other, to its end.
+fn fields_ok(s: &[u8]) -> bool
+    ensures { λ r. ⌜ r ≡ fieldsOk (now (s .entry)) ⌝ }
+{
+    let mut at: usize = 0;
+    while at < s.len() {
+        let left = octets::rest(s, at);
+        if !field_ok(left) {
+            return false;
+        }
+        at = at + (3 + octets::be16(left, 1) as usize);
+    }
+    true
+}
+
+fn section_ok(s: &[u8]) -> bool
+    ensures { λ r. ⌜ r ≡ sectionOk (now (s .entry)) ⌝ }
+{
+    let fields = fields_ok(octets::rest(s, 1));
+    (s.len() == 0) | ((octets::byte(s, 0) == 1) & fields)
+}
+
+fn form_ok(s: Shape, h: Header) -> bool
+    ensures { λ r. ⌜ r ≡ formOk s h ⌝ }
+{
+    let parts = h.extlen as u64 + h.keylen as u64;
+    let body = h.body as u64;
+    let extras = (h.extlen == s.extras)
+        | ((s.extras == 24) & ((h.extlen == 26) | ((h.extlen == 28) | (h.extlen == 30))));
+    let key = ((s.key == 0) & (h.keylen == 0))
+        | ((s.key == 1) & ((1 <= h.keylen) & (h.keylen <= 250)));
+    (h.datatype == 0) & ((parts <= body) & (extras & (key & ((s.value == 1) | (body == parts)))))
+}
+
+fn numbers_ok(w: WithMeta) -> bool
+    ensures { λ r. ⌜ r ≡ numbersOk w ⌝ }
+{
+    let cas = w.numbers.cas.0;
+    let revision = w.numbers.revision.0;
+    (1 <= cas)
+        & ((cas <= 0xfffffffeffffffff)
+            & ((revision <= 0xfffffffeffffffff)
+                & ((w.options <= 0x0f) & ((w.options / 4 % 2 == 0) | (w.options / 8 % 2 == 1)))))
+}
+
+// n: the bytes before the extended meta.
+fn body_ok(meta: u8, w: WithMeta, n: usize) -> bool
+    ensures { λ r. ⌜ r ≡ bodyOk meta w n ⌝ }
+{
+    ((meta == 1) & (1 <= n))
+        | ((meta == 2) & ((n == 0) & ((w.numbers.flags == 0) & (w.numbers.expiry == 0))))
+}
+
+fn with_meta_ok(meta: u8, w: WithMeta, value: &[u8]) -> bool
+    ensures { λ r. ⌜ r ≡ withMetaOk meta w (now (value .entry)) ⌝ }
+{
+    let section = w.section as usize;
+    if value.len() < section {
+        return false;
+    }
+    let n = value.len() - section;
+    numbers_ok(w) & (body_ok(meta, w, n) & section_ok(octets::rest(value, n)))
+}
+
+// How many bytes of extended meta end the value.
+pub fn meta_size(s: Shape, extras: &[u8]) -> usize
+    ensures { λ r. ⌜ r ≡ metaSize s (now (extras .entry)) ⌝ }
+{
+    if s.meta == 0 {
+        return 0;
+    }
+    section_of(extras) as usize
+}
+
+fn all_fields_ok(s: Shape, extras: &[u8], value: &[u8]) -> bool
+    ensures { λ r. ⌜ r ≡ allFieldsOk s (now (extras .entry)) (now (value .entry)) ⌝ }
+{
+    if s.meta == 0 {
+        return true;
+    }
+    with_meta_ok(s.meta, with_meta(extras), value)
+}
+
+// Whether a value is over 1,024 bytes, its extended meta not counted.
+fn too_large(len: usize, meta: usize) -> bool
+    ensures { λ r. ⌜ r ≡ ltb 1024 (len - meta) ⌝ }
+{
+    if len < meta {
+        return false;
+    }
+    1024 < len - meta
+}
+
+fn judge(s: Shape, h: Header, extras: &[u8], value: &[u8]) -> u8
+    ensures { λ r. ⌜ r ≡ judged s h (now (extras .entry)) (now (value .entry)) ⌝ }
+{
+    if s.status != 0 {
+        return s.status;
+    }
+    if !form_ok(s, h) {
+        return 0x04;
+    }
+    if !all_fields_ok(s, extras, value) {
+        return 0x04;
+    }
+    if too_large(value.len(), meta_size(s, extras)) {
+        return 0x03;
+    }
+    0
+}
+
+// The status of the first rule that applies to a request's header, extras and value, or 0.
+pub fn status(h: Header, extras: &[u8], value: &[u8]) -> u8
+    ensures { λ r. ⌜ r ≡ status h (now (extras .entry)) (now (value .entry)) ⌝ }
+{
+    judge(shape::shape_of(h.opcode), h, extras, value)
+}

@@ -1,0 +1,36 @@
+-- How an entry of the constant table spells a shape, and the law that turns a computed test of the whole table into its rule at each entry.
+use Prim.Native.Nat.{ℕ, zero, suc, _+_, _/_, _%_, _<_}
+use mathlib.Core.Path.{_≡_, refl, sym, ap, _∙_}
+use mathlib.Core.List.{List, [], _∷_, map}
+use native.Mathlib.Nat.{add-zero, zero-add, add-suc, suc-add, le-of-suc-le-suc, not-suc-le-zero}
+use lib.ListN.{getD, List·getD-map}
+use lib.Dec.{eqb}
+use Rattle.shape.specs.declared.Shape.{Shape}
+use Rattle.shape.specs.Shapes.{shapeOf}
+
+-- an entry's hexadecimal digits: status 2, extras 2, key, value, meta, quiet
+abbrev pub spelled : ℕ → Shape
+spelled n = record {
+  status = n / 0x1000000 % 256;
+  extras = n / 0x10000 % 256;
+  key = n / 0x1000 % 16;
+  value = n / 0x100 % 16;
+  meta = n / 0x10 % 16;
+  quiet = eqb (n % 16) 1;
+}
+
+-- f at i, i + 1, .., n of them
+unfoldable pub build {ℓ} : {A : Type ℓ} → (ℕ → A) → ℕ → ℕ → List A
+build f i zero = []
+build f i (suc n) = f i ∷ build f (suc i) n
+
+pub getD-build {ℓ} : {A : Type ℓ} (f : ℕ → A) (d : A) (n i k : ℕ) → k < n → getD (build f i n) k d ≡ f (i + k)
+unfolding build
+getD-build f d zero i k h = absurd (not-suc-le-zero h)
+getD-build f d (suc n) i zero h = ap f (sym (add-zero i))
+getD-build f d (suc n) i (suc k) h = getD-build f d n (suc i) k (le-of-suc-le-suc h) ∙ ap f (suc-add i k ∙ sym (add-suc i k))
+
+-- a table that spells every opcode's shape spells it at each entry
+pub at-each : (table : List ℕ) (n : ℕ) → map spelled table ≡ build shapeOf 0 n → (op : ℕ) → op < n → spelled (getD table op 0) ≡ shapeOf op
+at-each table n e op h =
+    sym (List·getD-map spelled table op 0) ∙ ap (λ (l : List Shape). getD l op (spelled 0)) e ∙ getD-build shapeOf (spelled 0) n 0 op h ∙ ap shapeOf (zero-add op)
