@@ -1,0 +1,251 @@
+// Requests: read from received bytes, and written. A frame is refused by the outcomes and statuses of document 01 that
+// need no table; else its fields are shown, with extras, key and value as parts of the caller's bytes.
+ghost use mathlib.Core.Path.{_≡_};
+ghost use Prim.Native.Nat.{_+_, _-_, _≤_};
+ghost use lib.ListN.{length};
+ghost use lib.Dec.{leb};
+ghost use Rattle.octets.specs.Choice.{pick};
+ghost use Rattle.octets.specs.Parts.{written};
+ghost use Rattle.header.specs.Header.{headerBytes};
+ghost use mathlib.Core.List.{_++_};
+ghost use Rattle.request.specs.Reading.{gateOf, extrasSpan, keySpan, valueSpan, bytesIn, fieldsOf, frameOf, frameStatus, wholeReading, reading};
+ghost use Rattle.request.specs.Writing.{headerFor, frameBytes, writing, outputOf};
+use header::Header;
+use numbers::Cas;
+
+// The header fields that a sender chooses.
+pub struct Fields {
+    pub opcode: u8,
+    pub datatype: u8,
+    pub vbucket: u16,
+    pub opaque: u32,
+    pub cas: Cas,
+}
+
+// Bytes of a frame: a place counted from the frame's start, and a length.
+pub struct Span {
+    pub at: usize,
+    pub len: usize,
+}
+
+// A request that was read. Its value ends with `meta` bytes of extended meta.
+pub struct Frame {
+    pub fields: Fields,
+    pub extras: Span,
+    pub key: Span,
+    pub value: Span,
+    pub meta: usize,
+}
+
+// An outcome with the bytes needed from the frame's start, or the header of a frame that is there whole.
+pub enum Gate {
+    Stop(u8, usize),
+    Whole(Header),
+}
+
+// 01's outcome, 01's status, or the fields.
+pub enum Reading {
+    Outcome(u8),
+    Status(u8),
+    Accepted(Frame),
+}
+
+// Status 0x04, outcome 4, or the length of the frame that was written.
+pub enum Written {
+    Refused,
+    NoRoom,
+    Wrote(usize),
+}
+
+// Outcomes 1, 2, 3 in the order tested.
+pub fn gate_of(received: &[u8]) -> Gate
+    ensures { λ r. ⌜ r ≡ gateOf (now (received .entry)) ⌝ }
+{
+    if received.len() < 24 {
+        return Gate::Stop(1, 24);
+    }
+    let h = header::read(received);
+    if h.magic != 0x80 {
+        return Gate::Stop(2, 0);
+    }
+    let body = h.body as usize;
+    if 1400 < body {
+        return Gate::Stop(3, 0);
+    }
+    if received.len() < 24 + body {
+        return Gate::Stop(1, 24 + body);
+    }
+    Gate::Whole(h)
+}
+
+// a - b, or 0 where b is larger.
+fn minus(a: usize, b: usize) -> usize
+    ensures { λ r. ⌜ r ≡ a - b ⌝ }
+{
+    if a < b {
+        return 0;
+    }
+    a - b
+}
+
+pub fn extras_span(h: Header) -> Span
+    ensures { λ r. ⌜ r ≡ extrasSpan h ⌝ }
+{
+    Span {
+        at: 24,
+        len: h.extlen as usize,
+    }
+}
+
+pub fn key_span(h: Header) -> Span
+    ensures { λ r. ⌜ r ≡ keySpan h ⌝ }
+{
+    Span {
+        at: 24 + h.extlen as usize,
+        len: h.keylen as usize,
+    }
+}
+
+pub fn value_span(h: Header) -> Span
+    ensures { λ r. ⌜ r ≡ valueSpan h ⌝ }
+{
+    let e = h.extlen as usize;
+    let k = h.keylen as usize;
+    Span {
+        at: 24 + e + k,
+        len: minus(h.body as usize, e + k),
+    }
+}
+
+// The bytes of a span, as far as they are there.
+pub fn bytes_in(s: &[u8], p: Span) -> &[u8]
+    ensures { λ r. ⌜ now r ≡ bytesIn (now (s .entry)) p ⌝ }
+{
+    octets::part(s, p.at, p.len)
+}
+
+fn fields_of(h: Header) -> Fields
+    ensures { λ r. ⌜ r ≡ fieldsOf h ⌝ }
+{
+    Fields {
+        opcode: h.opcode,
+        datatype: h.datatype,
+        vbucket: h.vbucket,
+        opaque: h.opaque,
+        cas: h.cas,
+    }
+}
+
+// What reading shows of a frame with this header.
+pub fn frame_of(s: &[u8], h: Header) -> Frame
+    ensures { λ r. ⌜ r ≡ frameOf (now (s .entry)) h ⌝ }
+{
+    let extras = extras_span(h);
+    let meta = rules::meta_size(shape::shape_of(h.opcode), bytes_in(s, extras));
+    Frame {
+        fields: fields_of(h),
+        extras,
+        key: key_span(h),
+        value: value_span(h),
+        meta,
+    }
+}
+
+// Statuses 1 to 3 of a frame with this header, or 0. Serving puts the rules that need mode or clock before a 0x03.
+pub fn frame_status(s: &[u8], h: Header) -> u8
+    ensures { λ r. ⌜ r ≡ frameStatus (now (s .entry)) h ⌝ }
+{
+    rules::status(h, bytes_in(s, extras_span(h)), bytes_in(s, value_span(h)))
+}
+
+fn read_whole(s: &[u8], h: Header) -> Reading
+    ensures { λ r. ⌜ r ≡ wholeReading (now (s .entry)) h ⌝ }
+{
+    let status = frame_status(s, h);
+    if status == 0 {
+        return Reading::Accepted(frame_of(s, h));
+    }
+    Reading::Status(status)
+}
+
+// Reads the request at the start of the received bytes.
+pub fn read(received: &[u8]) -> Reading
+    ensures { λ r. ⌜ r ≡ reading (now (received .entry)) ⌝ }
+{
+    match gate_of(received) {
+        Gate::Stop(outcome, _) => Reading::Outcome(outcome),
+        Gate::Whole(h) => read_whole(received, h),
+    }
+}
+
+// The lengths of extras, key and value together, or 1,401 where that is over 1,400: their sum may be more than a usize holds.
+fn body_size(e: usize, k: usize, v: usize) -> usize
+    ensures { λ r. ⌜ r ≡ pick (leb (e + k + v) 1400) (e + k + v) 1401 ⌝ }
+{
+    if 1400 < e {
+        return 1401;
+    }
+    if 1400 < k {
+        return 1401;
+    }
+    if 1400 < v {
+        return 1401;
+    }
+    if 1400 < e + k + v {
+        return 1401;
+    }
+    e + k + v
+}
+
+fn header_for(f: Fields, e: usize, k: usize, v: usize) -> Header
+    requires { ⌜ (e ≤ 255) × (e + k + v ≤ 1400) ⌝ }
+    ensures { λ r. ⌜ r ≡ headerFor f e k v ⌝ }
+{
+    Header {
+        magic: 0x80,
+        opcode: f.opcode,
+        keylen: k as u16,
+        extlen: e as u8,
+        datatype: f.datatype,
+        vbucket: f.vbucket,
+        body: (e + k + v) as u32,
+        opaque: f.opaque,
+        cas: f.cas,
+    }
+}
+
+fn put_frame(out: &mut [u8], h: Header, extras: &[u8], key: &[u8], value: &[u8])
+    requires { ⌜ (length (now extras) + length (now key) + length (now value) ≤ 1400) × (24 + (length (now extras) + length (now key) + length (now value)) ≤ length (now out)) ⌝ }
+    ensures { λ _. ⌜ now (out .exit) ≡ written (now (out .entry)) 0 (headerBytes h ++ (now (extras .entry) ++ (now (key .entry) ++ now (value .entry)))) ⌝ }
+{
+    let e = extras.len();
+    let k = key.len();
+    header::put(out, h);
+    octets::put_bytes(out, 24, extras);
+    octets::put_bytes(out, 24 + e, key);
+    octets::put_bytes(out, 24 + e + k, value);
+}
+
+// Writes a request's frame at the start of out, where reading it would not refuse and it fits; else out is unchanged.
+pub fn write(f: Fields, extras: &[u8], key: &[u8], value: &[u8], out: &mut [u8]) -> Written
+    ensures { λ r. ⌜ (r ≡ writing f (now (extras .entry)) (now (key .entry)) (now (value .entry)) (length (now (out .entry))))
+        × (now (out .exit) ≡ outputOf r (frameBytes f (now (extras .entry)) (now (key .entry)) (now (value .entry))) (now (out .entry))) ⌝ }
+{
+    let e = extras.len();
+    let body = body_size(e, key.len(), value.len());
+    if 1400 < body {
+        return Written::Refused;
+    }
+    if 255 < e {
+        return Written::Refused;
+    }
+    let h = header_for(f, e, key.len(), value.len());
+    if rules::status(h, extras, value) != 0 {
+        return Written::Refused;
+    }
+    if out.len() < 24 + body {
+        return Written::NoRoom;
+    }
+    put_frame(out, h, extras, key, value);
+    Written::Wrote(24 + body)
+}
