@@ -1,0 +1,157 @@
+-- Laws of specs/Parts.antt: lists of bytes, parts of a list, and writes over a part.
+use native.Mathlib.Omega.{arith}
+use native.Mathlib.Numerals.{add-one}
+use native.Mathlib.Nat.{zero-add, add-zero, add-suc, add-assoc}
+use mathlib.Core.Path.{_≡_, sym, ap, _∙_}
+use mathlib.Core.Bool.{Bool, true, false}
+use mathlib.Core.List.{List, [], _∷_, _++_, append-assoc}
+use Prim.Native.Nat.{ℕ, zero, suc, _+_, _-_, _≤_, _<_}
+use lib.Dec.{leb}
+use lib.ListN.{length, take, drop, getD, set, replicate, length-append, length-take, length-drop, length-replicate, take-append-drop, replicate-append-replicate}
+use lib.Seq.{take-all, take-at, drop-at, drop-cons, drop-drop, take-add, getD-drop, set-at, set-split, take-set-le, take-append-add, drop-append-add, length-take-le}
+use borrow.Author.Tests.{le-leb, lt-leb, leb-true, leb-false}
+use Rattle.octets.specs.Parts.{part, pasted, written}
+use Rattle.octets.proofs.Choices.{cases}
+
+-- a list of bytes
+abbrev pub Bytes : List ℕ → Type 0
+Bytes xs = (k : ℕ) → getD xs k 0 < 256
+
+pub bytes-drop : (n : ℕ) (xs : List ℕ) → Bytes xs → Bytes (drop n xs)
+bytes-drop n xs b k = rw getD-drop (b (n + k))
+
+pub bytes-take : (n : ℕ) (xs : List ℕ) → Bytes xs → Bytes (take n xs)
+bytes-take zero xs b k = omega arith
+bytes-take (suc n) [] b k = omega arith
+bytes-take (suc n) (x ∷ xs) b zero = b 0
+bytes-take (suc n) (x ∷ xs) b (suc k) = bytes-take n xs (λ j. b (suc j)) k
+
+pub bytes-part : (s : List ℕ) (at n : ℕ) → Bytes s → Bytes (part s at n)
+bytes-part s at n b = bytes-take n (drop at s) (bytes-drop at s b)
+
+pub bytes-cons : (x : ℕ) (xs : List ℕ) → x < 256 → Bytes xs → Bytes (x ∷ xs)
+bytes-cons x xs h b zero = h
+bytes-cons x xs h b (suc k) = b k
+
+pub bytes-append : (xs ys : List ℕ) → Bytes xs → Bytes ys → Bytes (xs ++ ys)
+bytes-append [] ys b d k = d k
+bytes-append (x ∷ xs) ys b d zero = b 0
+bytes-append (x ∷ xs) ys b d (suc k) = bytes-append xs ys (λ j. b (suc j)) d k
+
+module _ (s : List ℕ) (at : ℕ) where
+  pub part-length : (n : ℕ) → at + n ≤ length s → length (part s at n) ≡ n
+  part-length n h = simp (length-take, length-drop) (omega arith)
+
+  pub part-most : (n : ℕ) → length (part s at n) ≤ n
+  part-most n = simp (length-take, length-drop) (omega arith)
+
+  pub take-rest : take (length s - at) (drop at s) ≡ drop at s
+  take-rest = take-all (length s - at) (drop at s) (simp length-drop (omega arith))
+
+  -- two parts, one after the other
+  pub glue : (n m : ℕ) → part s at n ++ part s (at + n) m ≡ part s at (n + m)
+  glue n m = rw (← drop-drop n at s) (sym (take-add n m (drop at s)))
+
+  pub glue-rest : (n : ℕ) → part s at n ++ drop (at + n) s ≡ drop at s
+  glue-rest n = rw (← drop-drop n at s) (take-append-drop n (drop at s))
+
+drop-past : (q r : List ℕ) (n m : ℕ) → length q ≡ n → drop (n + m) (q ++ r) ≡ drop m r
+drop-past q r n m e = rw (← e) (drop-append-add q r m)
+
+drop-set : (s : List ℕ) (i v : ℕ) → i < length s → drop i (set s i v) ≡ v ∷ drop (suc i) s
+drop-set s i v h = rw (set-split s i v h) (drop-at (take i s) (v ∷ drop (suc i) s) i (length-take-le i s (omega arith)))
+
+module _ (s : List ℕ) (at : ℕ) where
+  pub pasted-none : at ≤ length s → pasted s at [] ≡ s
+  unfolding pasted
+  pasted-none h = rw add-zero (take-append-drop at s)
+
+  pub length-pasted : (xs : List ℕ) → at + length xs ≤ length s → length (pasted s at xs) ≡ length s
+  unfolding pasted
+  length-pasted xs h = simp (length-append, length-drop, length-take) (omega arith)
+
+  -- one byte more, at the end of what is written
+  pub pasted-push : (xs : List ℕ) (v : ℕ) → at + length xs < length s → set (pasted s at xs) (at + length xs) v ≡ pasted s at (xs ++ (v ∷ []))
+  unfolding pasted
+  pasted-push xs v h =
+      rw (← append-assoc (take at s) xs (drop (at + length xs) s), drop-cons s (at + length xs) 0 h)
+      (set-at (take at s ++ xs) _ _ v (at + length xs) (simp (length-append, length-take) (omega arith))
+      ∙ simp (append-assoc, length-append, add-suc, add-one))
+
+  -- one byte less is left to write, where its last is stored first
+  pub pasted-last : (xs : List ℕ) (v : ℕ) → at + length xs < length s → pasted s at (xs ++ (v ∷ [])) ≡ pasted (set s (at + length xs) v) at xs
+  unfolding pasted
+  pasted-last xs v h = rw (take-set-le at s (at + length xs) v (omega arith), drop-set s (at + length xs) v h) (simp (append-assoc, length-append, add-suc, add-one))
+
+  -- two writes one after the other
+  pub pasted-on : (xs ys : List ℕ) → at + length xs + length ys ≤ length s → pasted (pasted s at xs) (at + length xs) ys ≡ pasted s at (xs ++ ys)
+  unfolding pasted
+  pasted-on xs ys h =
+      let l : length (take at s ++ xs) ≡ at + length xs = simp (length-append, length-take) (omega arith) in
+      rw (← append-assoc (take at s) xs (drop (at + length xs) s), take-at (take at s ++ xs) (drop (at + length xs) s) (at + length xs) l, drop-past (take at s ++ xs) (drop (at + length xs) s) (at + length xs) (length ys) l)
+      (simp (append-assoc, length-append, drop-drop, add-assoc))
+
+  pub pasted-self : (n : ℕ) → at + n ≤ length s → s ≡ pasted s at (part s at n)
+  unfolding pasted
+  pasted-self n h = rw (part-length s at n h, glue-rest s at n) (sym (take-append-drop at s))
+
+  pub zero-more : (i : ℕ) → at + i < length s → set (pasted s at (replicate i 0)) (at + i) 0 ≡ pasted s at (replicate (i + 1) 0)
+  zero-more i k =
+      let e : length (replicate {A = ℕ} i 0) ≡ i = length-replicate i 0 in
+      rw (← replicate-append-replicate {A = ℕ} i 1 0, ← pasted-push (replicate i 0) 0 (omega arith), e)
+
+-- a write past a first part, and a write over it
+pub pasted-skip : (p r : List ℕ) (n j : ℕ) (xs : List ℕ) → length p ≡ n → pasted (p ++ r) (n + j) xs ≡ p ++ pasted r j xs
+unfolding pasted
+pasted-skip p r n j xs e =
+    rw (← e, take-append-add p r j, add-assoc (length p) j (length xs), drop-append-add p r (j + length xs), append-assoc)
+
+pub pasted-over : (p r xs : List ℕ) → length p ≡ length xs → pasted (p ++ r) 0 xs ≡ xs ++ r
+unfolding pasted
+pasted-over p r xs e = rw (zero-add (length xs), drop-at p r (length xs) e)
+
+module _ (s : List ℕ) (at : ℕ) (xs : List ℕ) where
+  module _ (h : at + length xs ≤ length s) where
+    head : length (take at s ++ xs) ≡ at + length xs
+    head = simp (length-append, length-take) (omega arith)
+
+    pub take-pasted : take (at + length xs) (pasted s at xs) ≡ take at s ++ xs
+    unfolding pasted
+    take-pasted = rw (← append-assoc (take at s) xs (drop (at + length xs) s)) (take-at (take at s ++ xs) (drop (at + length xs) s) (at + length xs) head)
+
+    pub drop-pasted : drop (at + length xs) (pasted s at xs) ≡ drop (at + length xs) s
+    unfolding pasted
+    drop-pasted = rw (← append-assoc (take at s) xs (drop (at + length xs) s)) (drop-at (take at s ++ xs) (drop (at + length xs) s) (at + length xs) head)
+
+    pub written-fits : written s at xs ≡ pasted s at xs
+    unfolding written
+    written-fits = rw (le-leb (at + length xs) (length s) h)
+
+  pub written-not : length s < at + length xs → written s at xs ≡ s
+  unfolding written
+  written-not h = rw (lt-leb (at + length xs) (length s) h)
+
+  pub length-written : length (written s at xs) ≡ length s
+  length-written =
+      cases (leb (at + length xs) (length s))
+      (λ t. let h = leb-true (at + length xs) (length s) t in ap length (written-fits h) ∙ length-pasted s at xs h)
+      (λ f. ap length (written-not (leb-false (at + length xs) (length s) f)))
+
+-- what a writer leaves, by its test r for n bytes' room
+module _ (s : List ℕ) (at n : ℕ) (r : Bool) (e : r ≡ leb (at + n) (length s)) where
+  pub room : r ≡ true → at + n ≤ length s
+  room t = leb-true (at + n) (length s) (sym e ∙ t)
+
+  pub put-there : (s′ xs : List ℕ) → length xs ≡ n → r ≡ true → s′ ≡ pasted s at xs → s′ ≡ written s at xs
+  put-there s′ xs l t p = let h = room t in p ∙ sym (written-fits s at xs (omega arith))
+
+  pub put-nowhere : (xs : List ℕ) → length xs ≡ n → r ≡ false → s ≡ written s at xs
+  put-nowhere xs l f = let h = leb-false (at + n) (length s) (sym e ∙ f) in sym (written-not s at xs (omega arith))
+
+-- a write after a write, as two calls state them
+pub then : (s0 s1 s2 : List ℕ) (at m : ℕ) (xs ys : List ℕ) → s1 ≡ written s0 at xs → s2 ≡ written s1 m ys → m ≡ at + length xs → m + length ys ≤ length s0 → s2 ≡ written s0 at (xs ++ ys)
+then s0 s1 s2 at m xs ys e f g h =
+    let l : length s1 ≡ length s0 = ap length e ∙ length-written s0 at xs in
+    let e′ : s1 ≡ pasted s0 at xs = e ∙ written-fits s0 at xs (omega arith) in
+    let f′ : s2 ≡ pasted s1 m ys = f ∙ written-fits s1 m ys (omega arith) in
+    f′ ∙ rw (e′, g, written-fits s0 at (xs ++ ys) (simp length-append (omega arith))) (pasted-on s0 at xs ys (omega arith))
