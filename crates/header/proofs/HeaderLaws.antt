@@ -4,9 +4,9 @@ use mathlib.Core.Path.{_≡_, refl, sym, ap, ap₂, _∙_}
 use mathlib.Core.List.{List, [], _∷_, _++_, append-assoc}
 use native.Mathlib.Omega.{arith}
 use lib.ListN.{length, take, drop}
-use Rattle.octets.specs.Parts.{part}
+use Rattle.octets.specs.Parts.{Bytes, part}
 use Rattle.octets.specs.BigEndian.{beFrom, be, num, bytesOf}
-use Rattle.octets.proofs.Lists.{Bytes, glue}
+use Rattle.octets.proofs.Lists.{glue}
 use Rattle.octets.proofs.Numbers.{be-bytes, num-back}
 use Rattle.header.specs.declared.Header.{Header}
 use Rattle.header.specs.Header.{headerOf, headerBytes, frontBytes, middleBytes, backBytes, Fits}
@@ -32,7 +32,8 @@ header-back h rest k =
       vbucket = be-bytes 2 (h .vbucket) (k .vbucket) i;
       body = be-bytes 4 (h .body) (k .body) i;
       opaque = be-bytes 4 (h .opaque) (k .opaque) i;
-      cas = record { 0 = be-bytes 8 (h .cas .0) (k .cas) i } }
+      cas = record { 0 = be-bytes 8 (h .cas .0) (k .cas) i };
+    }
 
 -- a part and the part after it, as one
 join : (s p q : List ℕ) (at n m : ℕ) → p ≡ part s at n → q ≡ part s (at + n) m → p ++ q ≡ part s at (n + m)

@@ -10,12 +10,8 @@ use lib.Dec.{leb}
 use lib.ListN.{length, take, drop, getD, set, replicate, length-append, length-take, length-drop, length-replicate, take-append-drop, replicate-append-replicate}
 use lib.Seq.{take-all, take-at, drop-at, drop-cons, drop-drop, take-add, getD-drop, set-at, set-split, take-set-le, take-append-add, drop-append-add, length-take-le}
 use borrow.Author.Tests.{le-leb, lt-leb, leb-true, leb-false}
-use Rattle.octets.specs.Parts.{part, pasted, written}
+use Rattle.octets.specs.Parts.{Bytes, part, pasted, written}
 use Rattle.octets.proofs.Choices.{cases}
-
--- a list of bytes
-abbrev pub Bytes : List ℕ → Type 0
-Bytes xs = (k : ℕ) → getD xs k 0 < 256
 
 pub bytes-drop : (n : ℕ) (xs : List ℕ) → Bytes xs → Bytes (drop n xs)
 bytes-drop n xs b k = rw getD-drop (b (n + k))
@@ -155,3 +151,9 @@ then s0 s1 s2 at m xs ys e f g h =
     let e′ : s1 ≡ pasted s0 at xs = e ∙ written-fits s0 at xs (omega arith) in
     let f′ : s2 ≡ pasted s1 m ys = f ∙ written-fits s1 m ys (omega arith) in
     f′ ∙ rw (e′, g, written-fits s0 at (xs ++ ys) (simp length-append (omega arith))) (pasted-on s0 at xs ys (omega arith))
+
+pub then-two : (s0 s1 s2 s3 : List ℕ) (at m k : ℕ) (xs ys zs : List ℕ) → s1 ≡ written s0 at xs → s2 ≡ written s1 m ys → s3 ≡ written s2 k zs
+    → m ≡ at + length xs → k ≡ m + length ys → k + length zs ≤ length s0 → s3 ≡ written s0 at (xs ++ (ys ++ zs))
+then-two s0 s1 s2 s3 at m k xs ys zs e f g p q h =
+    let d : s2 ≡ written s0 at (xs ++ ys) = then s0 s1 s2 at m xs ys e f p (omega arith) in
+    rw append-assoc at (then s0 s2 s3 at k (xs ++ ys) zs d g (simp length-append (omega arith)) h)

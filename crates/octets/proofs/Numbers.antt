@@ -7,9 +7,9 @@ use mathlib.Core.List.{List, [], _∷_, _++_, append-assoc, append-nil}
 use Prim.Native.Nat.{ℕ, zero, suc, _+_, _-_, _*_, _/_, _%_, _^_, _≤_, _<_}
 use lib.ListN.{length, drop, getD, set, length-append, length-drop}
 use lib.Seq.{take-suc, getD-drop}
-use Rattle.octets.specs.Parts.{part, pasted}
+use Rattle.octets.specs.Parts.{Bytes, part, pasted}
 use Rattle.octets.specs.BigEndian.{beFrom, be, num, bytesOf}
-use Rattle.octets.proofs.Lists.{Bytes, bytes-part, bytes-append, bytes-cons, part-length, part-most, pasted-none, pasted-last}
+use Rattle.octets.proofs.Lists.{bytes-part, bytes-append, bytes-cons, part-length, part-most, pasted-none, pasted-last}
 
 -- a number of i bytes, with one byte more
 pub be-bound : (v i x : ℕ) → v < 256 ^ i → x < 256 → v * 256 + x < 256 ^ (i + 1)

@@ -4,7 +4,7 @@ use mathlib.Core.Path.{_≡_}
 use mathlib.Core.List.{List, _++_}
 use mathlib.Core.Bool.{true, false}
 use lib.ListN.{length, take}
-use Rattle.octets.proofs.Lists.{Bytes}
+use Rattle.octets.specs.Parts.{Bytes}
 use Rattle.header.specs.declared.Header.{Header}
 use Rattle.header.specs.Header.{Fits as HeaderFits}
 use Rattle.request.specs.declared.Fields.{Fields}

@@ -3,6 +3,7 @@ use Prim.Native.Nat.{ℕ}
 use mathlib.Core.List.{List, [], _∷_, _++_}
 use mathlib.Core.Bool.{Bool, true, false, _||_}
 use lib.Dec.{eqb}
+use Rattle.octets.specs.Choice.{pick}
 use Rattle.shape.specs.declared.Shape.{Shape}
 
 -- what stands between the header and the end of the body, for a loud opcode and its quiet twin
@@ -53,10 +54,6 @@ bare = 0x0a ∷ 0x0b ∷ []
 unfoldable pub unbuilt : List ℕ
 unbuilt = 0x07 ∷ 0x08 ∷ 0x0e ∷ 0x0f ∷ 0x10 ∷ 0x17 ∷ 0x18 ∷ 0x19 ∷ 0x1a ∷ []
 
-abbrev choose : Bool → Shape → Shape → Shape
-choose true a b = a
-choose false a b = b
-
 abbrev shapeBy : Command → Bool → Shape
 shapeBy c q = record { status = 0; extras = c .extras; key = c .key; value = c .value; meta = c .meta; quiet = q }
 
@@ -66,7 +63,7 @@ empty s = record { status = s; extras = 0; key = 0; value = 0; meta = 0; quiet =
 
 unfoldable pub lookUp : ℕ → List Command → Shape → Shape
 lookUp op [] other = other
-lookUp op (c ∷ cs) other = choose (eqb op (c .loud)) (shapeBy c false) (choose (eqb op (c .quiet)) (shapeBy c true) (lookUp op cs other))
+lookUp op (c ∷ cs) other = pick (eqb op (c .loud)) (shapeBy c false) (pick (eqb op (c .quiet)) (shapeBy c true) (lookUp op cs other))
 
 unfoldable pub among : ℕ → List ℕ → Bool
 among op [] = false
@@ -75,4 +72,4 @@ among op (x ∷ xs) = eqb op x || among op xs
 -- "0x81: every other opcode"
 unfoldable pub shapeOf : ℕ → Shape
 unfolding lookUp among commands bare unbuilt
-shapeOf op = lookUp op commands (choose (among op bare) (empty 0) (choose (among op unbuilt) (empty 0x83) (empty 0x81)))
+shapeOf op = lookUp op commands (pick (among op bare) (empty 0) (pick (among op unbuilt) (empty 0x83) (empty 0x81)))

@@ -1,0 +1,52 @@
+use Rattle.header.specs.Header.{headerBytes, frontBytes, middleBytes, backBytes}
+use Rattle.header.proofs.HeaderLaws.{length-header}
+use Rattle.octets.proofs.Lists.{then-two, written-not}
+use Rattle.octets.specs.BigEndian.{bytesOf}
+use denote.Ref.{now}
+use lib.ListN.{length}
+use native.Mathlib.Omega.{arith}
+use mathlib.Core.Path.{_≡_, refl, sym, _∙_}
+use borrow.Author.Needs.{needs}
+use Rattle.header.proofs.put.Statement.{statement}
+use Rattle.header.proofs.put.Tie as tie
+use Rattle.header.proofs.put.Reads as reads
+use Rattle.header.proofs.put.Lts as lts
+use Rattle.header.proofs.put_back.Reads as put-back-reads
+use Rattle.header.proofs.put_front.Reads as put-front-reads
+use Rattle.header.proofs.put_middle.Reads as put-middle-reads
+
+-- src/lib.rt:72:9
+put-front-requires : tie.Need-put-front-requires
+put-front-requires c κs = search needs
+
+-- src/lib.rt:73:9
+put-middle-requires : tie.Need-put-middle-requires
+put-middle-requires c κs = search needs
+
+-- src/lib.rt:74:9
+put-back-requires : tie.Need-put-back-requires
+put-back-requires c κs = search needs
+
+-- src/lib.rt:68:1
+same-length : tie.Need-same-length
+same-length c = search needs
+
+-- src/lib.rt:68:1
+returns : tie.Need-returns
+unfolding headerBytes frontBytes middleBytes backBytes bytesOf
+returns c = then-two _ _ _ _ 0 4 8 _ _ _ ((c .before .before .before .before .before .before .before .before .before .before .put-front) .ensures) ((c .before .before .before .before .before .before .put-middle) .ensures) ((c .before .before .put-back) .ensures) refl refl (omega (arith, (c .before .before .before .before .before .before .before .before .before .before .before .before .if1) .taken))
+
+-- src/lib.rt:68:1
+returns-2 : tie.Need-returns-2
+returns-2 c = sym (written-not _ 0 _ (omega (arith, length-header ((c .before .before .args) .h), (c .if1) .left)))
+
+pub put-spec : {M : Type 1} → statement M
+put-spec =
+    tie.close
+    (tie.spec
+    put-front-requires
+    put-middle-requires
+    put-back-requires
+    same-length
+    returns
+    returns-2)

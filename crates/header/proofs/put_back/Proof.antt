@@ -1,0 +1,54 @@
+use Rattle.header.specs.Header.{backBytes}
+use Rattle.octets.proofs.Lists.{then-two, written-not}
+use Rattle.octets.specs.BigEndian.{bytesOf}
+use denote.Ref.{now}
+use lib.ListN.{length}
+use native.Mathlib.Omega.{arith}
+use mathlib.Core.Path.{_≡_, refl, sym, _∙_}
+use borrow.Author.Needs.{needs}
+use Rattle.header.proofs.put_back.Statement.{statement}
+use Rattle.header.proofs.put_back.Tie as tie
+use Rattle.header.proofs.put_back.Reads as reads
+use Rattle.header.proofs.put_back.Lts as lts
+use Rattle.octets.proofs.put_be.Reads as put-be-reads
+
+-- src/lib.rt:62:31
+cast-put-be : tie.Need-cast-put-be
+cast-put-be c = search needs
+
+-- src/lib.rt:62:5
+put-be-requires : tie.Need-put-be-requires
+put-be-requires c κs = search needs
+
+-- src/lib.rt:63:32
+cast-put-be-2 : tie.Need-cast-put-be-2
+cast-put-be-2 c = search needs
+
+-- src/lib.rt:63:5
+put-be-requires-2 : tie.Need-put-be-requires-2
+put-be-requires-2 c κs = search needs
+
+-- src/lib.rt:64:5
+put-be-requires-3 : tie.Need-put-be-requires-3
+put-be-requires-3 c κs = search needs
+
+-- src/lib.rt:58:1
+same-length : tie.Need-same-length
+same-length c = search needs
+
+-- src/lib.rt:58:1
+returns : tie.Need-returns
+unfolding backBytes bytesOf
+returns c = then-two _ _ _ _ 8 12 16 _ _ _ ((c .before .before .before .before .before .before .before .before .before .before .before .put-be) .ensures) ((c .before .before .before .before .before .before .put-be2) .ensures) ((c .before .before .put-be3) .ensures) refl refl (omega (arith, (c .before .before .before .before .before .before .before .before .before .before .before .before .before .before .before .pre)))
+
+pub put-back-spec : {M : Type 1} → statement M
+put-back-spec =
+    tie.close
+    (tie.spec
+    cast-put-be
+    put-be-requires
+    cast-put-be-2
+    put-be-requires-2
+    put-be-requires-3
+    same-length
+    returns)
