@@ -61,17 +61,17 @@ withMetaOk meta w value =
 unfoldable pub metaSize : Shape → List ℕ → ℕ
 metaSize s extras = pick (eqb (s .meta) 0) 0 (sectionOf extras)
 
-unfoldable pub fieldsOk : Shape → List ℕ → List ℕ → Bool
+unfoldable pub fieldRulesOk : Shape → List ℕ → List ℕ → Bool
 unfolding withMetaOk
-fieldsOk s extras value = eqb (s .meta) 0 || withMetaOk (s .meta) (withMeta extras) value
+fieldRulesOk s extras value = eqb (s .meta) 0 || withMetaOk (s .meta) (withMeta extras) value
 
 -- the status of the first rule that applies, or 0
 unfoldable pub judged : Shape → Header → List ℕ → List ℕ → ℕ
-unfolding formOk fieldsOk metaSize
+unfolding formOk fieldRulesOk metaSize
 judged s h extras value =
     pick (not (eqb (s .status) 0)) (s .status)
     (pick (not (formOk s h)) 0x04
-    (pick (not (fieldsOk s extras value)) 0x04
+    (pick (not (fieldRulesOk s extras value)) 0x04
     (pick (ltb 1024 (length value - metaSize s extras)) 0x03 0)))
 
 unfoldable pub status : Header → List ℕ → List ℕ → ℕ

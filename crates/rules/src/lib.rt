@@ -6,7 +6,7 @@ ghost use lib.ListN.{length};
 ghost use lib.Dec.{ltb};
 ghost use Rattle.rules.specs.Section.{fieldOk, fieldsOk, sectionOk};
 ghost use Rattle.rules.specs.WithMeta.{numbersOf, optionsOf, sectionOf, withMeta};
-ghost use Rattle.rules.specs.Rules.{formOk, numbersOk, bodyOk, withMetaOk, metaSize, fieldsOk as allFieldsOk, judged, status};
+ghost use Rattle.rules.specs.Rules.{formOk, numbersOk, bodyOk, withMetaOk, metaSize, fieldRulesOk, judged, status};
 use header::Header;
 use numbers::Cas;
 use numbers::Numbers;
@@ -149,8 +149,8 @@ pub fn meta_size(s: Shape, extras: &[u8]) -> usize
     section_of(extras) as usize
 }
 
-fn all_fields_ok(s: Shape, extras: &[u8], value: &[u8]) -> bool
-    ensures { λ r. ⌜ r ≡ allFieldsOk s (now (extras .entry)) (now (value .entry)) ⌝ }
+fn field_rules_ok(s: Shape, extras: &[u8], value: &[u8]) -> bool
+    ensures { λ r. ⌜ r ≡ fieldRulesOk s (now (extras .entry)) (now (value .entry)) ⌝ }
 {
     if s.meta == 0 {
         return true;
@@ -177,7 +177,7 @@ fn judge(s: Shape, h: Header, extras: &[u8], value: &[u8]) -> u8
     if !form_ok(s, h) {
         return 0x04;
     }
-    if !all_fields_ok(s, extras, value) {
+    if !field_rules_ok(s, extras, value) {
         return 0x04;
     }
     if too_large(value.len(), meta_size(s, extras)) {

@@ -1,0 +1,59 @@
+-- Laws of specs/Section.antt: the walk over the fields of an extended meta section, one field at a time.
+use Prim.Native.Nat.{ℕ, zero, suc, _+_, _-_, _≤_, _<_}
+use mathlib.Core.Path.{_≡_, refl, sym, ap, _∙_}
+use mathlib.Core.List.{List, [], _∷_}
+use mathlib.Core.Bool.{Bool, true, false, _&&_, _||_}
+use native.Mathlib.Omega.{arith}
+use lib.ListN.{length, drop, length-drop, drop-of-length-le}
+use lib.Seq.{drop-drop}
+use lib.Dec.{leb, eqb}
+use borrow.Author.Tests.{ne-eqb, leb-true}
+use Rattle.octets.specs.Choice.{pick}
+use Rattle.octets.specs.BigEndian.{num}
+use Rattle.octets.proofs.Choices.{both}
+use Rattle.rules.specs.Section.{fieldOk, fieldSize, walk, fieldsOk}
+
+size-least : (l : List ℕ) → 1 ≤ fieldSize l
+unfolding fieldSize
+size-least l = omega arith
+
+walk-none : (f : ℕ) → walk f [] ≡ true
+unfolding walk
+walk-none zero = refl
+walk-none (suc f) = refl
+
+-- any count that is at least the length gives the same
+enough : (f g : ℕ) (l : List ℕ) → length l ≤ f → length l ≤ g → walk f l ≡ walk g l
+unfolding walk
+enough zero g [] h k = sym (walk-none g)
+enough zero g (x ∷ l) h k = absurd (omega arith)
+enough (suc f) zero [] h k = refl
+enough (suc f) zero (x ∷ l) h k = absurd (omega arith)
+enough (suc f) (suc g) l h k =
+    let e = length-drop (fieldSize l) l in
+    rw (enough f g (drop (fieldSize l) l) (omega (arith, e, size-least l)) (omega (arith, e, size-least l)))
+
+pub fields-end : fieldsOk [] ≡ true
+unfolding fieldsOk walk
+fields-end = refl
+
+module _ (l : List ℕ) (some : 0 < length l) where
+  fields-law : fieldsOk l ≡ pick (fieldOk l) (fieldsOk (drop (fieldSize l) l)) false
+  unfolding fieldsOk walk
+  fields-law =
+      let e = length-drop (fieldSize l) l in
+      rw (ne-eqb (length l) 0 (λ z. omega arith), enough (length l) (suc (length (drop (fieldSize l) l))) (drop (fieldSize l) l) (omega (arith, e)) (omega arith))
+
+  pub fields-next : fieldOk l ≡ true → fieldsOk l ≡ fieldsOk (drop (fieldSize l) l)
+  fields-next e = fields-law ∙ rw e
+
+  pub fields-stop : fieldOk l ≡ false → fieldsOk l ≡ false
+  fields-stop e = fields-law ∙ rw e
+
+-- a field ends within the bytes
+pub field-inside : (l : List ℕ) → fieldOk l ≡ true → fieldSize l ≤ length l
+unfolding fieldOk fieldSize
+field-inside l e =
+    let p = both (leb 3 (length l)) ((eqb (num l 0 1) 1 || eqb (num l 0 1) 2) && leb (num l 1 2) (length l - 3)) e in
+    let q = both (eqb (num l 0 1) 1 || eqb (num l 0 1) 2) (leb (num l 1 2) (length l - 3)) (p .1) in
+    omega (arith, leb-true 3 (length l) (p .0), leb-true (num l 1 2) (length l - 3) (q .1))

@@ -1,0 +1,31 @@
+use Rattle.rules.specs.WithMeta.{numbersOf, optionsOf, sectionOf, withMeta}
+use mathlib.Core.Path.{_≡_, refl, sym, ap, _∙_}
+use borrow.Author.Needs.{needs}
+use Rattle.rules.proofs.with_meta.Statement.{statement}
+use Rattle.rules.proofs.with_meta.Tie as tie
+use Rattle.rules.proofs.with_meta.Reads as reads
+use Rattle.rules.proofs.with_meta.Lts as lts
+use Rattle.rules.proofs.numbers_of.Reads as numbers-of-reads
+use Rattle.rules.proofs.options_of.Reads as options-of-reads
+use Rattle.rules.proofs.section_of.Reads as section-of-reads
+
+-- src/lib.rt:60:18
+numbers-of-requires : tie.Need-numbers-of-requires
+numbers-of-requires c κs = search needs
+
+-- src/lib.rt:61:18
+options-of-requires : tie.Need-options-of-requires
+options-of-requires c κs = search needs
+
+-- src/lib.rt:62:18
+section-of-requires : tie.Need-section-of-requires
+section-of-requires c κs = search needs
+
+-- src/lib.rt:56:1
+returns : tie.Need-returns
+unfolding withMeta
+returns c = simp ((c .before .before .numbers-of) .ensures, (c .before .options-of) .ensures, (c .section-of) .ensures)
+
+pub with-meta-spec : {M : Type 1} → statement M
+with-meta-spec =
+    tie.close (tie.spec numbers-of-requires options-of-requires section-of-requires returns)
