@@ -1,5 +1,6 @@
 -- `rules::fields_ok` meets its contract. The loop's invariant: the fields from the place on are right exactly if all are.
 use mathlib.Core.Path.{_≡_, refl, sym, ap, _∙_}
+use mathlib.Core.Bool.{true, false}
 use Prim.Native.Nat.{ℕ, _+_, _-_, _≤_, _<_}
 use native.Mathlib.Omega.{arith}
 use borrow.Author.Needs.{needs}
@@ -56,8 +57,10 @@ loop-again c =
     let l = drop (b .loop .at) s in
     let ok : fieldOk l ≡ true = rw (← c .before .before .before .rest .ensures) (sym (c .before .before .field-ok .ensures) ∙ not-false _ (c .before .if1 .left)) in
     let n : 3 + c .be16 .result ≡ fieldSize l = unfold fieldSize in ap (λ (k : ℕ). 3 + k) (c .be16 .ensures ∙ rw (c .before .before .before .rest .ensures)) in
-    rw n (omega (arith, field-inside l ok, length-drop (b .loop .at) s),
-      b .loop .inv .1 ∙ fields-next l (simp length-drop (omega arith)) ok ∙ ap fieldsOk (drop-drop (fieldSize l) (b .loop .at) s))
+    rw n (
+      omega (arith, field-inside l ok, length-drop (b .loop .at) s),
+      b .loop .inv .1 ∙ fields-next l (simp length-drop (omega arith)) ok ∙ ap fieldsOk (drop-drop (fieldSize l) (b .loop .at) s),
+    )
 
 returns-2 : tie.Need-returns-2 Inv-loop μ-loop
 returns-2 c = sym (c .before .loop .inv .1 ∙ ap fieldsOk (drop-of-length-le _ (c .loop-test .left)) ∙ fields-end)

@@ -1,0 +1,30 @@
+use Rattle.rules.specs.Section.{fieldOk, fieldSize, fieldsOk, sectionOk}
+use mathlib.Core.Path.{_≡_, refl, sym, ap, _∙_}
+use borrow.Author.Needs.{needs}
+use Rattle.rules.proofs.section_ok.Statement.{statement}
+use Rattle.rules.proofs.section_ok.Tie as tie
+use Rattle.rules.proofs.section_ok.Reads as reads
+use Rattle.rules.proofs.section_ok.Lts as lts
+use Rattle.octets.proofs.byte.Reads as byte-reads
+use Rattle.octets.proofs.rest.Reads as rest-reads
+use Rattle.rules.proofs.fields_ok.Reads as fields-ok-reads
+
+-- src/lib.rt:96:28
+rest-requires : tie.Need-rest-requires
+rest-requires c κs = search needs
+
+-- src/lib.rt:96:9
+fields-ok-requires : tie.Need-fields-ok-requires
+fields-ok-requires c κs = search needs
+
+-- src/lib.rt:97:24
+byte-requires : tie.Need-byte-requires
+byte-requires c κs = search needs
+
+-- src/lib.rt:93:1
+returns : tie.Need-returns
+unfolding sectionOk
+returns c = simp ((c .before .fields-ok) .ensures, (c .before .before .rest) .ensures, (c .byte) .ensures)
+
+pub section-ok-spec : {M : Type 1} → statement M
+section-ok-spec = tie.close (tie.spec rest-requires fields-ok-requires byte-requires returns)

@@ -1,0 +1,25 @@
+use Rattle.rules.specs.Rules.{formOk, numbersOk, bodyOk, withMetaOk, metaSize, fieldRulesOk, judged, status}
+use mathlib.Core.Path.{_≡_, refl, sym, ap, _∙_}
+use borrow.Author.Needs.{needs}
+use Rattle.rules.proofs.status.Statement.{statement}
+use Rattle.rules.proofs.status.Tie as tie
+use Rattle.rules.proofs.status.Reads as reads
+use Rattle.rules.proofs.status.Lts as lts
+use Rattle.rules.proofs.judge.Reads as judge-reads
+use Rattle.shape.proofs.shape_of.Reads as shape-of-reads
+
+-- src/lib.rt:193:11
+shape-of-requires : tie.Need-shape-of-requires
+shape-of-requires c κs = search needs
+
+-- src/lib.rt:193:5
+judge-requires : tie.Need-judge-requires
+judge-requires c κs = search needs
+
+-- src/lib.rt:190:1
+returns : tie.Need-returns
+unfolding status
+returns c = (c .judge) .ensures ∙ simp ((c .before .shape-of) .ensures)
+
+pub status-spec : {M : Type 1} → statement M
+status-spec = tie.close (tie.spec shape-of-requires judge-requires returns)
