@@ -127,12 +127,13 @@ pub fn bytes_in(s: &[u8], p: Span) -> &[u8]
 fn fields_of(h: Header) -> Fields
     ensures { λ r. ⌜ r ≡ fieldsOf h ⌝ }
 {
+    let cas = h.cas;
     Fields {
         opcode: h.opcode,
         datatype: h.datatype,
         vbucket: h.vbucket,
         opaque: h.opaque,
-        cas: h.cas,
+        cas,
     }
 }
 
@@ -201,6 +202,7 @@ fn header_for(f: Fields, e: usize, k: usize, v: usize) -> Header
     requires { ⌜ (e ≤ 255) × (e + k + v ≤ 1400) ⌝ }
     ensures { λ r. ⌜ r ≡ headerFor f e k v ⌝ }
 {
+    let cas = f.cas;
     Header {
         magic: 0x80,
         opcode: f.opcode,
@@ -210,7 +212,7 @@ fn header_for(f: Fields, e: usize, k: usize, v: usize) -> Header
         vbucket: f.vbucket,
         body: (e + k + v) as u32,
         opaque: f.opaque,
-        cas: f.cas,
+        cas,
     }
 }
 

@@ -1,0 +1,46 @@
+use Rattle.request.specs.Reading.{gateOf, extrasSpan, keySpan, valueSpan, fieldsOf, frameOf, frameStatus, wholeReading, reading}
+use mathlib.Core.Path.{_≡_, refl, sym, ap, _∙_}
+use borrow.Author.Needs.{needs}
+use Rattle.request.proofs.read.Statement.{statement}
+use Rattle.request.proofs.read.Tie as tie
+use Rattle.request.proofs.read.Reads as reads
+use Rattle.request.proofs.read.Lts as lts
+use Rattle.request.proofs.gate_of.Reads as gate-of-reads
+use Rattle.request.proofs.read_whole.Reads as read-whole-reads
+
+-- src/lib.rt:176:11
+gate-of-requires : tie.Need-gate-of-requires
+gate-of-requires c κs = search needs
+
+-- src/lib.rt:177:20
+enum-known-outcome : tie.Need-enum-known-outcome
+enum-known-outcome c = search needs
+
+-- src/lib.rt:178:21
+enum-known-h : tie.Need-enum-known-h
+enum-known-h c = search needs
+
+-- src/lib.rt:178:27
+read-whole-requires : tie.Need-read-whole-requires
+read-whole-requires c κs = search needs
+
+-- src/lib.rt:173:1
+returns : tie.Need-returns
+unfolding reading
+returns c = simp (← (c .before .before .before .gate-of) .ensures, (c .before .outcome) .given .1)
+
+-- src/lib.rt:173:1
+returns-2 : tie.Need-returns-2
+unfolding reading
+returns-2 c = simp (← (c .before .before .before .before .gate-of) .ensures, (c .before .before .h) .given .1) ((c .read-whole) .ensures)
+
+pub read-spec : {M : Type 1} → statement M
+read-spec =
+    tie.close
+    (tie.spec
+    gate-of-requires
+    enum-known-outcome
+    enum-known-h
+    read-whole-requires
+    returns
+    returns-2)

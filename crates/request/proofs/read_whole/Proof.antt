@@ -1,0 +1,31 @@
+use borrow.Author.Tests.{le-ltb, lt-ltb, le-leb, lt-leb, eq-eqb, ne-eqb, not-true, not-false}
+use Rattle.request.specs.Reading.{gateOf, extrasSpan, keySpan, valueSpan, fieldsOf, frameOf, frameStatus, wholeReading, reading}
+use mathlib.Core.Path.{_≡_, refl, sym, ap, _∙_}
+use borrow.Author.Needs.{needs}
+use Rattle.request.proofs.read_whole.Statement.{statement}
+use Rattle.request.proofs.read_whole.Tie as tie
+use Rattle.request.proofs.read_whole.Reads as reads
+use Rattle.request.proofs.read_whole.Lts as lts
+use Rattle.request.proofs.frame_of.Reads as frame-of-reads
+use Rattle.request.proofs.frame_status.Reads as frame-status-reads
+
+-- src/lib.rt:165:9
+frame-status-requires : tie.Need-frame-status-requires
+frame-status-requires c κs = search needs
+
+-- src/lib.rt:167:34
+frame-of-requires : tie.Need-frame-of-requires
+frame-of-requires c κs = search needs
+
+-- src/lib.rt:167:9
+returns : tie.Need-returns
+unfolding wholeReading
+returns c = simp (← (c .before .before .frame-status) .ensures, eq-eqb _ _ ((c .before .if1) .taken), (c .frame-of) .ensures)
+
+-- src/lib.rt:162:1
+returns-2 : tie.Need-returns-2
+unfolding wholeReading
+returns-2 c = simp (← (c .before .frame-status) .ensures, ne-eqb _ _ ((c .if1) .left))
+
+pub read-whole-spec : {M : Type 1} → statement M
+read-whole-spec = tie.close (tie.spec frame-status-requires frame-of-requires returns returns-2)
