@@ -24,7 +24,7 @@ pub record Reads (s : List ℕ) (f : Fields) (extras key value : List ℕ) : Typ
   pub same-value : bytesIn s (frame .value) ≡ value
 
 -- "A request that our writer writes is read back as the same request": from the whole output, whatever stood in it before
-pub WrittenReads : Type 0
+abbrev pub WrittenReads : Type 0
 WrittenReads =
     (f : Fields) (extras key value out : List ℕ) (n : ℕ) → Fits f → writing f extras key value (length out) ≡ Wrote n
     → Reads (outputOf (Wrote n) (frameBytes f extras key value) out) f extras key value
@@ -36,15 +36,15 @@ pub record Writes (s : List ℕ) (g : Frame) (n : ℕ) : Type 0 where
   pub accepted : (room : ℕ) → n ≤ room → writing (g .fields) (bytesIn s (g .extras)) (bytesIn s (g .key)) (bytesIn s (g .value)) room ≡ Wrote n
 
 -- "one that was read, written again, is the same bytes": the frame ends where its value ends
-pub ReadWrites : Type 0
+abbrev pub ReadWrites : Type 0
 ReadWrites = (s : List ℕ) (g : Frame) → Bytes s → reading s ≡ Accepted g → Writes s g (g .value .at + g .value .len)
 
 -- a request that the writer refuses is refused by the reader, whatever follows its frame; only lengths that no header holds have no frame
-pub RefusedReads : Type 0
+abbrev pub RefusedReads : Type 0
 RefusedReads =
     (f : Fields) (extras key value rest : List ℕ) (room : ℕ) → Fits f → held (length extras) (length key) (length value) ≡ true
     → writing f extras key value room ≡ Refused → refuses (reading (frameBytes f extras key value ++ rest)) ≡ true
 
 -- every length that a header can state is held
-pub HeaderHolds : Type 0
+abbrev pub HeaderHolds : Type 0
 HeaderHolds = (h : Header) → HeaderFits h → (v : ℕ) → h .extlen + h .keylen + v ≡ h .body → held (h .extlen) (h .keylen) v ≡ true

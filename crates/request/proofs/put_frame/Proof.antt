@@ -1,3 +1,14 @@
+use Prim.Native.Nat.{ℕ, _+_, _≤_}
+use lib.ListN.{length-append}
+use mathlib.Core.List.{List, _++_, append-assoc}
+use Rattle.header.proofs.HeaderLaws.{length-header}
+use Rattle.header.specs.Header.{headerBytes}
+use Rattle.octets.proofs.Lists.{then, then-two}
+use mathlib.Core.List.{_++_, append-assoc}
+use denote.Ref.{now}
+use lib.ListN.{length}
+use native.Mathlib.Omega.{arith}
+use mathlib.Core.Path.{_≡_, refl, sym, ap, _∙_}
 use borrow.Author.Needs.{needs}
 use Rattle.request.proofs.put_frame.Statement.{statement}
 use Rattle.request.proofs.put_frame.Tie as tie
@@ -40,7 +51,12 @@ same-length c = search needs
 
 -- src/lib.rt:219:1
 returns : tie.Need-returns
-returns c = ?
+returns c = let a = (c .before .before .before .before .before .before .before .before .before .before .before .before .before .before .before .before .before .before .before .before .args) in
+    let e = length (now (a .extras)) in
+    let k = length (now (a .key)) in
+    let d = then-two _ _ _ _ 0 24 (24 + e) (headerBytes (a .h)) (now (a .extras)) (now (a .key)) ((c .before .before .before .before .before .before .before .before .before .before .before .before .before .before .put) .ensures) ((c .before .before .before .before .before .before .before .before .before .before .put-bytes) .ensures) ((c .before .before .before .before .before .before .put-bytes2) .ensures) (omega (arith, length-header (a .h))) refl (omega (arith, (c .before .before .before .before .before .before .before .before .before .before .before .before .before .before .before .before .before .before .before .before .pre))) in
+    let l : length (headerBytes (a .h) ++ (now (a .extras) ++ now (a .key))) ≡ 24 + e + k = simp (length-append, length-header) (omega arith) in
+    rw (append-assoc, append-assoc) at (then _ _ _ 0 (24 + e + k) (headerBytes (a .h) ++ (now (a .extras) ++ now (a .key))) (now (a .value)) d ((c .before .before .put-bytes3) .ensures) (omega (arith, l)) (omega (arith, (c .before .before .before .before .before .before .before .before .before .before .before .before .before .before .before .before .before .before .before .before .pre))))
 
 pub put-frame-spec : {M : Type 1} → statement M
 put-frame-spec =
