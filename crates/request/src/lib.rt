@@ -234,8 +234,8 @@ pub fn write(f: Fields, extras: &[u8], key: &[u8], value: &[u8], out: &mut [u8])
         × (now (out .exit) ≡ outputOf r (frameBytes f (now (extras .entry)) (now (key .entry)) (now (value .entry))) (now (out .entry))) ⌝ }
 {
     let e = extras.len();
-    let body = body_size(e, key.len(), value.len());
-    if 1400 < body {
+    let size = body_size(e, key.len(), value.len());
+    if 1400 < size {
         return Written::Refused;
     }
     if 255 < e {
@@ -245,9 +245,9 @@ pub fn write(f: Fields, extras: &[u8], key: &[u8], value: &[u8], out: &mut [u8])
     if rules::status(h, extras, value) != 0 {
         return Written::Refused;
     }
-    if out.len() < 24 + body {
+    if out.len() < 24 + size {
         return Written::NoRoom;
     }
     put_frame(out, h, extras, key, value);
-    Written::Wrote(24 + body)
+    Written::Wrote(24 + size)
 }
