@@ -1,0 +1,42 @@
+-- An engine: rows that are searched by key, written and purged, and the laws that any engine meets. The decisions, the merge theorem and a second engine stand on these alone.
+use mathlib.Core.Path.{_≡_}
+use mathlib.Core.Bool.{Bool, true, false, cond}
+use mathlib.Core.List.{List}
+use mathlib.Core.Option.{Option, none, some}
+use Prim.Native.Nat.{ℕ, suc, _<_}
+use Rattle.octets.specs.Compare.{same}
+use Rattle.engine.specs.Documents.{Key, Doc, Entry}
+
+abbrev pub isSome {ℓ} : {A : Type ℓ} → Option A → Bool
+isSome none = false
+isSome (some d) = true
+
+pub record Engine : Type 1 where
+  pub Rows : Type 0
+  -- the rows keep the engine's own rule
+  pub Good : Rows → Type 0
+  -- the document of a key
+  pub find : Rows → Key → Option Doc
+  -- how many rows are free
+  pub free : Rows → ℕ
+  pub put : Rows → Key → Doc → Rows
+  -- frees the rows whose document the test picks
+  pub purge : Rows → (Doc → Bool) → Rows
+
+-- the key has a row, or there is a free one
+abbrev pub Room : (E : Engine) → E .Rows → Key → Type 0
+Room E r k = E .find r k ≡ none → 0 < E .free r
+
+-- what is left of a key's document by a purge
+abbrev pub kept : (Doc → Bool) → Option Doc → Option Doc
+kept p none = none
+kept p (some d) = cond (p d) none (some d)
+
+pub record Laws (E : Engine) : Type 0 where
+  pub good-put : (r : E .Rows) (k : Key) (d : Doc) → E .Good r → Room E r k → E .Good (E .put r k d)
+  pub find-put : (r : E .Rows) (k : Key) (d : Doc) → E .Good r → Room E r k → (j : Key)
+      → E .find (E .put r k d) j ≡ cond (same k j) (some d) (E .find r j)
+  pub free-new : (r : E .Rows) (k : Key) (d : Doc) → E .Good r → E .find r k ≡ none → 0 < E .free r → suc (E .free (E .put r k d)) ≡ E .free r
+  pub free-old : (r : E .Rows) (k : Key) (d e : Doc) → E .Good r → E .find r k ≡ some e → E .free (E .put r k d) ≡ E .free r
+  pub good-purge : (r : E .Rows) (p : Doc → Bool) → E .Good r → E .Good (E .purge r p)
+  pub find-purge : (r : E .Rows) (p : Doc → Bool) → E .Good r → (k : Key) → E .find (E .purge r p) k ≡ kept p (E .find r k)

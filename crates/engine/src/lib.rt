@@ -1,0 +1,1 @@
+// What a store of documents is: definitions and laws alone, in specs/.

@@ -1,0 +1,124 @@
+// The damage test. It reads each byte at most once, apart from the key comparisons, and its zero checks vectorise.
+ghost use mathlib.Core.Path.{_≡_};
+ghost use mathlib.Core.Bool.{_&&_};
+ghost use Prim.Native.Nat.{_+_, _*_, _≤_};
+ghost use lib.ListN.{length, drop};
+ghost use Rattle.table.specs.Table.{chunks, rowCount, rowsOf};
+ghost use Rattle.table.specs.Lookup.{missing};
+ghost use Rattle.table.specs.Damage.{sizeOk, headOk, usedOk, rowSound, allSound, distinct, sound};
+use crate::Found;
+use crate::Head;
+use crate::Slot;
+
+fn used_ok(s: Slot, mark: u64) -> bool
+    ensures { λ r. ⌜ r ≡ usedOk mark s ⌝ }
+{
+    let kind = (s.kind == 1)
+        | ((s.kind == 2) & ((s.vallen == 0) & ((s.numbers.flags == 0) & (s.numbers.expiry == 0))));
+    let cas = s.numbers.cas.0;
+    kind
+        & ((1 <= s.keylen)
+            & ((s.keylen <= 250) & ((s.vallen <= 1024) & ((1 <= cas) & (cas <= mark)))))
+}
+
+fn row_sound(r: &[u8], mark: u64) -> bool
+    ensures { λ b. ⌜ b ≡ rowSound mark (now (r .entry)) ⌝ }
+{
+    if octets::be16(r, 0) == 0 {
+        return octets::all_zero(octets::rest(r, 2));
+    }
+    let s = crate::row::slot(r);
+    let used = s.keylen as usize + s.vallen as usize;
+    used_ok(s, mark) & octets::all_zero(octets::rest(r, 32 + used))
+}
+
+fn rows_sound(s: &[u8], n: usize, mark: u64) -> bool
+    requires { ⌜ 16 + n * 1312 ≤ length (now s) ⌝ }
+    ensures { λ r. ⌜ r ≡ allSound mark (chunks n (drop 16 (now (s .entry)))) ⌝ }
+{
+    let mut at: usize = 16;
+    let mut left = n;
+    while 0 < left {
+        if !row_sound(octets::part(s, at, 1312), mark) {
+            return false;
+        }
+        at += 1312;
+        left -= 1;
+    }
+    true
+}
+
+fn is_missing(f: Found) -> bool
+    ensures { λ r. ⌜ r ≡ missing f ⌝ }
+{
+    match f {
+        Found::At(_) => false,
+        Found::Nothing => true,
+    }
+}
+
+// Whether the first of the rows from at is free, or none of the later ones has its key: what distinct asks of it.
+fn first_distinct(s: &[u8], at: usize, later: usize) -> bool
+    requires { ⌜ at + (later + 1) * 1312 ≤ length (now s) ⌝ }
+    ensures { λ r. ⌜ (r && distinct (rowsOf later (drop (at + 1312) (now (s .entry))))) ≡ distinct (rowsOf (later + 1) (drop at (now (s .entry)))) ⌝ }
+{
+    let r = octets::part(s, at, 1312);
+    if octets::be16(r, 0) == 0 {
+        return true;
+    }
+    let key = octets::part(r, 32, octets::be16(r, 2) as usize);
+    is_missing(crate::lookup::find_from(s, key, at + 1312, later, 0))
+}
+
+fn rows_distinct(s: &[u8], n: usize) -> bool
+    requires { ⌜ 16 + n * 1312 ≤ length (now s) ⌝ }
+    ensures { λ r. ⌜ r ≡ distinct (rowsOf n (drop 16 (now (s .entry)))) ⌝ }
+{
+    let mut at: usize = 16;
+    let mut left = n;
+    while 0 < left {
+        if !first_distinct(s, at, left - 1) {
+            return false;
+        }
+        at += 1312;
+        left -= 1;
+    }
+    true
+}
+
+pub fn head_ok(h: Head) -> bool
+    ensures { λ r. ⌜ r ≡ headOk h ⌝ }
+{
+    ((1 <= h.state) & (h.state <= 4)) & (((1 <= h.mode) & (h.mode <= 2)) & (h.clock == 0))
+}
+
+// Whether memory of len bytes is a table of n rows.
+pub fn size_ok(len: usize, n: usize) -> bool
+    ensures { λ r. ⌜ r ≡ sizeOk len n ⌝ }
+{
+    if n < 1 {
+        return false;
+    }
+    if 256 < n {
+        return false;
+    }
+    len == 16 + n * 1312
+}
+
+// Whether the memory is a table that is not damaged.
+pub fn is_sound(s: &[u8]) -> bool
+    ensures { λ r. ⌜ r ≡ sound (now (s .entry)) ⌝ }
+{
+    let n = crate::rows_in(s.len());
+    if !size_ok(s.len(), n) {
+        return false;
+    }
+    let h = crate::head_of(s);
+    if !head_ok(h) {
+        return false;
+    }
+    if !rows_sound(s, n, h.mark.0) {
+        return false;
+    }
+    rows_distinct(s, n)
+}

@@ -1,0 +1,96 @@
+// A row's bytes: its fixed part read and written, and a whole used row written.
+ghost use mathlib.Core.Path.{_≡_};
+ghost use mathlib.Core.Bool.{Bool};
+ghost use mathlib.Core.Option.{some};
+ghost use Prim.Native.Nat.{_+_, _≤_};
+ghost use lib.ListN.{length};
+ghost use Rattle.octets.specs.Parts.{pasted, written};
+ghost use Rattle.table.specs.Row.{slotOf, sizeBytes, shortBytes, longBytes, slotBytes, kindOf, rowBytes};
+use crate::Slot;
+use numbers::Cas;
+use numbers::Numbers;
+use numbers::Revision;
+
+fn numbers_of(r: &[u8]) -> Numbers
+    ensures { λ n. ⌜ n ≡ slotOf (now (r .entry)) .numbers ⌝ }
+{
+    Numbers {
+        flags: octets::be32(r, 8),
+        expiry: octets::be32(r, 12),
+        revision: Revision(octets::be64(r, 16)),
+        cas: Cas(octets::be64(r, 24)),
+    }
+}
+
+pub fn slot(r: &[u8]) -> Slot
+    ensures { λ s. ⌜ s ≡ slotOf (now (r .entry)) ⌝ }
+{
+    Slot {
+        kind: octets::be16(r, 0),
+        keylen: octets::be16(r, 2),
+        vallen: octets::be32(r, 4),
+        numbers: numbers_of(r),
+    }
+}
+
+fn put_sizes(s: &mut [u8], at: usize, h: Slot)
+    requires { ⌜ at + 32 ≤ length (now s) ⌝ }
+    ensures { λ _. ⌜ now (s .exit) ≡ written (now (s .entry)) at (sizeBytes h) ⌝ }
+{
+    octets::put_be(s, at, 2, h.kind as u64);
+    octets::put_be(s, at + 2, 2, h.keylen as u64);
+    octets::put_be(s, at + 4, 4, h.vallen as u64);
+}
+
+fn put_short(s: &mut [u8], at: usize, h: Slot)
+    requires { ⌜ at + 24 ≤ length (now s) ⌝ }
+    ensures { λ _. ⌜ now (s .exit) ≡ written (now (s .entry)) at (shortBytes h) ⌝ }
+{
+    octets::put_be(s, at, 4, h.numbers.flags as u64);
+    octets::put_be(s, at + 4, 4, h.numbers.expiry as u64);
+}
+
+fn put_long(s: &mut [u8], at: usize, h: Slot)
+    requires { ⌜ at + 16 ≤ length (now s) ⌝ }
+    ensures { λ _. ⌜ now (s .exit) ≡ written (now (s .entry)) at (longBytes h) ⌝ }
+{
+    octets::put_be(s, at, 8, h.numbers.revision.0);
+    octets::put_be(s, at + 8, 8, h.numbers.cas.0);
+}
+
+fn put_slot(s: &mut [u8], at: usize, h: Slot)
+    requires { ⌜ at + 32 ≤ length (now s) ⌝ }
+    ensures { λ _. ⌜ now (s .exit) ≡ written (now (s .entry)) at (slotBytes h) ⌝ }
+{
+    put_sizes(s, at, h);
+    put_short(s, at + 8, h);
+    put_long(s, at + 16, h);
+}
+
+fn kind_of(tomb: bool) -> u16
+    ensures { λ r. ⌜ r ≡ kindOf tomb ⌝ }
+{
+    if tomb {
+        return 2;
+    }
+    1
+}
+
+// A used row over the 1,312 bytes from a place on.
+pub(crate) fn put_row(s: &mut [u8], at: usize, key: &[u8], tomb: bool, n: Numbers, value: &[u8])
+    requires { ⌜ (at + 1312 ≤ length (now s)) × (length (now key) + length (now value) ≤ 1280) ⌝ }
+    ensures { λ _. ⌜ now (s .exit) ≡ pasted (now (s .entry)) at (rowBytes (some (record { key = now (key .entry); doc = record { tomb = tomb; value = now (value .entry); numbers = n } }))) ⌝ }
+{
+    let k = key.len();
+    let v = value.len();
+    let h = Slot {
+        kind: kind_of(tomb),
+        keylen: k as u16,
+        vallen: v as u32,
+        numbers: n,
+    };
+    put_slot(s, at, h);
+    octets::put_bytes(s, at + 32, key);
+    octets::put_bytes(s, at + 32 + k, value);
+    octets::put_zeros(s, at + 32 + k + v, 1280 - (k + v));
+}

@@ -1,0 +1,71 @@
+// The row at a place: what it holds, where its value stands, and a new entry in it.
+ghost use mathlib.Core.Path.{_≡_};
+ghost use Prim.Native.Nat.{_+_};
+ghost use lib.Dec.{leb};
+ghost use Rattle.table.specs.Row.{slotOf, docOf};
+ghost use Rattle.table.specs.Store.{rowAt, valueAt, stored};
+use crate::Slot;
+use numbers::Cas;
+use numbers::Numbers;
+
+// The bytes of the row at a place, none where there is no such row.
+fn row_at(s: &[u8], i: usize) -> &[u8]
+    ensures { λ r. ⌜ now r ≡ rowAt (now (s .entry)) i ⌝ }
+{
+    if i < crate::rows_in(s.len()) {
+        return octets::part(s, 16 + i * 1312, 1312);
+    }
+    octets::part(s, 0, 0)
+}
+
+// The fixed part of the row at a place; a free one where there is no such row.
+pub fn slot_at(s: &[u8], i: usize) -> Slot
+    ensures { λ r. ⌜ r ≡ slotOf (rowAt (now (s .entry)) i) ⌝ }
+{
+    crate::row::slot(row_at(s, i))
+}
+
+// Where the value of the row at a place stands in memory; 0 where there is no such row.
+pub fn value_at(s: &[u8], i: usize) -> usize
+    ensures { λ r. ⌜ r ≡ valueAt (now (s .entry)) i ⌝ }
+{
+    if i < crate::rows_in(s.len()) {
+        return 16 + i * 1312 + 32 + octets::be16(row_at(s, i), 2) as usize;
+    }
+    0
+}
+
+// The value of the row at a place.
+pub fn value(s: &[u8], i: usize) -> &[u8]
+    ensures { λ r. ⌜ now r ≡ docOf (rowAt (now (s .entry)) i) .value ⌝ }
+{
+    let h = slot_at(s, i);
+    octets::part(row_at(s, i), 32 + h.keylen as usize, h.vallen as usize)
+}
+
+// Stores an entry in the row at a place, and the mark. Where there is no such row or the entry doesn't fit, nothing changes.
+pub fn store(s: &mut [u8], i: usize, key: &[u8], tomb: bool, n: Numbers, value: &[u8], mark: Cas)
+    ensures { λ _. ⌜ now (s .exit) ≡ stored (now (s .entry)) i (record { key = now (key .entry); doc = record { tomb = tomb; value = now (value .entry); numbers = n } }) (mark .0) ⌝ }
+{
+    if i >= crate::rows_in(s.len()) {
+        return;
+    }
+    if !fits(key.len(), value.len()) {
+        return;
+    }
+    crate::row::put_row(s, 16 + i * 1312, key, tomb, n, value);
+    octets::put_be(s, 8, 8, mark.0);
+}
+
+// Whether a key and a value of these lengths fit a row.
+fn fits(k: usize, v: usize) -> bool
+    ensures { λ r. ⌜ r ≡ leb (k + v) 1280 ⌝ }
+{
+    if 1280 < k {
+        return false;
+    }
+    if 1280 < v {
+        return false;
+    }
+    k + v <= 1280
+}
