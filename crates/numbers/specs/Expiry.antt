@@ -1,7 +1,17 @@
--- "A document is *expired* when its expiry is not 0 and the clock is at or past it." The clock is seconds since 1970.
-use Prim.Native.Nat.{ℕ}
-use mathlib.Core.Bool.{Bool, not, _&&_}
-use lib.Dec.{eqb, leb}
+-- Expiry. The clock is seconds since 1970 in 32 bits.
+use Prim.Native.Nat.{ℕ, _+_, min}
+use mathlib.Core.Bool.{Bool, not, _&&_, _||_}
+use lib.Dec.{eqb, leb, ltb}
+use Rattle.octets.specs.Choice.{pick}
 
+-- "A document is *expired* when its expiry is not 0 and the clock is at or past it."
 unfoldable pub expired : ℕ → ℕ → Bool
 expired expiry clock = not (eqb expiry 0) && leb expiry clock
+
+-- "1 to 2,592,000 is added to the clock, 0x04 if that passes 2^32 - 1"
+unfoldable pub passes : ℕ → ℕ → Bool
+passes expiry clock = (leb 1 expiry && leb expiry 2592000) && ltb 0xffffffff (expiry + clock)
+
+-- plain expiry as it is stored: "0 never; 1 to 2,592,000 is added to the clock [..]; above, absolute". The sum is held at 2^32 - 1, where the write is refused.
+unfoldable pub absolute : ℕ → ℕ → ℕ
+absolute expiry clock = pick (eqb expiry 0 || ltb 2592000 expiry) expiry (min (expiry + clock) 0xffffffff)

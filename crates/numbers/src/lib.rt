@@ -1,6 +1,10 @@
-// The numbers of a document. CAS and revision are two kinds of number that can't be exchanged.
+// The numbers of a document: their kinds, the published order, expiry and growth. CAS and revision are two kinds of
+// number that can't be exchanged.
 ghost use mathlib.Core.Path.{_≡_};
-ghost use Rattle.numbers.specs.Expiry.{expired};
+ghost use Prim.Native.Nat.{max};
+ghost use Rattle.numbers.specs.Order.{modeOf, above, lead, second, greater};
+ghost use Rattle.numbers.specs.Expiry.{expired, passes, absolute};
+ghost use Rattle.numbers.specs.Growth.{next};
 
 pub struct Cas(pub u64);
 
@@ -14,9 +18,96 @@ pub struct Numbers {
     pub cas: Cas,
 }
 
+// How a table resolves conflicts.
+pub enum Mode {
+    ByRevision,
+    LastWrite,
+}
+
+pub fn mode_of(n: u8) -> Mode
+    ensures { λ r. ⌜ r ≡ modeOf n ⌝ }
+{
+    if n == 2 {
+        return Mode::LastWrite;
+    }
+    Mode::ByRevision
+}
+
+fn above(a: u64, b: u64, rest: bool) -> bool
+    ensures { λ r. ⌜ r ≡ above a b rest ⌝ }
+{
+    (b < a) | ((a == b) & rest)
+}
+
+fn lead(m: Mode, n: Numbers) -> u64
+    ensures { λ r. ⌜ r ≡ lead m n ⌝ }
+{
+    match m {
+        Mode::ByRevision => n.revision.0,
+        Mode::LastWrite => n.cas.0,
+    }
+}
+
+fn second(m: Mode, n: Numbers) -> u64
+    ensures { λ r. ⌜ r ≡ second m n ⌝ }
+{
+    match m {
+        Mode::ByRevision => n.cas.0,
+        Mode::LastWrite => n.revision.0,
+    }
+}
+
+// The published order: whether a is greater than b.
+pub fn greater(m: Mode, a: Numbers, b: Numbers) -> bool
+    ensures { λ r. ⌜ r ≡ greater m a b ⌝ }
+{
+    let rest = (b.expiry < a.expiry) | ((a.expiry == b.expiry) & (a.flags < b.flags));
+    above(
+        lead(m, a),
+        lead(m, b),
+        above(second(m, a), second(m, b), rest),
+    )
+}
+
 // The one place where expiry is decided: every command and the owner's calls go through it.
 pub fn expired(expiry: u32, clock: u32) -> bool
     ensures { λ r. ⌜ r ≡ expired expiry clock ⌝ }
 {
     (expiry != 0) & (expiry <= clock)
+}
+
+// Whether a plain expiry's sum with the clock passes 2^32 - 1.
+pub fn passes(expiry: u32, clock: u32) -> bool
+    ensures { λ r. ⌜ r ≡ passes expiry clock ⌝ }
+{
+    ((1 <= expiry) & (expiry <= 2592000)) & (0xffffffff < expiry as u64 + clock as u64)
+}
+
+// A plain expiry as it is stored.
+pub fn absolute(expiry: u32, clock: u32) -> u32
+    ensures { λ r. ⌜ r ≡ absolute expiry clock ⌝ }
+{
+    if (expiry == 0) | (2592000 < expiry) {
+        return expiry;
+    }
+    let sum = expiry as u64 + clock as u64;
+    if sum <= 0xffffffff {
+        sum as u32
+    } else {
+        0xffffffff
+    }
+}
+
+// One more; at 2^64 - 1, where the write is refused, the number itself.
+pub fn next(n: u64) -> u64
+    ensures { λ r. ⌜ r ≡ next n ⌝ }
+{
+    if n < 0xffffffffffffffff { n + 1 } else { n }
+}
+
+// The larger of two numbers.
+pub fn larger(a: u64, b: u64) -> u64
+    ensures { λ r. ⌜ r ≡ max a b ⌝ }
+{
+    if a < b { b } else { a }
 }

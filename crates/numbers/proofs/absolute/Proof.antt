@@ -1,0 +1,34 @@
+use native.Mathlib.Omega.{arith}
+use Rattle.numbers.specs.Expiry.{passes, absolute}
+use mathlib.Core.Path.{_≡_, refl, sym, ap, _∙_}
+use borrow.Author.Needs.{needs}
+use Rattle.numbers.proofs.absolute.Statement.{statement}
+use Rattle.numbers.proofs.absolute.Tie as tie
+use Rattle.numbers.proofs.absolute.Reads as reads
+use Rattle.numbers.proofs.absolute.Lts as lts
+
+-- src/lib.rt:91:9
+returns : tie.Need-returns
+unfolding absolute
+returns c = rw ((c .if1) .taken)
+
+-- src/lib.rt:93:15
+add-sum : tie.Need-add-sum
+add-sum c = search needs
+
+-- src/lib.rt:95:9
+cast-result : tie.Need-cast-result
+cast-result c = search needs
+
+-- src/lib.rt:87:1
+returns-2 : tie.Need-returns-2
+unfolding absolute
+returns-2 c = rw ((c .before .if1) .left) (omega (arith, (c .if2) .taken))
+
+-- src/lib.rt:87:1
+returns-3 : tie.Need-returns-3
+unfolding absolute
+returns-3 c = rw ((c .before .if1) .left) (omega (arith, (c .if2) .left))
+
+pub absolute-spec : {M : Type 1} → statement M
+absolute-spec = tie.close (tie.spec returns add-sum cast-result returns-2 returns-3)

@@ -1,0 +1,28 @@
+use Rattle.numbers.specs.Order.{above, lead, second, greater}
+use mathlib.Core.Path.{_≡_, refl, sym, ap, _∙_}
+use borrow.Author.Needs.{needs}
+use Rattle.numbers.proofs.lead.Statement.{statement}
+use Rattle.numbers.proofs.lead.Tie as tie
+use Rattle.numbers.proofs.lead.Reads as reads
+use Rattle.numbers.proofs.lead.Lts as lts
+
+-- src/lib.rt:46:29
+enum-told : tie.Need-enum-told
+enum-told c = search needs
+
+-- src/lib.rt:47:28
+enum-told-2 : tie.Need-enum-told-2
+enum-told-2 c = search needs
+
+-- src/lib.rt:42:1
+returns : tie.Need-returns
+unfolding lead
+returns c = rw ((c .enum-told) .given .1)
+
+-- src/lib.rt:42:1
+returns-2 : tie.Need-returns-2
+unfolding lead
+returns-2 c = rw ((c .enum-told2) .given .1)
+
+pub lead-spec : {M : Type 1} → statement M
+lead-spec = tie.close (tie.spec enum-told enum-told-2 returns returns-2)

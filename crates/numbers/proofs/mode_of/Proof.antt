@@ -1,0 +1,17 @@
+use borrow.Author.Tests.{eq-eqb, ne-eqb}
+use mathlib.Core.Path.{_≡_, refl, sym, ap, _∙_}
+use Rattle.numbers.proofs.mode_of.Statement.{statement}
+use Rattle.numbers.proofs.mode_of.Tie as tie
+use Rattle.numbers.proofs.mode_of.Reads as reads
+use Rattle.numbers.proofs.mode_of.Lts as lts
+
+-- src/lib.rt:31:9
+returns : tie.Need-returns
+returns c = simp (eq-eqb _ _ ((c .if1) .taken))
+
+-- src/lib.rt:27:1
+returns-2 : tie.Need-returns-2
+returns-2 c = simp (ne-eqb _ _ ((c .if1) .left))
+
+pub mode-of-spec : {M : Type 1} → statement M
+mode-of-spec = tie.close (tie.spec returns returns-2)
