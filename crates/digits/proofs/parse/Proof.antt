@@ -1,0 +1,31 @@
+use Rattle.digits.specs.Decimal.{numberOf}
+use borrow.Author.Tests.{le-leb, lt-leb}
+use mathlib.Core.Path.{_≡_, refl, sym, ap, _∙_}
+use borrow.Author.Needs.{needs}
+use Rattle.digits.proofs.parse.Statement.{statement}
+use Rattle.digits.proofs.parse.Tie as tie
+use Rattle.digits.proofs.parse.Reads as reads
+use Rattle.digits.proofs.parse.Lts as lts
+use Rattle.digits.proofs.parse_all.Reads as parse-all-reads
+
+-- src/lib.rt:91:9
+returns : tie.Need-returns
+unfolding numberOf
+returns c = simp (lt-leb _ _ ((c .if1) .taken))
+
+-- src/lib.rt:94:9
+returns-2 : tie.Need-returns-2
+unfolding numberOf
+returns-2 c = simp (le-leb _ _ ((c .before .if1) .left), lt-leb _ _ ((c .if2) .taken))
+
+-- src/lib.rt:96:5
+parse-all-requires : tie.Need-parse-all-requires
+parse-all-requires c κs = search needs
+
+-- src/lib.rt:87:1
+returns-3 : tie.Need-returns-3
+unfolding numberOf
+returns-3 c = simp (le-leb _ _ ((c .before .before .if1) .left), le-leb _ _ ((c .before .if2) .left)) ((c .parse-all) .ensures)
+
+pub parse-spec : {M : Type 1} → statement M
+parse-spec = tie.close (tie.spec returns returns-2 parse-all-requires returns-3)
