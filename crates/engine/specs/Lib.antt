@@ -1,3 +1,4 @@
 pub mod Documents
 pub mod Stored
+pub mod Head
 pub mod Engine

@@ -1,0 +1,99 @@
+-- What a request does, seen only through the row of its key: the decision on numbers, with the bytes put in.
+use Prim.Native.Nat.{ℕ, _+_, _<_, _≤_}
+use mathlib.Core.Path.{_≡_, refl}
+use mathlib.Core.Bool.{Bool, true, false, cond, _&&_, _||_, not}
+use mathlib.Core.List.{List, [], _∷_, _++_}
+use mathlib.Core.Option.{Option, none, some}
+use lib.ListN.{length}
+use Rattle.octets.specs.BigEndian.{bytesOf}
+use Rattle.digits.specs.Decimal.{digits, numberOf}
+use Rattle.numbers.specs.declared.Cas.{Cas}
+use Rattle.engine.specs.Documents.{Key, Doc}
+use Rattle.engine.specs.Stored.{storedOf}
+use Rattle.engine.specs.declared.Stored.{Stored}
+use Rattle.engine.specs.declared.Stored.the-variants.{Nothing, Used}
+use Rattle.engine.specs.declared.Head.{Head}
+use Rattle.commands.specs.declared.Command.{Command}
+use Rattle.commands.specs.declared.Ask.{Ask}
+use Rattle.commands.specs.declared.Source.{Source}
+use Rattle.commands.specs.declared.Source.the-variants.{Empty, Frame, Digits, Kept}
+use Rattle.commands.specs.declared.Reply.{Reply}
+use Rattle.commands.specs.declared.Reply.the-variants.{Bare, Found, Counted, Release}
+use Rattle.commands.specs.declared.Done.{Done}
+use Rattle.commands.specs.declared.Decision.{Decision}
+use Rattle.commands.specs.Done.{decision}
+
+-- a request whose form is right
+pub record Request : Type 0 where
+  pub vbucket : ℕ
+  pub cas : Cas
+  pub quiet : Bool
+  pub key : Key
+  pub value : List ℕ
+  pub command : Command
+
+-- what the table is told
+pub record Effect : Type 0 where
+  pub status : ℕ
+  pub store : Option Doc
+  pub head : Head
+
+pub record Answer : Type 0 where
+  pub effect : Effect
+  pub silent : Bool
+  pub extras : List ℕ
+  pub key : List ℕ
+  pub value : List ℕ
+  pub cas : ℕ
+
+abbrev pub valueOf : Option Doc → List ℕ
+valueOf none = []
+valueOf (some d) = d .value
+
+abbrev pub askOf : Request → Ask
+askOf a = record { vbucket = a .vbucket; cas = a .cas; quiet = a .quiet; size = length (a .value); command = a .command }
+
+-- ---- the bytes of a decision: those of the frame, and those that were stored
+abbrev pub bytesFrom : Source → List ℕ → List ℕ → List ℕ
+bytesFrom Empty frame old = []
+bytesFrom Frame frame old = frame
+bytesFrom (Digits n) frame old = digits n
+bytesFrom Kept frame old = old
+
+abbrev pub docFrom : Stored → List ℕ → Option Doc
+docFrom Nothing value = none
+docFrom (Used r) value = some (record { tomb = r .tomb; value = value; numbers = r .numbers })
+
+abbrev pub extrasOf : Reply → List ℕ
+extrasOf Bare = []
+extrasOf (Found flags keyed) = bytesOf 4 flags
+extrasOf (Counted n) = []
+extrasOf Release = []
+
+abbrev pub keyOf : Reply → Key → List ℕ
+keyOf Bare key = []
+keyOf (Found flags keyed) key = cond keyed key []
+keyOf (Counted n) key = []
+keyOf Release key = []
+
+abbrev pub replyOf : Reply → List ℕ → List ℕ
+replyOf Bare old = []
+replyOf (Found flags keyed) old = old
+replyOf (Counted n) old = bytesOf 8 n
+replyOf Release old = 52 ∷ 46 ∷ 48 ∷ 46 ∷ 48 ∷ []
+
+abbrev pub effectOf : Request → List ℕ → Decision → Effect
+effectOf a old x = record { status = x .status; store = docFrom (x .done .store) (bytesFrom (x .done .source) (a .value) old); head = x .done .head }
+
+abbrev pub answerOf : Request → List ℕ → Decision → Answer
+answerOf a old x = record {
+  effect = effectOf a old x;
+  silent = x .silent;
+  extras = extrasOf (x .done .reply);
+  key = keyOf (x .done .reply) (a .key);
+  value = replyOf (x .done .reply) old;
+  cas = x .done .cas .0;
+}
+
+unfoldable pub decide : Head → Option Doc → Bool → ℕ → Request → Answer
+decide h row anyFree clock a = answerOf a (valueOf row) (decision h (storedOf row) anyFree clock (numberOf (valueOf row)) (askOf a))
