@@ -1,0 +1,56 @@
+use mathlib.Core.Path.{_≡_, refl, sym, ap, _∙_}
+use borrow.Author.Needs.{needs}
+use Rattle.commands.proofs.effects.count_done.Statement.{statement}
+use Rattle.commands.proofs.effects.count_done.Tie as tie
+use Rattle.commands.proofs.effects.count_done.Reads as reads
+use Rattle.commands.proofs.effects.count_done.Lts as lts
+use Rattle.commands.proofs.effects.counted.Reads as counted-reads
+use Rattle.commands.proofs.effects.sum.Reads as sum-reads
+use Rattle.engine.proofs.live.Reads as live-reads
+use Rattle.engine.proofs.numbers_of.Reads as numbers-of-reads
+use Rattle.numbers.proofs.absolute.Reads as absolute-reads
+
+-- src/effects.rt:129:9
+numbers-of-requires : tie.Need-numbers-of-requires
+numbers-of-requires c κs = search needs
+
+-- src/effects.rt:130:8
+live-requires : tie.Need-live-requires
+live-requires c κs = search needs
+
+-- src/effects.rt:131:46
+sum-requires : tie.Need-sum-requires
+sum-requires c κs = search needs
+
+-- src/effects.rt:131:9
+counted-requires : tie.Need-counted-requires
+counted-requires c κs = search needs
+
+-- src/effects.rt:133:26
+absolute-requires : tie.Need-absolute-requires
+absolute-requires c κs = search needs
+
+-- src/effects.rt:133:9
+counted-requires-2 : tie.Need-counted-requires-2
+counted-requires-2 c κs = search needs
+
+-- src/effects.rt:126:1
+returns : tie.Need-returns
+returns c = simp ((c .counted) .ensures, (c .before .sum) .ensures, ← (c .before .before .before .live) .ensures, (c .before .before .if1) .taken, (c .before .before .before .before .numbers-of) .ensures)
+
+-- src/effects.rt:126:1
+returns-2 : tie.Need-returns-2
+returns-2 c = simp ((c .counted2) .ensures, (c .before .absolute) .ensures, ← (c .before .before .before .live) .ensures, (c .before .before .if1) .left, (c .before .before .before .before .numbers-of) .ensures)
+
+pub count-done-spec : {M : Type 1} → statement M
+count-done-spec =
+    tie.close
+    (tie.spec
+    numbers-of-requires
+    live-requires
+    sum-requires
+    counted-requires
+    absolute-requires
+    counted-requires-2
+    returns
+    returns-2)

@@ -1,0 +1,23 @@
+use mathlib.Core.Path.{_≡_, refl, sym, ap, _∙_}
+use borrow.Author.Needs.{needs}
+use Rattle.commands.proofs.effects.kept.Statement.{statement}
+use Rattle.commands.proofs.effects.kept.Tie as tie
+use Rattle.commands.proofs.effects.kept.Reads as reads
+use Rattle.commands.proofs.effects.kept.Lts as lts
+use Rattle.commands.proofs.effects.marked.Reads as marked-reads
+use Rattle.numbers.proofs.larger.Reads as larger-reads
+
+-- src/effects.rt:51:26
+larger-requires : tie.Need-larger-requires
+larger-requires c κs = search needs
+
+-- src/effects.rt:51:9
+marked-requires : tie.Need-marked-requires
+marked-requires c κs = search needs
+
+-- src/effects.rt:47:1
+returns : tie.Need-returns
+returns c = simp ((c .marked) .ensures, (c .before .larger) .ensures)
+
+pub kept-spec : {M : Type 1} → statement M
+kept-spec = tie.close (tie.spec larger-requires marked-requires returns)

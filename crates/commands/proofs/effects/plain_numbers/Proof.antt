@@ -1,0 +1,27 @@
+use mathlib.Core.Path.{_≡_, refl, sym, ap, _∙_}
+use borrow.Author.Needs.{needs}
+use Rattle.commands.proofs.effects.plain_numbers.Statement.{statement}
+use Rattle.commands.proofs.effects.plain_numbers.Tie as tie
+use Rattle.commands.proofs.effects.plain_numbers.Reads as reads
+use Rattle.commands.proofs.effects.plain_numbers.Lts as lts
+use Rattle.engine.proofs.numbers_of.Reads as numbers-of-reads
+use Rattle.numbers.proofs.next.Reads as next-reads
+
+-- src/effects.rt:65:9
+numbers-of-requires : tie.Need-numbers-of-requires
+numbers-of-requires c κs = search needs
+
+-- src/effects.rt:66:9
+next-requires : tie.Need-next-requires
+next-requires c κs = search needs
+
+-- src/effects.rt:67:9
+next-requires-2 : tie.Need-next-requires-2
+next-requires-2 c κs = search needs
+
+-- src/effects.rt:62:1
+returns : tie.Need-returns
+returns c = simp ((c .next2) .ensures, (c .before .next) .ensures, (c .before .before .numbers-of) .ensures)
+
+pub plain-numbers-spec : {M : Type 1} → statement M
+plain-numbers-spec = tie.close (tie.spec numbers-of-requires next-requires next-requires-2 returns)
