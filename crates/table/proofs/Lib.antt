@@ -1,3 +1,4 @@
 pub mod PlainLaws
 pub mod Places
 pub mod RowLaws
+pub mod TableLaws

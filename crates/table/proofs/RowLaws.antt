@@ -7,19 +7,19 @@ use mathlib.Core.Bool.{Bool, true, false, _&&_, _||_}
 use mathlib.Core.List.{List, [], _++_}
 use mathlib.Core.Option.{Option, none, some}
 use Prim.Native.Nat.{ℕ, _+_, _-_, _^_, _≤_, _<_}
-use lib.ListN.{length, take, drop, replicate, length-append, length-drop, length-replicate}
+use lib.ListN.{length, drop, replicate, length-append, length-drop, length-replicate}
 use lib.Seq.{drop-drop, take-at, drop-at}
 use lib.Dec.{eqb, leb}
 use borrow.Author.Tests.{leb-true, eqb-true, le-leb, eq-eqb}
 use Rattle.octets.specs.Choice.{pick}
 use Rattle.octets.specs.Parts.{Bytes, part}
-use Rattle.octets.specs.BigEndian.{be, beFrom, num, bytesOf}
+use Rattle.octets.specs.BigEndian.{be, beFrom, bytesOf}
 use Rattle.octets.specs.Compare.{zeros}
 use Rattle.octets.proofs.Choices.{cases, both, either}
 use Rattle.octets.proofs.Lists.{part-length, glue, glue-rest}
 use Rattle.octets.proofs.Numbers.{be-bytes, num-back, num-below}
 use Rattle.octets.proofs.Tests.{zeros-true, zeros-replicate}
-use Rattle.engine.specs.Documents.{Key, Doc, Entry}
+use Rattle.engine.specs.Documents.{Entry}
 use Rattle.table.specs.declared.Slot.{Slot}
 use Rattle.table.specs.Row.{Row, slotOf, sizeBytes, shortBytes, longBytes, slotBytes, kindOf, docOf, keyOf, rowOf, slotFor, usedBytes, rowBytes}
 use Rattle.table.specs.Damage.{kindOk, usedOk, rowSound}
