@@ -2,3 +2,4 @@ pub mod PlainLaws
 pub mod Places
 pub mod RowLaws
 pub mod TableLaws
+pub mod ChangeLaws
