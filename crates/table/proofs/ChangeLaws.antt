@@ -1,14 +1,12 @@
 -- What storing, purging and making do to a table, and that each leaves a good one.
 use native.Mathlib.Omega.{arith}
 use mathlib.Core.Path.{_≡_, refl, sym, ap, _∙_}
-use mathlib.Core.Bool.{Bool, true, false, _&&_, cond}
+use mathlib.Core.Bool.{Bool}
 use mathlib.Core.List.{List, [], _∷_, _++_}
-use mathlib.Core.Option.{Option, none, some}
-use Prim.Native.Nat.{ℕ, zero, suc, _+_, _*_, _^_, _≤_, _<_}
+use mathlib.Core.Option.{none, some}
+use Prim.Native.Nat.{ℕ, zero, suc, _+_, _*_, _≤_, _<_}
 use lib.ListN.{length, set, replicate, length-set, length-replicate, replicate-append-replicate}
-use lib.Dec.{ltb, leb}
 use borrow.Author.Tests.{lt-ltb, le-leb}
-use Rattle.octets.specs.Choice.{pick}
 use Rattle.octets.specs.Parts.{pasted}
 use Rattle.octets.specs.BigEndian.{bytesOf}
 use Rattle.octets.proofs.Choices.{cases}
@@ -16,10 +14,10 @@ use Rattle.octets.proofs.Lists.{pasted-skip, pasted-over}
 use Rattle.engine.specs.Documents.{Doc, Entry}
 use Rattle.table.specs.declared.Head.{Head}
 use Rattle.table.specs.Row.{Row, rowBytes}
-use Rattle.table.specs.Table.{Table, rowCount, headBytes, rowsBytes, tableBytes, withRow, withMark, fresh}
+use Rattle.table.specs.Table.{Table, headBytes, rowsBytes, tableBytes, withRow, withMark, fresh}
 use Rattle.table.specs.Store.{stored}
 use Rattle.table.specs.Plain.{putRow, purgeRows, Distinct}
-use Rattle.table.specs.Claims.{EntryGood, AllGood, Good, withEntry, Stores, StoreGood, PurgeGood, FreshGood}
+use Rattle.table.specs.Claims.{EntryGood, AllGood, StoreGood, PurgeGood, FreshGood}
 use Rattle.table.proofs.PlainLaws.{plain-laws}
 use Rattle.table.proofs.Places.{at-place}
 use Rattle.table.proofs.RowLaws.{RowGood, row-length}
@@ -61,7 +59,7 @@ module _ (mark : ℕ) (w : Row) (r : RowGood mark w) where
       (pasted-skip (rowBytes v) (rowsBytes ws) 1312 (i * 1312) (rowBytes w) (row-length mark v (q .0))
       ∙ ap (λ (t : List ℕ). rowBytes v ++ t) (rows-put ws i (q .1) (omega arith)))
 
-head-length : (h : Head) → length (headBytes h) ≡ 16
+pub head-length : (h : Head) → length (headBytes h) ≡ 16
 unfolding headBytes bytesOf
 head-length h = refl
 

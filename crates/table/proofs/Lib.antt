@@ -3,3 +3,4 @@ pub mod Places
 pub mod RowLaws
 pub mod TableLaws
 pub mod ChangeLaws
+pub mod PurgeBytes

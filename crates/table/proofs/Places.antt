@@ -2,7 +2,7 @@
 use native.Mathlib.Omega.{arith}
 use mathlib.Core.Path.{_≡_, refl, sym, ap, _∙_, subst}
 use mathlib.Core.List.{List, [], _∷_}
-use mathlib.Core.Option.{Option, none, some}
+use mathlib.Core.Option.{none, some}
 use Prim.Native.Nat.{ℕ, suc, _+_, _<_}
 use lib.ListN.{length, getD, set}
 use Rattle.octets.specs.Compare.{same}
@@ -12,7 +12,7 @@ use Rattle.engine.specs.Documents.{Key, Doc, Entry}
 use Rattle.table.specs.declared.Found.{Found}
 use Rattle.table.specs.declared.Found.the-variants.{At, Nothing}
 use Rattle.table.specs.Row.{Row}
-use Rattle.table.specs.Lookup.{findIn, freeIn, orElse, placeIn}
+use Rattle.table.specs.Lookup.{findIn, freeIn, placeIn}
 use Rattle.table.specs.Plain.{findRow, freeRows, replace, fill, putRow}
 use Rattle.table.proofs.PlainLaws.{none-some}
 

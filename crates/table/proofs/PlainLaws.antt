@@ -1,17 +1,17 @@
 -- The plain engine meets the laws of an engine.
 use native.Mathlib.Omega.{arith}
 use mathlib.Core.Path.{_≡_, refl, sym, _∙_, ap}
-use mathlib.Core.Bool.{Bool, true, false, cond, true≢false}
+use mathlib.Core.Bool.{Bool, false, cond, true≢false}
 use mathlib.Core.List.{List, [], _∷_}
 use mathlib.Core.Option.{Option, none, some}
 use Prim.Native.Nat.{ℕ, suc, _<_}
 use Rattle.octets.specs.Compare.{same}
 use Rattle.octets.proofs.Choices.{cases}
 use Rattle.octets.proofs.Tests.{same-true, same-refl}
-use Rattle.engine.specs.Documents.{Key, Doc, Entry}
+use Rattle.engine.specs.Documents.{Key, Doc}
 use Rattle.engine.specs.Engine.{Laws, kept}
 use Rattle.table.specs.Row.{Row}
-use Rattle.table.specs.Plain.{findRow, freeRows, replace, fill, putRow, purgeRows, Distinct, plain}
+use Rattle.table.specs.Plain.{findRow, freeRows, replace, fill, purgeRows, Distinct, plain}
 
 -- by what an option is, with its equation
 pub options {ℓ κ} : {A : Type ℓ} {X : Type κ} (o : Option A) → (o ≡ none → X) → ((a : A) → o ≡ some a → X) → X
