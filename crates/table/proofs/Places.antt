@@ -38,10 +38,10 @@ module _ (key : Key) where
     pub put : (d : Doc) → replace ws key d ≡ set ws i (some (record { key = key; doc = d }))
 
   -- the lowest free row is at i
-  pub record Gap (i : ℕ) (ws : List Row) : Type 0 where
-    pub below : i < length ws
-    pub room : 0 < freeRows ws
-    pub put : (d : Doc) → fill ws key d ≡ set ws i (some (record { key = key; doc = d }))
+  record Gap (i : ℕ) (ws : List Row) : Type 0 where
+    below : i < length ws
+    room : 0 < freeRows ws
+    put : (d : Doc) → fill ws key d ≡ set ws i (some (record { key = key; doc = d }))
 
   here-next : (j : ℕ) (w : Row) (ws : List Row) → findRow (w ∷ ws) key ≡ findRow ws key → ((d : Doc) → replace (w ∷ ws) key d ≡ w ∷ replace ws key d) → Here j ws → Here (suc j) (w ∷ ws)
   here-next j w ws f p h = record {

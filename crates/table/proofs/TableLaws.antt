@@ -135,10 +135,10 @@ sound-parts b e =
       keys = k .1;
     }
 
-pub record HeadGood (h : Head) : Type 0 where
-  pub state : (1 ≤ h .state) × (h .state ≤ 4)
-  pub mode : (1 ≤ h .mode) × (h .mode ≤ 2)
-  pub clock : h .clock ≡ 0
+record HeadGood (h : Head) : Type 0 where
+  state : (1 ≤ h .state) × (h .state ≤ 4)
+  mode : (1 ≤ h .mode) × (h .mode ≤ 2)
+  clock : h .clock ≡ 0
 
 module _ (h : Head) where
   head-parts : headOk h ≡ true → HeadGood h
