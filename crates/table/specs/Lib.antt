@@ -5,3 +5,4 @@ pub mod Damage
 pub mod Store
 pub mod Plain
 pub mod Claims
+pub mod Purge

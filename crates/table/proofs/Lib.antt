@@ -1,0 +1,6 @@
+pub mod PlainLaws
+pub mod Places
+pub mod RowLaws
+pub mod TableLaws
+pub mod ChangeLaws
+pub mod PurgeBytes
