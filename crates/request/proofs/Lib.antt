@@ -1,3 +1,4 @@
 pub mod Frames
 pub mod WriterLaws
 pub mod RoundTrip
+pub mod OneCall

@@ -13,6 +13,8 @@ ghost use Rattle.request.specs.Writing.{headerFor, frameBytes, writing, 
 use header::Header;
 use numbers::Cas;
 
+pub mod view;
+
 // The header fields that a sender chooses.
 pub struct Fields {
     pub opcode: u8,
