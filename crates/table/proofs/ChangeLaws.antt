@@ -12,7 +12,7 @@ use Rattle.octets.specs.BigEndian.{bytesOf}
 use Rattle.octets.proofs.Choices.{cases}
 use Rattle.octets.proofs.Lists.{pasted-skip, pasted-over}
 use Rattle.engine.specs.Documents.{Doc, Entry}
-use Rattle.table.specs.declared.Head.{Head}
+use Rattle.engine.specs.declared.Head.{Head}
 use Rattle.table.specs.Row.{Row, rowBytes}
 use Rattle.table.specs.Table.{Table, headBytes, rowsBytes, tableBytes, withRow, withMark, fresh}
 use Rattle.table.specs.Store.{stored}

@@ -4,3 +4,5 @@ pub mod RowLaws
 pub mod TableLaws
 pub mod ChangeLaws
 pub mod PurgeBytes
+pub mod Rows
+pub mod Writes

@@ -14,7 +14,7 @@ use Rattle.octets.specs.BigEndian.{bytesOf}
 use Rattle.octets.proofs.Choices.{both}
 use Rattle.octets.proofs.Lists.{bytes-take, bytes-drop, glue, glue-rest}
 use Rattle.octets.proofs.Numbers.{be-bytes, num-back, num-below}
-use Rattle.table.specs.declared.Head.{Head}
+use Rattle.engine.specs.declared.Head.{Head}
 use Rattle.table.specs.declared.Found.{Found}
 use Rattle.table.specs.declared.Found.the-variants.{At, Nothing}
 use Rattle.table.specs.Row.{Row, rowOf, rowBytes}

@@ -8,7 +8,7 @@ use lib.Dec.{eqb, leb}
 use Rattle.octets.specs.Choice.{pick}
 use Rattle.octets.specs.Compare.{zeros}
 use Rattle.table.specs.declared.Slot.{Slot}
-use Rattle.table.specs.declared.Head.{Head}
+use Rattle.engine.specs.declared.Head.{Head}
 use Rattle.table.specs.Row.{Row, slotOf}
 use Rattle.table.specs.Table.{headOf, chunks, rowCount, rowsOf}
 use Rattle.table.specs.Lookup.{findIn, missing}

@@ -5,7 +5,8 @@ use mathlib.Core.Option.{Option, none, some}
 use lib.ListN.{length, take, drop, set, replicate}
 use Rattle.octets.specs.BigEndian.{num, bytesOf}
 use Rattle.numbers.specs.declared.Cas.{Cas}
-use Rattle.table.specs.declared.Head.{Head}
+use Rattle.engine.specs.declared.Head.{Head}
+use Rattle.engine.specs.Head.{marked}
 use Rattle.table.specs.Row.{Row, rowOf, rowBytes}
 
 pub record Table : Type 0 where
@@ -45,9 +46,6 @@ tableBytes t = headBytes (t .head) ++ rowsBytes (t .rows)
 -- t with the row at a place set, and with another mark
 abbrev pub withRow : Table → ℕ → Row → Table
 withRow t i w = record { head = t .head; rows = set (t .rows) i w }
-
-abbrev pub marked : Head → ℕ → Head
-marked h m = record { state = h .state; mode = h .mode; vbucket = h .vbucket; clock = h .clock; mark = record { 0 = m } }
 
 abbrev pub withMark : Table → ℕ → Table
 withMark t m = record { head = marked (t .head) m; rows = t .rows }

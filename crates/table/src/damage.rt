@@ -7,8 +7,8 @@ ghost use Rattle.table.specs.Table.{chunks, rowCount, rowsOf};
 ghost use Rattle.table.specs.Lookup.{missing};
 ghost use Rattle.table.specs.Damage.{sizeOk, headOk, usedOk, rowSound, allSound, distinct, sound};
 use crate::Found;
-use crate::Head;
 use crate::Slot;
+use engine::Head;
 
 fn used_ok(s: Slot, mark: u64) -> bool
     ensures { λ r. ⌜ r ≡ usedOk mark s ⌝ }

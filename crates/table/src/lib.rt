@@ -8,21 +8,9 @@ pub mod store;
 ghost use mathlib.Core.Path.{_≡_};
 ghost use Prim.Native.Nat.{_-_, _/_};
 ghost use Rattle.table.specs.Table.{headOf};
+use engine::Head;
 use numbers::Cas;
 use numbers::Numbers;
-
-// The table's header.
-pub struct Head {
-    // 1 active, 2 replica, 3 pending, 4 dead
-    pub state: u8,
-    // 1 revision, 2 last-write-wins
-    pub mode: u8,
-    pub vbucket: u16,
-    // kept 0
-    pub clock: u32,
-    // the mark: no used row has a CAS above it
-    pub mark: Cas,
-}
 
 // The fixed part of a row.
 pub struct Slot {

@@ -58,6 +58,9 @@ fn free_from(s: &[u8], at: usize, left: usize, i: usize) -> Found
 pub fn find(s: &[u8], key: &[u8]) -> Found
     ensures { λ r. ⌜ r ≡ findIn (now (key .entry)) 0 (tableOf (now (s .entry)) .rows) ⌝ }
 {
+    if s.len() < 16 {
+        return Found::Nothing;
+    }
     find_from(s, key, 16, crate::rows_in(s.len()), 0)
 }
 
@@ -65,6 +68,9 @@ pub fn find(s: &[u8], key: &[u8]) -> Found
 pub fn free(s: &[u8]) -> Found
     ensures { λ r. ⌜ r ≡ freeIn 0 (tableOf (now (s .entry)) .rows) ⌝ }
 {
+    if s.len() < 16 {
+        return Found::Nothing;
+    }
     free_from(s, 16, crate::rows_in(s.len()), 0)
 }
 

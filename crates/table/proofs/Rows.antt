@@ -1,0 +1,127 @@
+-- One row of a run of rows: what each pass over rows makes of it, and what a row's first bytes say.
+use Prim.Native.Nat.{ℕ, zero, suc, _+_, _-_, _*_, _≤_, _<_}
+use mathlib.Core.Path.{_≡_, refl, sym, ap, _∙_}
+use mathlib.Core.Bool.{Bool, true, false, _&&_, not}
+use mathlib.Core.List.{List, [], _∷_, map}
+use mathlib.Core.Option.{Option, none, some}
+use native.Mathlib.Omega.{arith}
+use native.Mathlib.Numerals.{add-one}
+use lib.Dec.{eqb, leb}
+use lib.ListN.{length, take, drop, getD}
+use lib.Seq.{drop-drop}
+use borrow.Author.Tests.{eqb-true, eqb-false, eq-eqb, ne-eqb}
+use Rattle.octets.specs.Choice.{pick}
+use Rattle.octets.specs.Parts.{part}
+use Rattle.octets.specs.BigEndian.{num, be, beFrom}
+use Rattle.octets.specs.Compare.{same, zeros}
+use Rattle.octets.proofs.Choices.{cases, both}
+use Rattle.table.specs.declared.Found.{Found}
+use Rattle.table.specs.declared.Found.the-variants.{At, Nothing}
+use Rattle.table.specs.Row.{Row, slotOf, docOf, keyOf, rowOf}
+use Rattle.table.specs.Table.{headOf, chunks, rowCount, rowsOf, tableOf}
+use Rattle.table.specs.Lookup.{holds, isFree, findIn, freeIn, missing}
+use Rattle.table.specs.Damage.{sizeOk, headOk, usedOk, rowSound, allSound, distinct, sound}
+use Rattle.table.specs.Store.{rowAt}
+
+pub none-left : (n : ℕ) (b : List ℕ) → n ≤ 0 → chunks n b ≡ []
+none-left n b h = let e : n ≡ 0 = omega arith in rw e
+
+module _ (s : List ℕ) (at n : ℕ) (h : 0 < n) where
+  pub one-row : chunks n (drop at s) ≡ part s at 1312 ∷ chunks (n - 1) (drop (at + 1312) s)
+  one-row =
+      let e : n ≡ suc (n - 1) = omega arith in
+      ap (λ (m : ℕ). chunks m (drop at s)) e ∙ rw (drop-drop 1312 at s)
+
+  pub sound-row : (mark : ℕ) → allSound mark (chunks n (drop at s)) ≡ (rowSound mark (part s at 1312) && allSound mark (chunks (n - 1) (drop (at + 1312) s)))
+  sound-row mark = ap (allSound mark) one-row
+
+  pub find-row : (key : List ℕ) (i : ℕ) → findIn key i (rowsOf n (drop at s)) ≡ pick (holds key (rowOf (part s at 1312))) (At i) (findIn key (i + 1) (rowsOf (n - 1) (drop (at + 1312) s)))
+  find-row key i = ap (λ (l : List (List ℕ)). findIn key i (map rowOf l)) one-row
+
+  pub free-row : (i : ℕ) → freeIn i (rowsOf n (drop at s)) ≡ pick (isFree (rowOf (part s at 1312))) (At i) (freeIn (i + 1) (rowsOf (n - 1) (drop (at + 1312) s)))
+  free-row i = ap (λ (l : List (List ℕ)). freeIn i (map rowOf l)) one-row
+
+-- the two bytes of a number that is 0
+zeros-two : (r : List ℕ) → num r 0 2 ≡ 0 → zeros r ≡ zeros (drop 2 r)
+unfolding be beFrom zeros
+zeros-two [] e = refl
+zeros-two (x ∷ []) e = let z : x ≡ 0 = omega arith in rw z
+zeros-two (x ∷ y ∷ r) e = let z : x ≡ 0 = omega arith in let w : y ≡ 0 = omega arith in rw (z, w)
+
+-- a row is free where its kind is 0
+module _ (r : List ℕ) where
+  pub row-free : num r 0 2 ≡ 0 → rowOf r ≡ none
+  unfolding rowOf slotOf
+  row-free e = rw e
+
+  pub row-used : (num r 0 2 ≡ 0 → ⊥) → rowOf r ≡ some (record { key = keyOf r; doc = docOf r })
+  unfolding rowOf slotOf
+  row-used e = rw (ne-eqb (num r 0 2) 0 e)
+
+  pub is-free : isFree (rowOf r) ≡ eqb (num r 0 2) 0
+  is-free =
+      cases (eqb (num r 0 2) 0)
+      (λ t. rw (row-free (eqb-true (num r 0 2) 0 t), t))
+      (λ f. rw (row-used (eqb-false (num r 0 2) 0 f), f))
+
+  pub row-holds : (key : List ℕ) → (not (eqb (num r 0 2) 0) && same (part r 32 (num r 2 2)) key) ≡ holds key (rowOf r)
+  unfolding keyOf slotOf
+  row-holds key =
+      cases (eqb (num r 0 2) 0)
+      (λ t. rw (row-free (eqb-true (num r 0 2) 0 t), t))
+      (λ f. rw (row-used (eqb-false (num r 0 2) 0 f), f))
+
+  -- the zero check of a free row passes over its kind, which was looked at before
+  pub sound-free : (mark : ℕ) → num r 0 2 ≡ 0 → rowSound mark r ≡ zeros (drop 2 r)
+  unfolding rowSound slotOf
+  sound-free mark e = rw e (zeros-two r e)
+
+  pub sound-used : (mark : ℕ) → (num r 0 2 ≡ 0 → ⊥) → rowSound mark r ≡ (usedOk mark (slotOf r) && zeros (drop (32 + (num r 2 2 + num r 4 4)) r))
+  unfolding rowSound slotOf
+  sound-used mark e = rw (ne-eqb (num r 0 2) 0 e)
+
+-- the first of a run of rows, compared with those after it
+module _ (s : List ℕ) (at later : ℕ) where
+  first-row : rowsOf (later + 1) (drop at s) ≡ rowOf (part s at 1312) ∷ rowsOf later (drop (at + 1312) s)
+  first-row = rw (add-one, drop-drop 1312 at s)
+
+  pub distinct-free : num (part s at 1312) 0 2 ≡ 0 → distinct (rowsOf later (drop (at + 1312) s)) ≡ distinct (rowsOf (later + 1) (drop at s))
+  distinct-free e = rw (first-row, row-free (part s at 1312) e)
+
+  pub distinct-used : (num (part s at 1312) 0 2 ≡ 0 → ⊥) → (missing (findIn (part (part s at 1312) 32 (num (part s at 1312) 2 2)) 0 (rowsOf later (drop (at + 1312) s))) && distinct (rowsOf later (drop (at + 1312) s))) ≡ distinct (rowsOf (later + 1) (drop at s))
+  unfolding keyOf slotOf
+  distinct-used e = rw (first-row, row-used (part s at 1312) e)
+
+-- the row at a place
+chunk-at : (n i : ℕ) (b : List ℕ) → i < n → getD (chunks n b) i [] ≡ part b (i * 1312) 1312
+chunk-at zero i b h = let z : ⊥ = omega arith in absurd z
+chunk-at (suc n) zero b h = refl
+chunk-at (suc n) (suc i) b h =
+    let e : suc i * 1312 ≡ 1312 + i * 1312 = omega arith in
+    chunk-at n i (drop 1312 b) (omega arith) ∙ rw (e, drop-drop (i * 1312) 1312 b)
+
+chunk-none : (n i : ℕ) (b : List ℕ) → n ≤ i → getD (chunks n b) i [] ≡ []
+chunk-none zero i b h = refl
+chunk-none (suc n) zero b h = let z : ⊥ = omega arith in absurd z
+chunk-none (suc n) (suc i) b h = chunk-none n i (drop 1312 b) (omega arith)
+
+module _ (b : List ℕ) (i : ℕ) where
+  pub row-there : i < rowCount b → rowAt b i ≡ part b (16 + i * 1312) 1312
+  row-there h = chunk-at (rowCount b) i (drop 16 b) h ∙ rw (drop-drop (i * 1312) 16 b)
+
+  pub row-nowhere : rowCount b ≤ i → rowAt b i ≡ []
+  row-nowhere h = chunk-none (rowCount b) i (drop 16 b) h
+
+-- memory with no room for a header has no rows
+pub no-rows : (b : List ℕ) → length b < 16 → tableOf b .rows ≡ []
+unfolding tableOf
+no-rows b h = let z : rowCount b ≡ 0 = omega arith in rw z
+
+-- the damage test, part by part
+pub sound-is : (b : List ℕ) → sound b ≡ (sizeOk (length b) (rowCount b) && (headOk (headOf b) && (allSound (headOf b .mark .0) (chunks (rowCount b) (drop 16 b)) && distinct (rowsOf (rowCount b) (drop 16 b)))))
+unfolding sound
+sound-is b = refl
+
+pub size-is : (len n : ℕ) → sizeOk len n ≡ true → len ≡ 16 + n * 1312
+unfolding sizeOk
+size-is len n e = eqb-true len (16 + n * 1312) (both (leb n 256) (eqb len (16 + n * 1312)) (both (leb 1 n) (leb n 256 && eqb len (16 + n * 1312)) e .1) .1)
