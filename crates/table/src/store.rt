@@ -2,9 +2,11 @@
 ghost use mathlib.Core.Path.{_≡_};
 ghost use Prim.Native.Nat.{_+_};
 ghost use lib.Dec.{leb};
+ghost use Rattle.engine.specs.Stored.{heldOf};
 ghost use Rattle.table.specs.Row.{slotOf, docOf};
 ghost use Rattle.table.specs.Store.{rowAt, valueAt, stored};
 use crate::Slot;
+use engine::Held;
 use numbers::Cas;
 use numbers::Numbers;
 
@@ -23,6 +25,18 @@ pub fn slot_at(s: &[u8], i: usize) -> Slot
     ensures { λ r. ⌜ r ≡ slotOf (rowAt (now (s .entry)) i) ⌝ }
 {
     crate::row::slot(row_at(s, i))
+}
+
+// What the row at a place holds, the value aside.
+pub fn held_at(s: &[u8], i: usize) -> Held
+    ensures { λ r. ⌜ r ≡ heldOf (docOf (rowAt (now (s .entry)) i)) ⌝ }
+{
+    let h = slot_at(s, i);
+    let numbers = h.numbers;
+    Held {
+        tomb: h.kind == 2,
+        numbers,
+    }
 }
 
 // Where the value of the row at a place stands in memory; 0 where there is no such row.

@@ -1,0 +1,45 @@
+-- What the owner's calls mean on a sound table. Proved in proofs/Tells.antt.
+use Prim.Native.Nat.{ℕ, _+_, _≤_, _<_}
+use mathlib.Core.Path.{_≡_}
+use mathlib.Core.List.{List}
+use mathlib.Core.Bool.{Bool, true, false, cond}
+use mathlib.Core.Logic.{_⊎_}
+use mathlib.Core.Option.{Option, none, some}
+use lib.ListN.{length}
+use Rattle.octets.specs.Parts.{Bytes, part}
+use Rattle.engine.specs.Documents.{Key, Doc}
+use Rattle.engine.specs.Stored.{storedOf, live}
+use Rattle.table.specs.Table.{tableOf}
+use Rattle.table.specs.Damage.{sound}
+use Rattle.table.specs.Plain.{findRow}
+use Rattle.owner.specs.declared.Document.the-variants.{Missing, Live}
+use Rattle.owner.specs.Owner.{readOf, purgedBytes, made, makeOutcome}
+
+-- the live document of a key
+abbrev pub liveDoc : List ℕ → ℕ → Key → Option Doc
+liveDoc b clock key = cond (live (storedOf (findRow (tableOf b .rows) key)) clock) (findRow (tableOf b .rows) key) none
+
+-- reading shows a document: its numbers, and its value as a part of the table memory
+pub record Shows (b : List ℕ) (clock : ℕ) (key : Key) (d : Doc) : Type 0 where
+  pub at : ℕ
+  pub len : ℕ
+  pub answer : readOf b clock key ≡ Live (d .numbers) at len
+  pub inside : at + len ≤ length b
+  pub value : part b at len ≡ d .value
+
+abbrev pub ReadShows : Type 0
+ReadShows = (b : List ℕ) (clock : ℕ) (key : Key) (d : Doc) → Bytes b → sound b ≡ true → liveDoc b clock key ≡ some d → Shows b clock key d
+
+abbrev pub ReadMisses : Type 0
+ReadMisses = (b : List ℕ) (clock : ℕ) (key : Key) → Bytes b → sound b ≡ true → liveDoc b clock key ≡ none → readOf b clock key ≡ Missing
+
+-- "so for a key of 0 or over 250 bytes too"
+abbrev pub NoSuchKey : Type 0
+NoSuchKey = (b : List ℕ) (clock : ℕ) (key : Key) → Bytes b → sound b ≡ true → (length key ≡ 0) ⊎ (250 < length key) → readOf b clock key ≡ Missing
+
+-- a purged table is sound, and so is one that was made
+abbrev pub PurgeSound : Type 0
+PurgeSound = (b : List ℕ) (clock bound : ℕ) → Bytes b → sound b ≡ true → sound (purgedBytes b clock bound) ≡ true
+
+abbrev pub MakeSound : Type 0
+MakeSound = (b : List ℕ) (n state mode vbucket : ℕ) → vbucket < 65536 → makeOutcome (length b) n state mode ≡ 0 → sound (made b n state mode vbucket) ≡ true

@@ -1,0 +1,79 @@
+-- The owner's calls, on any memory: make a fresh table, read a document, purge. "Both answer 5 on a damaged table and change nothing."
+use Prim.Native.Nat.{ℕ, _+_, _*_}
+use mathlib.Core.List.{List}
+use mathlib.Core.Bool.{Bool, true, false, cond, _&&_, _||_}
+use mathlib.Core.Option.{Option, none, some}
+use lib.ListN.{length}
+use lib.Dec.{leb}
+use Rattle.numbers.specs.declared.Numbers.{Numbers}
+use Rattle.numbers.specs.Expiry.{expired}
+use Rattle.engine.specs.Documents.{Doc}
+use Rattle.engine.specs.Stored.{heldOf, live}
+use Rattle.engine.specs.declared.Stored.the-variants.{Used}
+use Rattle.table.specs.declared.Found.{Found}
+use Rattle.table.specs.declared.Found.the-variants.{At, Nothing}
+use Rattle.table.specs.Row.{slotOf, docOf}
+use Rattle.table.specs.Table.{tableOf, tableBytes, fresh}
+use Rattle.table.specs.Lookup.{findIn}
+use Rattle.table.specs.Damage.{sizeOk, sound}
+use Rattle.table.specs.Store.{rowAt, valueAt}
+use Rattle.table.specs.Purge.{purgedTable, goneCount}
+use Rattle.owner.specs.declared.Document.{Document}
+use Rattle.owner.specs.declared.Document.the-variants.{Damaged, Missing, Live}
+use Rattle.owner.specs.declared.Purged.{Purged}
+use Rattle.owner.specs.declared.Purged.the-variants.{Spoiled, Freed}
+
+-- 01's numbers for the answers: outcome 5 on a damaged table, status 0x01 where there is no live document
+abbrev pub outcomeOf : Document → ℕ
+outcomeOf Damaged = 5
+outcomeOf Missing = 0
+outcomeOf (Live n at len) = 0
+
+abbrev pub statusOf : Document → ℕ
+statusOf Damaged = 0
+statusOf Missing = 0x01
+statusOf (Live n at len) = 0
+
+abbrev pub purgeOutcome : Purged → ℕ
+purgeOutcome Spoiled = 5
+purgeOutcome (Freed n) = 0
+
+-- the bytes that a table of n rows needs, 0 where no table has so many
+unfoldable pub sizeOf : ℕ → ℕ
+sizeOf n = cond (leb 1 n && leb n 256) (16 + n * 1312) 0
+
+-- "Making one is refused with 5, lent memory unchanged, exactly if the row count, state or mode is out of range or the memory isn't exactly as large as that row count needs."
+unfoldable pub makeOk : ℕ → ℕ → ℕ → ℕ → Bool
+makeOk len n state mode = sizeOk len n && ((leb 1 state && leb state 4) && (leb 1 mode && leb mode 2))
+
+unfoldable pub makeOutcome : ℕ → ℕ → ℕ → ℕ → ℕ
+unfolding makeOk
+makeOutcome len n state mode = cond (makeOk len n state mode) 0 5
+
+unfoldable pub made : List ℕ → ℕ → ℕ → ℕ → ℕ → List ℕ
+unfolding makeOk
+made b n state mode vbucket = cond (makeOk (length b) n state mode) (tableBytes (fresh n state mode vbucket)) b
+
+-- "the live document's four numbers and where its value stands in the table memory, or status 0x01 exactly if there is none"
+unfoldable pub shownAt : List ℕ → ℕ → ℕ → Document
+shownAt b clock i = cond (live (Used (heldOf (docOf (rowAt b i)))) clock) (Live (slotOf (rowAt b i) .numbers) (valueAt b i) (slotOf (rowAt b i) .vallen)) Missing
+
+abbrev pub shown : List ℕ → ℕ → Found → Document
+shown b clock (At i) = shownAt b clock i
+shown b clock Nothing = Missing
+
+unfoldable pub readOf : List ℕ → ℕ → List ℕ → Document
+unfolding shownAt
+readOf b clock key = cond (sound b) (shown b clock (findIn key 0 (tableOf b .rows))) Damaged
+
+-- "It frees exactly the tombstones and expired documents with CAS at or below the bound, reports how many, and leaves the mark."
+unfoldable pub goneDoc : ℕ → ℕ → Doc → Bool
+goneDoc clock bound d = (d .tomb || expired (d .numbers .expiry) clock) && leb (d .numbers .cas .0) bound
+
+unfoldable pub purgeOf : List ℕ → ℕ → ℕ → Purged
+unfolding goneDoc
+purgeOf b clock bound = cond (sound b) (Freed (goneCount (goneDoc clock bound) (tableOf b .rows))) Spoiled
+
+unfoldable pub purgedBytes : List ℕ → ℕ → ℕ → List ℕ
+unfolding goneDoc
+purgedBytes b clock bound = cond (sound b) (tableBytes (purgedTable (goneDoc clock bound) (tableOf b))) b

@@ -1,0 +1,20 @@
+use Rattle.table.specs.Row.{docOf}
+use mathlib.Core.Path.{_≡_, refl}
+use borrow.Author.Needs.{needs}
+use Rattle.table.proofs.store.held_at.Statement.{statement}
+use Rattle.table.proofs.store.held_at.Tie as tie
+use Rattle.table.proofs.store.held_at.Reads as reads
+use Rattle.table.proofs.store.held_at.Lts as lts
+use Rattle.table.proofs.store.slot_at.Reads as slot-at-reads
+
+-- src/store.rt:34:9
+slot-at-requires : tie.Need-slot-at-requires
+slot-at-requires c κs = search needs
+
+-- src/store.rt:31:1
+returns : tie.Need-returns
+unfolding docOf
+returns c = simp ((c .before .before .slot-at) .ensures)
+
+pub held-at-spec : {M : Type 1} → statement M
+held-at-spec = tie.close (tie.spec slot-at-requires returns)
