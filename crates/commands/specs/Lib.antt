@@ -1,3 +1,5 @@
 pub mod Rules
 pub mod Done
 pub mod Decide
+pub mod Merging
+pub mod Claims

@@ -1,3 +1,4 @@
 pub mod Order
 pub mod Expiry
 pub mod Growth
+pub mod Claims

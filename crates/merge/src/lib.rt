@@ -1,0 +1,1 @@
+// The merge theorem: definitions, statement and proof alone, in specs/ and proofs/.
