@@ -1,11 +1,10 @@
 -- What writing a row and a mark leaves.
-use Prim.Native.Nat.{ℕ, _+_, _-_, _*_, _/_, _≤_, _<_}
-use mathlib.Core.Path.{_≡_, refl, sym, ap, _∙_}
-use mathlib.Core.Bool.{Bool, true, false, _&&_, and-false}
-use mathlib.Core.List.{List, [], _∷_, _++_, append-assoc}
+use Prim.Native.Nat.{ℕ, _+_, _-_, _*_, _≤_, _<_}
+use mathlib.Core.Path.{_≡_, refl, ap, _∙_}
+use mathlib.Core.Bool.{false, and-false}
+use mathlib.Core.List.{List, _++_}
 use mathlib.Core.Option.{some}
 use native.Mathlib.Omega.{arith}
-use native.Mathlib.Nat.{add-assoc}
 use lib.Dec.{leb}
 use lib.ListN.{length, replicate, length-append, length-replicate}
 use borrow.Author.Tests.{lt-ltb, le-ltb, le-leb}
@@ -14,7 +13,6 @@ use Rattle.octets.specs.BigEndian.{bytesOf}
 use Rattle.octets.proofs.Lists.{length-pasted, length-written, written-fits, then, then-two}
 use Rattle.octets.proofs.Numbers.{length-bytes}
 use Rattle.engine.specs.Documents.{Entry}
-use Rattle.table.specs.declared.Slot.{Slot}
 use Rattle.table.specs.Row.{sizeBytes, shortBytes, longBytes, slotBytes, slotFor, usedBytes, rowBytes}
 use Rattle.table.specs.Table.{rowCount}
 use Rattle.table.specs.Store.{stored}
@@ -26,9 +24,9 @@ module _ (e : Entry) (room : length (e .key) + length (e .doc .value) ≤ 1280) 
 
   -- a row's four writes: the fixed part, the key, the value and zeros
   pub row-put : (s0 s1 s2 s3 s4 : List ℕ) (at : ℕ) → at + 1312 ≤ length s0
-    → s1 ≡ written s0 at (slotBytes (slotFor e)) → s2 ≡ written s1 (at + 32) (e .key) → s3 ≡ written s2 (at + 32 + length (e .key)) (e .doc .value)
-    → s4 ≡ written s3 (at + 32 + length (e .key) + length (e .doc .value)) (replicate (1280 - (length (e .key) + length (e .doc .value))) 0)
-    → s4 ≡ pasted s0 at (rowBytes (some e))
+      → s1 ≡ written s0 at (slotBytes (slotFor e)) → s2 ≡ written s1 (at + 32) (e .key) → s3 ≡ written s2 (at + 32 + length (e .key)) (e .doc .value)
+      → s4 ≡ written s3 (at + 32 + length (e .key) + length (e .doc .value)) (replicate (1280 - (length (e .key) + length (e .doc .value))) 0)
+      → s4 ≡ pasted s0 at (rowBytes (some e))
   unfolding rowBytes usedBytes slotBytes sizeBytes shortBytes longBytes bytesOf
   row-put s0 s1 s2 s3 s4 at h p q r t =
       let k = e .key in
