@@ -49,11 +49,12 @@ all-zero-requires-2 c κs = search needs
 
 returns-2 : tie.Need-returns-2
 unfolding slotOf
-returns-2 c = let r = c .before .before .before .before .before .before .before .before .before .args .r .now in
+returns-2 c =
+    let r = c .before .before .before .before .before .before .before .before .before .args .r .now in
     let mark = c .before .before .before .before .before .before .before .before .before .args .mark in
-    (λ i. (c .before .before .used-ok) .ensures i && (c .all-zero2 .ensures ∙ ap zeros (c .before .rest2 .ensures)) i)
+    (λ i. c .before .before .used-ok .ensures i && (c .all-zero2 .ensures ∙ ap zeros (c .before .rest2 .ensures)) i)
     ∙ ap (λ (h : Slot). usedOk mark h && zeros (drop (32 + (h .keylen + h .vallen)) r)) (c .before .before .before .before .before .slot .ensures)
-    ∙ sym (sound-used r mark (λ z. (c .before .before .before .before .before .before .if1) .left (c .before .before .before .before .before .before .before .be16 .ensures ∙ z)))
+    ∙ sym (sound-used r mark (λ z. c .before .before .before .before .before .before .if1 .left (c .before .before .before .before .before .before .before .be16 .ensures ∙ z)))
 
 pub row-sound-spec : {M : Type 1} → statement M
 row-sound-spec =

@@ -58,9 +58,12 @@ same-length c = search needs
 
 returns : tie.Need-returns
 unfolding slotFor
-returns c = let a = c .before .before .before .before .before .before .before .before .before .before .before .before .before .before .before .before .before .before .before .before .args in
-    row-put (record { key = a .key .now; doc = record { tomb = a .tomb; value = a .value .now; numbers = a .n } }) (c .before .before .before .before .before .before .before .before .before .before .before .before .before .before .before .before .before .before .before .before .pre .1) _ _ _ _ _ (a .at) (c .before .before .before .before .before .before .before .before .before .before .before .before .before .before .before .before .before .before .before .before .pre .0)
-    (c .before .before .before .before .before .before .before .before .before .before .before .before .before .before .put-slot .ensures ∙ ap (λ (k : ℕ). written (a .s .now) (a .at) (slotBytes (record { kind = k; keylen = length (a .key .now); vallen = length (a .value .now); numbers = a .n }))) (c .before .before .before .before .before .before .before .before .before .before .before .before .before .before .before .before .kind-of .ensures))
+returns c =
+    let g = c .before .before .before .before .before .before .before .before .before .before .before .before .before .before in
+    let q = g .before .before .before .before .before .before in
+    let a = q .args in
+    row-put (record { key = a .key .now; doc = record { tomb = a .tomb; value = a .value .now; numbers = a .n } }) (q .pre .1) _ _ _ _ _ (a .at) (q .pre .0)
+    (g .put-slot .ensures ∙ ap (λ (k : ℕ). written (a .s .now) (a .at) (slotBytes (record { kind = k; keylen = length (a .key .now); vallen = length (a .value .now); numbers = a .n }))) (g .before .before .kind-of .ensures))
     (c .before .before .before .before .before .before .before .before .before .before .put-bytes .ensures) (c .before .before .before .before .before .before .put-bytes2 .ensures) (c .before .before .put-zeros .ensures)
 
 pub put-row-spec : {M : Type 1} → statement M

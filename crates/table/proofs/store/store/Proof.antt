@@ -41,8 +41,11 @@ same-length c = search needs
 
 returns-3 : tie.Need-returns-3
 returns-3 c =
-    let a = c .before .before .before .before .before .before .before .before .before .before .before .before .before .before .before .args in
-    store-put (a .s .now) (a .i) (record { key = a .key .now; doc = record { tomb = a .tomb; value = a .value .now; numbers = a .n } }) (a .mark .0) (rw (c .before .before .before .before .before .before .before .before .before .before .before .rows-in .ensures) at (c .before .before .before .before .before .before .before .before .before .before .if1 .left)) (leb-true _ _ (sym (c .before .before .before .before .before .before .before .before .before .fits2 .ensures) ∙ not-false _ (c .before .before .before .before .before .before .before .before .if2 .left))) _ _ (c .before .before .before .before .before .before .put-row .ensures) (c .before .before .put-be .ensures)
+    let d = c .before .before .before .before .before .before .before .before in
+    let a = d .before .before .before .before .before .before .before .args in
+    let room = leb-true _ _ (sym (d .before .fits2 .ensures) ∙ not-false _ (d .if2 .left)) in
+    store-put (a .s .now) (a .i) (record { key = a .key .now; doc = record { tomb = a .tomb; value = a .value .now; numbers = a .n } }) (a .mark .0)
+    (rw (d .before .before .before .rows-in .ensures) at (d .before .before .if1 .left)) room _ _ (c .before .before .before .before .before .before .put-row .ensures) (c .before .before .put-be .ensures)
 
 pub store-spec : {M : Type 1} → statement M
 store-spec =

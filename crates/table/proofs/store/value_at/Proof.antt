@@ -36,7 +36,8 @@ add-result-3 c = search needs
 
 returns : tie.Need-returns
 unfolding valueAt slotOf
-returns c = let s = c .before .before .before .before .before .args .s .now in
+returns c =
+    let s = c .before .before .before .before .before .args .s .now in
     let i = c .before .before .before .before .before .args .i in
     rw (lt-ltb i (rowCount s) (rw (c .before .before .before .rows-in .ensures) at (c .before .before .if1 .taken))) (ap (λ (k : ℕ). 16 + i * 1312 + 32 + k) (c .be16 .ensures ∙ ap (λ (r : List ℕ). num r 2 2) (c .before .row-at .ensures)))
 
