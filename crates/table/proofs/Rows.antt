@@ -1,23 +1,23 @@
 -- One row of a run of rows: what each pass over rows makes of it, and what a row's first bytes say.
 use Prim.Native.Nat.{ℕ, zero, suc, _+_, _-_, _*_, _≤_, _<_}
 use mathlib.Core.Path.{_≡_, refl, sym, ap, _∙_}
-use mathlib.Core.Bool.{Bool, true, false, _&&_, not}
+use mathlib.Core.Bool.{true, _&&_, not}
 use mathlib.Core.List.{List, [], _∷_, map}
-use mathlib.Core.Option.{Option, none, some}
+use mathlib.Core.Option.{none, some}
 use native.Mathlib.Omega.{arith}
 use native.Mathlib.Numerals.{add-one}
 use lib.Dec.{eqb, leb}
-use lib.ListN.{length, take, drop, getD}
+use lib.ListN.{length, drop, getD}
 use lib.Seq.{drop-drop}
-use borrow.Author.Tests.{eqb-true, eqb-false, eq-eqb, ne-eqb}
+use borrow.Author.Tests.{eqb-true, eqb-false, ne-eqb}
 use Rattle.octets.specs.Choice.{pick}
 use Rattle.octets.specs.Parts.{part}
 use Rattle.octets.specs.BigEndian.{num, be, beFrom}
 use Rattle.octets.specs.Compare.{same, zeros}
 use Rattle.octets.proofs.Choices.{cases, both}
-use Rattle.table.specs.declared.Found.{Found}
-use Rattle.table.specs.declared.Found.the-variants.{At, Nothing}
-use Rattle.table.specs.Row.{Row, slotOf, docOf, keyOf, rowOf}
+use Rattle.table.specs.declared.Found.the-variants.{At}
+use Rattle.engine.specs.declared.Head.{Head}
+use Rattle.table.specs.Row.{slotOf, docOf, keyOf, rowOf}
 use Rattle.table.specs.Table.{headOf, chunks, rowCount, rowsOf, tableOf}
 use Rattle.table.specs.Lookup.{holds, isFree, findIn, freeIn, missing}
 use Rattle.table.specs.Damage.{sizeOk, headOk, usedOk, rowSound, allSound, distinct, sound}
@@ -117,10 +117,11 @@ pub no-rows : (b : List ℕ) → length b < 16 → tableOf b .rows ≡ []
 unfolding tableOf
 no-rows b h = let z : rowCount b ≡ 0 = omega arith in rw z
 
--- the damage test, part by part
-pub sound-is : (b : List ℕ) → sound b ≡ (sizeOk (length b) (rowCount b) && (headOk (headOf b) && (allSound (headOf b .mark .0) (chunks (rowCount b) (drop 16 b)) && distinct (rowsOf (rowCount b) (drop 16 b)))))
+-- the damage test, part by part, with the row count and the header read before
+pub sound-is : (b : List ℕ) (n : ℕ) (h : Head) → n ≡ rowCount b → h ≡ headOf b
+    → sound b ≡ (sizeOk (length b) n && (headOk h && (allSound (h .mark .0) (chunks n (drop 16 b)) && distinct (rowsOf n (drop 16 b)))))
 unfolding sound
-sound-is b = refl
+sound-is b n h e f = sym (λ i. sizeOk (length b) (e i) && (headOk (f i) && (allSound (f i .mark .0) (chunks (e i) (drop 16 b)) && distinct (rowsOf (e i) (drop 16 b)))))
 
 pub size-is : (len n : ℕ) → sizeOk len n ≡ true → len ≡ 16 + n * 1312
 unfolding sizeOk

@@ -1,11 +1,10 @@
 -- What writing a row and a mark leaves.
-use Prim.Native.Nat.{ℕ, _+_, _-_, _*_, _/_, _≤_, _<_}
-use mathlib.Core.Path.{_≡_, refl, sym, ap, _∙_}
-use mathlib.Core.Bool.{Bool, true, false, _&&_, and-false}
-use mathlib.Core.List.{List, [], _∷_, _++_, append-assoc}
+use Prim.Native.Nat.{ℕ, _+_, _-_, _*_, _≤_, _<_}
+use mathlib.Core.Path.{_≡_, refl, ap, _∙_}
+use mathlib.Core.Bool.{false, and-false}
+use mathlib.Core.List.{List, _++_}
 use mathlib.Core.Option.{some}
 use native.Mathlib.Omega.{arith}
-use native.Mathlib.Nat.{add-assoc}
 use lib.Dec.{leb}
 use lib.ListN.{length, replicate, length-append, length-replicate}
 use borrow.Author.Tests.{lt-ltb, le-ltb, le-leb}
@@ -14,7 +13,6 @@ use Rattle.octets.specs.BigEndian.{bytesOf}
 use Rattle.octets.proofs.Lists.{length-pasted, length-written, written-fits, then, then-two}
 use Rattle.octets.proofs.Numbers.{length-bytes}
 use Rattle.engine.specs.Documents.{Entry}
-use Rattle.table.specs.declared.Slot.{Slot}
 use Rattle.table.specs.Row.{sizeBytes, shortBytes, longBytes, slotBytes, slotFor, usedBytes, rowBytes}
 use Rattle.table.specs.Table.{rowCount}
 use Rattle.table.specs.Store.{stored}

@@ -18,6 +18,11 @@ abbrev pub isFree : Row → Bool
 isFree none = true
 isFree (some e) = false
 
+-- the first place, or the second where there is no first
+abbrev pub orElse : Found → Found → Found
+orElse (At i) f = At i
+orElse Nothing f = f
+
 -- the place of the first row that holds the key, and of the first free row, counted from i
 abbrev pub findIn : List ℕ → ℕ → List Row → Found
 findIn key i [] = Nothing
@@ -26,10 +31,6 @@ findIn key i (w ∷ ws) = pick (holds key w) (At i) (findIn key (i + 1) ws)
 abbrev pub freeIn : ℕ → List Row → Found
 freeIn i [] = Nothing
 freeIn i (w ∷ ws) = pick (isFree w) (At i) (freeIn (i + 1) ws)
-
-abbrev pub orElse : Found → Found → Found
-orElse (At i) f = At i
-orElse Nothing f = f
 
 -- the key's row, else the lowest free row
 abbrev pub placeIn : List ℕ → List Row → Found

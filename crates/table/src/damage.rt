@@ -75,13 +75,13 @@ fn rows_distinct(s: &[u8], n: usize) -> bool
     ensures { λ r. ⌜ r ≡ distinct (rowsOf n (drop 16 (now (s .entry)))) ⌝ }
 {
     let mut at: usize = 16;
-    let mut left = n;
-    while 0 < left {
-        if !first_distinct(s, at, left - 1) {
+    let mut rows = n;
+    while 0 < rows {
+        if !first_distinct(s, at, rows - 1) {
             return false;
         }
         at += 1312;
-        left -= 1;
+        rows -= 1;
     }
     true
 }

@@ -8,63 +8,47 @@ use mathlib.Core.Bool.{Bool, _&&_}
 use lib.ListN.{drop}
 use Prim.Native.Nat.{ℕ, _+_}
 use mathlib.Core.List.{List}
-use mathlib.Core.Path.{_≡_, refl, sym, ap, _∙_}
+use mathlib.Core.Path.{sym, ap, _∙_}
 use borrow.Author.Needs.{needs}
 use Rattle.table.proofs.damage.first_distinct.Statement.{statement}
 use Rattle.table.proofs.damage.first_distinct.Tie as tie
-use Rattle.table.proofs.damage.first_distinct.Reads as reads
-use Rattle.table.proofs.damage.first_distinct.Lts as lts
-use Rattle.octets.proofs.be16.Reads as be16-reads
-use Rattle.octets.proofs.part.Reads as part-reads
-use Rattle.table.proofs.damage.is_missing.Reads as is-missing-reads
-use Rattle.table.proofs.lookup.find_from.Reads as find-from-reads
 
--- src/damage.rt:65:9
 part-requires : tie.Need-part-requires
 part-requires c κs = search needs
 
--- src/damage.rt:66:8
 be16-requires : tie.Need-be16-requires
 be16-requires c κs = search needs
 
--- src/damage.rt:67:9
 returns : tie.Need-returns
 returns c =
-    let a = (c .before .before .before .before .args) in
-    distinct-free (a .s .now) (a .at) (a .later) (ap (λ (r : List ℕ). num r 0 2) (sym ((c .before .before .part) .ensures)) ∙ sym ((c .before .be16) .ensures) ∙ (c .if1) .taken)
+    let a = c .before .before .before .before .args in
+    distinct-free (a .s .now) (a .at) (a .later) (ap (λ (r : List ℕ). num r 0 2) (sym (c .before .before .part .ensures)) ∙ sym (c .before .be16 .ensures) ∙ c .if1 .taken)
 
--- src/damage.rt:69:35
 be16-requires-2 : tie.Need-be16-requires-2
 be16-requires-2 c κs = search needs
 
--- src/damage.rt:69:35
 cast-part : tie.Need-cast-part
 cast-part c = search needs
 
--- src/damage.rt:69:9
 part-requires-2 : tie.Need-part-requires-2
 part-requires-2 c κs = search needs
 
--- src/damage.rt:70:49
 add-find-from : tie.Need-add-find-from
 add-find-from c = search needs
 
--- src/damage.rt:70:16
 find-from-requires : tie.Need-find-from-requires
 find-from-requires c κs = search needs
 
--- src/damage.rt:70:5
 is-missing-requires : tie.Need-is-missing-requires
 is-missing-requires c κs = search needs
 
--- src/damage.rt:61:1
 returns-2 : tie.Need-returns-2
 returns-2 c =
-    let a = (c .before .before .before .before .before .before .before .before .args) in
+    let a = c .before .before .before .before .before .before .before .before .args in
     let s = a .s .now in
-    let key = (c .before .before .part2) .ensures ∙ (λ i. part ((c .before .before .before .before .before .before .part) .ensures i) 32 (((c .before .before .before .be162) .ensures ∙ ap (λ (r : List ℕ). num r 2 2) ((c .before .before .before .before .before .before .part) .ensures)) i)) in
-    ap (λ (t : Bool). t && distinct (rowsOf (a .later) (drop (a .at + 1312) s))) ((c .is-missing) .ensures ∙ ap missing ((c .before .find-from) .ensures ∙ ap (λ (k : List ℕ). findIn k 0 (rowsOf (a .later) (drop (a .at + 1312) s))) key))
-    ∙ distinct-used s (a .at) (a .later) (λ z. (c .before .before .before .before .if1) .left ((c .before .before .before .before .before .be16) .ensures ∙ ap (λ (r : List ℕ). num r 0 2) ((c .before .before .before .before .before .before .part) .ensures) ∙ z))
+    let key = c .before .before .part2 .ensures ∙ (λ i. part (c .before .before .before .before .before .before .part .ensures i) 32 ((c .before .before .before .be162 .ensures ∙ ap (λ (r : List ℕ). num r 2 2) (c .before .before .before .before .before .before .part .ensures)) i)) in
+    ap (λ (t : Bool). t && distinct (rowsOf (a .later) (drop (a .at + 1312) s))) (c .is-missing .ensures ∙ ap missing (c .before .find-from .ensures ∙ ap (λ (k : List ℕ). findIn k 0 (rowsOf (a .later) (drop (a .at + 1312) s))) key))
+    ∙ distinct-used s (a .at) (a .later) (λ z. c .before .before .before .before .if1 .left (c .before .before .before .before .before .be16 .ensures ∙ ap (λ (r : List ℕ). num r 0 2) (c .before .before .before .before .before .before .part .ensures) ∙ z))
 
 pub first-distinct-spec : {M : Type 1} → statement M
 first-distinct-spec =

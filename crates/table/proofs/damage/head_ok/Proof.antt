@@ -1,11 +1,8 @@
 use Rattle.table.specs.Damage.{headOk}
-use mathlib.Core.Path.{_≡_, refl, sym, ap, _∙_}
+use mathlib.Core.Path.{refl}
 use Rattle.table.proofs.damage.head_ok.Statement.{statement}
 use Rattle.table.proofs.damage.head_ok.Tie as tie
-use Rattle.table.proofs.damage.head_ok.Reads as reads
-use Rattle.table.proofs.damage.head_ok.Lts as lts
 
--- src/damage.rt:89:1
 returns : tie.Need-returns
 unfolding headOk
 returns c = refl

@@ -3,77 +3,58 @@ use Rattle.table.specs.declared.Slot.{Slot}
 use Rattle.octets.specs.Compare.{zeros}
 use Rattle.table.proofs.Rows.{sound-free, sound-used}
 use Rattle.table.specs.Damage.{usedOk}
-use lib.ListN.{length, take, drop}
-use Prim.Native.Nat.{ℕ, _+_}
+use lib.ListN.{drop}
+use Prim.Native.Nat.{_+_}
 use Rattle.table.specs.Row.{slotOf}
-use mathlib.Core.Path.{_≡_, refl, sym, ap, _∙_}
+use mathlib.Core.Path.{sym, ap, _∙_}
 use borrow.Author.Needs.{needs}
 use Rattle.table.proofs.damage.row_sound.Statement.{statement}
 use Rattle.table.proofs.damage.row_sound.Tie as tie
-use Rattle.table.proofs.damage.row_sound.Reads as reads
-use Rattle.table.proofs.damage.row_sound.Lts as lts
-use Rattle.octets.proofs.all_zero.Reads as all-zero-reads
-use Rattle.octets.proofs.be16.Reads as be16-reads
-use Rattle.octets.proofs.rest.Reads as rest-reads
-use Rattle.table.proofs.damage.used_ok.Reads as used-ok-reads
-use Rattle.table.proofs.row.slot.Reads as slot-reads
 
--- src/damage.rt:27:8
 be16-requires : tie.Need-be16-requires
 be16-requires c κs = search needs
 
--- src/damage.rt:28:33
 rest-requires : tie.Need-rest-requires
 rest-requires c κs = search needs
 
--- src/damage.rt:28:9
 all-zero-requires : tie.Need-all-zero-requires
 all-zero-requires c κs = search needs
 
--- src/damage.rt:28:9
 returns : tie.Need-returns
-returns c = (c .all-zero) .ensures ∙ ap zeros ((c .before .rest) .ensures) ∙ sym (sound-free ((c .before .before .before .before .before .args) .r .now) ((c .before .before .before .before .before .args) .mark) (sym ((c .before .before .before .be16) .ensures) ∙ (c .before .before .if1) .taken))
+returns c = c .all-zero .ensures ∙ ap zeros (c .before .rest .ensures) ∙ sym (sound-free (c .before .before .before .before .before .args .r .now) (c .before .before .before .before .before .args .mark) (sym (c .before .before .before .be16 .ensures) ∙ c .before .before .if1 .taken))
 
--- src/damage.rt:30:9
 slot-requires : tie.Need-slot-requires
 slot-requires c κs = search needs
 
--- src/damage.rt:31:16
 cast-used : tie.Need-cast-used
 cast-used c = search needs
 
--- src/damage.rt:31:36
 cast-used-2 : tie.Need-cast-used-2
 cast-used-2 c = search needs
 
--- src/damage.rt:31:16
 add-used : tie.Need-add-used
 add-used c = search needs
 
--- src/damage.rt:32:5
 used-ok-requires : tie.Need-used-ok-requires
 used-ok-requires c κs = search needs
 
--- src/damage.rt:32:57
 add-rest : tie.Need-add-rest
 add-rest c = search needs
 
--- src/damage.rt:32:41
 rest-requires-2 : tie.Need-rest-requires-2
 rest-requires-2 c κs = search needs
 
--- src/damage.rt:32:24
 all-zero-requires-2 : tie.Need-all-zero-requires-2
 all-zero-requires-2 c κs = search needs
 
--- src/damage.rt:24:1
 returns-2 : tie.Need-returns-2
 unfolding slotOf
-returns-2 c = let r = (c .before .before .before .before .before .before .before .before .before .args) .r .now in
-    let mark = (c .before .before .before .before .before .before .before .before .before .args) .mark in
-    (λ i. (c .before .before .used-ok) .ensures i && ((c .all-zero2) .ensures ∙ ap zeros ((c .before .rest2) .ensures)) i)
-    ∙ ap (λ (h : Slot). usedOk mark h && zeros (drop (32 + (h .keylen + h .vallen)) r)) ((c .before .before .before .before .before .slot) .ensures)
-    ∙ sym (sound-used r mark (λ z. (c .before .before .before .before .before .before .if1) .left ((c .before .before .before .before .before .before .before .be16) .ensures ∙ z)))
+returns-2 c =
+    let r = c .before .before .before .before .before .before .before .before .before .args .r .now in
+    let mark = c .before .before .before .before .before .before .before .before .before .args .mark in
+    (λ i. c .before .before .used-ok .ensures i && (c .all-zero2 .ensures ∙ ap zeros (c .before .rest2 .ensures)) i)
+    ∙ ap (λ (h : Slot). usedOk mark h && zeros (drop (32 + (h .keylen + h .vallen)) r)) (c .before .before .before .before .before .slot .ensures)
+    ∙ sym (sound-used r mark (λ z. c .before .before .before .before .before .before .if1 .left (c .before .before .before .before .before .before .before .be16 .ensures ∙ z)))
 
 pub row-sound-spec : {M : Type 1} → statement M
 row-sound-spec =

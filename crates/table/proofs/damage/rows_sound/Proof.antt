@@ -4,17 +4,13 @@ use Rattle.table.specs.Damage.{rowSound, allSound}
 use Rattle.table.specs.Table.{chunks}
 use Rattle.octets.specs.Parts.{part}
 use borrow.Author.Tests.{not-true, not-false}
-use lib.ListN.{length, take, drop}
-use Prim.Native.Nat.{_+_, _*_, _≤_}
+use lib.ListN.{drop}
+use Prim.Native.Nat.{_+_, _*_}
 use borrow.Author.Needs.{needs}
 use native.Mathlib.Omega.{arith}
-use mathlib.Core.Path.{_≡_, refl, sym, ap, _∙_}
+use mathlib.Core.Path.{_≡_, sym, ap, _∙_}
 use Rattle.table.proofs.damage.rows_sound.Statement.{statement}
 use Rattle.table.proofs.damage.rows_sound.Tie as tie
-use Rattle.table.proofs.damage.rows_sound.Reads as reads
-use Rattle.table.proofs.damage.rows_sound.Lts as lts
-use Rattle.octets.proofs.part.Reads as part-reads
-use Rattle.table.proofs.damage.row_sound.Reads as row-sound-reads
 
 abbrev Inv-loop : tie.InvT-loop
 Inv-loop s n mark at₀ left₀ at left = (at + left * 1312 ≡ 16 + n * 1312) × (allSound mark (chunks n (drop 16 s)) ≡ allSound mark (chunks left (drop at s)))
@@ -22,53 +18,44 @@ Inv-loop s n mark at₀ left₀ at left = (at + left * 1312 ≡ 16 + n * 1312) �
 abbrev μ-loop : tie.MeasureT-loop
 μ-loop s n mark at₀ left₀ at left = left
 
--- src/damage.rt:41:5
 loop-holds : tie.Need-loop-holds Inv-loop μ-loop
 loop-holds c = search needs
 
--- src/damage.rt:42:23
 part-requires : tie.Need-part-requires Inv-loop μ-loop
 part-requires c κs = search needs
 
--- src/damage.rt:42:13
 row-sound-requires : tie.Need-row-sound-requires Inv-loop μ-loop
 row-sound-requires c κs = search needs
 
--- src/damage.rt:43:13
 returns : tie.Need-returns Inv-loop μ-loop
 returns c =
-    let s = (c .before .before .before .before .before .before .args) .s .now in
-    let mark = (c .before .before .before .before .before .before .args) .mark in
-    let p = (c .before .before .before .before .loop) in
-    let f : rowSound mark (part s (p .at) 1312) ≡ false = ap (rowSound mark) (sym ((c .before .before .part) .ensures)) ∙ sym ((c .before .row-sound) .ensures) ∙ not-true _ ((c .if1) .taken) in
-    sym (p .inv .1 ∙ sound-row s (p .at) (p .left) ((c .before .before .before .loop-test) .taken) mark ∙ rw f)
+    let s = c .before .before .before .before .before .before .args .s .now in
+    let mark = c .before .before .before .before .before .before .args .mark in
+    let p = c .before .before .before .before .loop in
+    let f : rowSound mark (part s (p .at) 1312) ≡ false = ap (rowSound mark) (sym (c .before .before .part .ensures)) ∙ sym (c .before .row-sound .ensures) ∙ not-true _ (c .if1 .taken) in
+    sym (p .inv .1 ∙ sound-row s (p .at) (p .left) (c .before .before .before .loop-test .taken) mark ∙ rw f)
 
--- src/damage.rt:45:9
 add-at : tie.Need-add-at Inv-loop μ-loop
 add-at c = search needs
 
--- src/damage.rt:46:9
 sub-left : tie.Need-sub-left Inv-loop μ-loop
 sub-left c = search needs
 
--- src/damage.rt:41:5
 loop-less : tie.Need-loop-less Inv-loop μ-loop
 loop-less c = search needs
 
--- src/damage.rt:41:5
 loop-again : tie.Need-loop-again Inv-loop μ-loop
 loop-again c =
-    let s = (c .before .before .before .before .before .before .args) .s .now in
-    let mark = (c .before .before .before .before .before .before .args) .mark in
-    let p = (c .before .before .before .before .loop) in
-    let f : rowSound mark (part s (p .at) 1312) ≡ true = ap (rowSound mark) (sym ((c .before .before .part) .ensures)) ∙ sym ((c .before .row-sound) .ensures) ∙ not-false _ ((c .if1) .left) in
-    (omega arith, p .inv .1 ∙ sound-row s (p .at) (p .left) ((c .before .before .before .loop-test) .taken) mark ∙ rw f)
+    let s = c .before .before .before .before .before .before .args .s .now in
+    let mark = c .before .before .before .before .before .before .args .mark in
+    let p = c .before .before .before .before .loop in
+    let f : rowSound mark (part s (p .at) 1312) ≡ true = ap (rowSound mark) (sym (c .before .before .part .ensures)) ∙ sym (c .before .row-sound .ensures) ∙ not-false _ (c .if1 .left) in
+    (omega arith, p .inv .1 ∙ sound-row s (p .at) (p .left) (c .before .before .before .loop-test .taken) mark ∙ rw f)
 
--- src/damage.rt:35:1
 returns-2 : tie.Need-returns-2 Inv-loop μ-loop
 returns-2 c =
-    let s = (c .before .before .before .args) .s .now in
-    let p = (c .before .loop) in
+    let s = c .before .before .before .args .s .now in
+    let p = c .before .loop in
     sym (p .inv .1 ∙ rw (none-left (p .left) (drop (p .at) s) (omega arith)))
 
 pub rows-sound-spec : {M : Type 1} → statement M

@@ -1,22 +1,16 @@
 use borrow.Author.Needs.{needs}
 use Rattle.table.proofs.lookup.either.Statement.{statement}
 use Rattle.table.proofs.lookup.either.Tie as tie
-use Rattle.table.proofs.lookup.either.Reads as reads
-use Rattle.table.proofs.lookup.either.Lts as lts
 
--- src/lookup.rt:76:19
 enum-known-f : tie.Need-enum-known-f
 enum-known-f c = search needs
 
--- src/lookup.rt:77:27
 enum-told : tie.Need-enum-told
 enum-told c = search needs
 
--- src/lookup.rt:72:1
 returns : tie.Need-returns
-returns c = rw ((c .before .f) .given .1)
+returns c = rw (c .before .f .given .1)
 
--- src/lookup.rt:72:1
 returns-2 : tie.Need-returns-2
 returns-2 c = search needs
 

@@ -4,18 +4,14 @@ use Rattle.table.specs.Lookup.{holds, findIn}
 use Rattle.table.specs.Table.{rowsOf}
 use Rattle.table.specs.Row.{rowOf}
 use Rattle.octets.specs.Parts.{part}
-use lib.ListN.{length, take, drop}
+use lib.ListN.{drop}
 use Prim.Native.Nat.{ℕ, _+_, _*_, _≤_}
 use mathlib.Core.List.{List}
 use borrow.Author.Needs.{needs}
 use native.Mathlib.Omega.{arith}
-use mathlib.Core.Path.{_≡_, refl, sym, ap, _∙_}
+use mathlib.Core.Path.{_≡_, sym, ap, _∙_}
 use Rattle.table.proofs.lookup.find_from.Statement.{statement}
 use Rattle.table.proofs.lookup.find_from.Tie as tie
-use Rattle.table.proofs.lookup.find_from.Reads as reads
-use Rattle.table.proofs.lookup.find_from.Lts as lts
-use Rattle.octets.proofs.part.Reads as part-reads
-use Rattle.table.proofs.lookup.row_holds.Reads as row-holds-reads
 
 abbrev Inv-loop : tie.InvT-loop
 Inv-loop s key at left i a₀ n₀ k₀ a n k = (a + n * 1312 ≡ at + left * 1312) × (k ≤ a) × (findIn key i (rowsOf left (drop at s)) ≡ findIn key k (rowsOf n (drop a s)))
@@ -23,57 +19,47 @@ Inv-loop s key at left i a₀ n₀ k₀ a n k = (a + n * 1312 ≡ at + left * 13
 abbrev μ-loop : tie.MeasureT-loop
 μ-loop s key at left i a₀ n₀ k₀ a n k = n
 
--- src/lookup.rt:27:5
 loop-holds : tie.Need-loop-holds Inv-loop μ-loop
 loop-holds c = search needs
 
--- src/lookup.rt:28:22
 part-requires : tie.Need-part-requires Inv-loop μ-loop
 part-requires c κs = search needs
 
--- src/lookup.rt:28:12
 row-holds-requires : tie.Need-row-holds-requires Inv-loop μ-loop
 row-holds-requires c κs = search needs
 
--- src/lookup.rt:29:13
 returns : tie.Need-returns Inv-loop μ-loop
 returns c =
-    let s = (c .before .before .before .before .before .before .before .args) .s .now in
-    let key = (c .before .before .before .before .before .before .before .args) .key .now in
-    let p = (c .before .before .before .before .loop) in
-    let f : holds key (rowOf (part s (p .a) 1312)) ≡ true = ap (λ (r : List ℕ). holds key (rowOf r)) (sym ((c .before .before .part) .ensures)) ∙ sym ((c .before .row-holds) .ensures) ∙ (c .if1) .taken in
-    sym (p .inv .2 ∙ find-row s (p .a) (p .n) ((c .before .before .before .loop-test) .taken) key (p .k) ∙ rw f)
+    let s = c .before .before .before .before .before .before .before .args .s .now in
+    let key = c .before .before .before .before .before .before .before .args .key .now in
+    let p = c .before .before .before .before .loop in
+    let f : holds key (rowOf (part s (p .a) 1312)) ≡ true = ap (λ (r : List ℕ). holds key (rowOf r)) (sym (c .before .before .part .ensures)) ∙ sym (c .before .row-holds .ensures) ∙ c .if1 .taken in
+    sym (p .inv .2 ∙ find-row s (p .a) (p .n) (c .before .before .before .loop-test .taken) key (p .k) ∙ rw f)
 
--- src/lookup.rt:31:9
 add-a : tie.Need-add-a Inv-loop μ-loop
 add-a c = search needs
 
--- src/lookup.rt:32:9
 sub-n : tie.Need-sub-n Inv-loop μ-loop
 sub-n c = search needs
 
--- src/lookup.rt:33:9
 add-k : tie.Need-add-k Inv-loop μ-loop
 add-k c = search needs
 
--- src/lookup.rt:27:5
 loop-less : tie.Need-loop-less Inv-loop μ-loop
 loop-less c = search needs
 
--- src/lookup.rt:27:5
 loop-again : tie.Need-loop-again Inv-loop μ-loop
 loop-again c =
-    let s = (c .before .before .before .before .before .before .before .args) .s .now in
-    let key = (c .before .before .before .before .before .before .before .args) .key .now in
-    let p = (c .before .before .before .before .loop) in
-    let f : holds key (rowOf (part s (p .a) 1312)) ≡ false = ap (λ (r : List ℕ). holds key (rowOf r)) (sym ((c .before .before .part) .ensures)) ∙ sym ((c .before .row-holds) .ensures) ∙ (c .if1) .left in
-    (omega arith, omega arith, p .inv .2 ∙ find-row s (p .a) (p .n) ((c .before .before .before .loop-test) .taken) key (p .k) ∙ rw f)
+    let s = c .before .before .before .before .before .before .before .args .s .now in
+    let key = c .before .before .before .before .before .before .before .args .key .now in
+    let p = c .before .before .before .before .loop in
+    let f : holds key (rowOf (part s (p .a) 1312)) ≡ false = ap (λ (r : List ℕ). holds key (rowOf r)) (sym (c .before .before .part .ensures)) ∙ sym (c .before .row-holds .ensures) ∙ c .if1 .left in
+    (omega arith, omega arith, p .inv .2 ∙ find-row s (p .a) (p .n) (c .before .before .before .loop-test .taken) key (p .k) ∙ rw f)
 
--- src/lookup.rt:20:1
 returns-2 : tie.Need-returns-2 Inv-loop μ-loop
 returns-2 c =
-    let s = (c .before .before .before .before .args) .s .now in
-    let p = (c .before .loop) in
+    let s = c .before .before .before .before .args .s .now in
+    let p = c .before .loop in
     sym (p .inv .2 ∙ rw (none-left (p .n) (drop (p .a) s) (omega arith)))
 
 pub find-from-spec : {M : Type 1} → statement M

@@ -3,32 +3,23 @@ use Rattle.table.specs.Lookup.{freeIn}
 use Rattle.table.specs.Table.{rowsOf, tableOf}
 use lib.ListN.{drop}
 use Prim.Native.Nat.{ℕ}
-use native.Mathlib.Omega.{arith}
-use mathlib.Core.Path.{_≡_, refl, sym, ap, _∙_}
+use mathlib.Core.Path.{sym, ap, _∙_}
 use borrow.Author.Needs.{needs}
 use Rattle.table.proofs.lookup.free.Statement.{statement}
 use Rattle.table.proofs.lookup.free.Tie as tie
-use Rattle.table.proofs.lookup.free.Reads as reads
-use Rattle.table.proofs.lookup.free.Lts as lts
-use Rattle.table.proofs.lookup.free_from.Reads as free-from-reads
-use Rattle.table.proofs.rows_in.Reads as rows-in-reads
 
--- src/lookup.rt:72:9
 returns : tie.Need-returns
-returns c = sym (ap (freeIn 0) (no-rows ((c .before .before .args) .s .now) ((c .if1) .taken)))
+returns c = sym (ap (freeIn 0) (no-rows (c .before .before .args .s .now) (c .if1 .taken)))
 
--- src/lookup.rt:74:22
 rows-in-requires : tie.Need-rows-in-requires
 rows-in-requires c κs = search needs
 
--- src/lookup.rt:74:5
 free-from-requires : tie.Need-free-from-requires
 free-from-requires c κs = search needs
 
--- src/lookup.rt:68:1
 returns-2 : tie.Need-returns-2
 unfolding tableOf
-returns-2 c = (c .free-from) .ensures ∙ ap (λ (n : ℕ). freeIn 0 (rowsOf n (drop 16 ((c .before .before .before .before .args) .s .now)))) ((c .before .rows-in) .ensures)
+returns-2 c = c .free-from .ensures ∙ ap (λ (n : ℕ). freeIn 0 (rowsOf n (drop 16 (c .before .before .before .before .args .s .now)))) (c .before .rows-in .ensures)
 
 pub free-spec : {M : Type 1} → statement M
 free-spec = tie.close (tie.spec returns rows-in-requires free-from-requires returns-2)

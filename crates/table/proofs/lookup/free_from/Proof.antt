@@ -6,18 +6,14 @@ use Rattle.table.specs.Row.{rowOf}
 use Rattle.octets.specs.BigEndian.{num}
 use Rattle.octets.specs.Parts.{part}
 use borrow.Author.Tests.{eq-eqb, ne-eqb}
-use lib.ListN.{length, take, drop}
+use lib.ListN.{drop}
 use Prim.Native.Nat.{ℕ, _+_, _*_, _≤_}
 use mathlib.Core.List.{List}
 use borrow.Author.Needs.{needs}
 use native.Mathlib.Omega.{arith}
-use mathlib.Core.Path.{_≡_, refl, sym, ap, _∙_}
+use mathlib.Core.Path.{_≡_, sym, ap, _∙_}
 use Rattle.table.proofs.lookup.free_from.Statement.{statement}
 use Rattle.table.proofs.lookup.free_from.Tie as tie
-use Rattle.table.proofs.lookup.free_from.Reads as reads
-use Rattle.table.proofs.lookup.free_from.Lts as lts
-use Rattle.octets.proofs.be16.Reads as be16-reads
-use Rattle.octets.proofs.part.Reads as part-reads
 
 abbrev Inv-loop : tie.InvT-loop
 Inv-loop s at left i a₀ n₀ k₀ a n k = (a + n * 1312 ≡ at + left * 1312) × (k ≤ a) × (freeIn i (rowsOf left (drop at s)) ≡ freeIn k (rowsOf n (drop a s)))
@@ -25,55 +21,45 @@ Inv-loop s at left i a₀ n₀ k₀ a n k = (a + n * 1312 ≡ at + left * 1312) 
 abbrev μ-loop : tie.MeasureT-loop
 μ-loop s at left i a₀ n₀ k₀ a n k = n
 
--- src/lookup.rt:46:5
 loop-holds : tie.Need-loop-holds Inv-loop μ-loop
 loop-holds c = search needs
 
--- src/lookup.rt:47:25
 part-requires : tie.Need-part-requires Inv-loop μ-loop
 part-requires c κs = search needs
 
--- src/lookup.rt:47:12
 be16-requires : tie.Need-be16-requires Inv-loop μ-loop
 be16-requires c κs = search needs
 
--- src/lookup.rt:48:13
 returns : tie.Need-returns Inv-loop μ-loop
 returns c =
-    let s = (c .before .before .before .before .before .before .args) .s .now in
-    let p = (c .before .before .before .before .loop) in
-    let f : isFree (rowOf (part s (p .a) 1312)) ≡ true = is-free (part s (p .a) 1312) ∙ eq-eqb _ _ (ap (λ (r : List ℕ). num r 0 2) (sym ((c .before .before .part) .ensures)) ∙ sym ((c .before .be16) .ensures) ∙ (c .if1) .taken) in
-    sym (p .inv .2 ∙ free-row s (p .a) (p .n) ((c .before .before .before .loop-test) .taken) (p .k) ∙ rw f)
+    let s = c .before .before .before .before .before .before .args .s .now in
+    let p = c .before .before .before .before .loop in
+    let f : isFree (rowOf (part s (p .a) 1312)) ≡ true = is-free (part s (p .a) 1312) ∙ eq-eqb _ _ (ap (λ (r : List ℕ). num r 0 2) (sym (c .before .before .part .ensures)) ∙ sym (c .before .be16 .ensures) ∙ c .if1 .taken) in
+    sym (p .inv .2 ∙ free-row s (p .a) (p .n) (c .before .before .before .loop-test .taken) (p .k) ∙ rw f)
 
--- src/lookup.rt:50:9
 add-a : tie.Need-add-a Inv-loop μ-loop
 add-a c = search needs
 
--- src/lookup.rt:51:9
 sub-n : tie.Need-sub-n Inv-loop μ-loop
 sub-n c = search needs
 
--- src/lookup.rt:52:9
 add-k : tie.Need-add-k Inv-loop μ-loop
 add-k c = search needs
 
--- src/lookup.rt:46:5
 loop-less : tie.Need-loop-less Inv-loop μ-loop
 loop-less c = search needs
 
--- src/lookup.rt:46:5
 loop-again : tie.Need-loop-again Inv-loop μ-loop
 loop-again c =
-    let s = (c .before .before .before .before .before .before .args) .s .now in
-    let p = (c .before .before .before .before .loop) in
-    let f : isFree (rowOf (part s (p .a) 1312)) ≡ false = is-free (part s (p .a) 1312) ∙ ne-eqb _ _ (λ z. (c .if1) .left ((c .before .be16) .ensures ∙ ap (λ (r : List ℕ). num r 0 2) ((c .before .before .part) .ensures) ∙ z)) in
-    (omega arith, omega arith, p .inv .2 ∙ free-row s (p .a) (p .n) ((c .before .before .before .loop-test) .taken) (p .k) ∙ rw f)
+    let s = c .before .before .before .before .before .before .args .s .now in
+    let p = c .before .before .before .before .loop in
+    let f : isFree (rowOf (part s (p .a) 1312)) ≡ false = is-free (part s (p .a) 1312) ∙ ne-eqb _ _ (λ z. c .if1 .left (c .before .be16 .ensures ∙ ap (λ (r : List ℕ). num r 0 2) (c .before .before .part .ensures) ∙ z)) in
+    (omega arith, omega arith, p .inv .2 ∙ free-row s (p .a) (p .n) (c .before .before .before .loop-test .taken) (p .k) ∙ rw f)
 
--- src/lookup.rt:39:1
 returns-2 : tie.Need-returns-2 Inv-loop μ-loop
 returns-2 c =
-    let s = (c .before .before .before .args) .s .now in
-    let p = (c .before .loop) in
+    let s = c .before .before .before .args .s .now in
+    let p = c .before .loop in
     sym (p .inv .2 ∙ rw (none-left (p .n) (drop (p .a) s) (omega arith)))
 
 pub free-from-spec : {M : Type 1} → statement M

@@ -1,47 +1,34 @@
 use mathlib.Core.Bool.{_&&_, not}
 use lib.Dec.{eqb}
 use Rattle.octets.specs.Compare.{same}
-use Rattle.octets.specs.BigEndian.{num}
 use Rattle.octets.specs.Parts.{part}
 use Prim.Native.Nat.{ℕ}
 use Rattle.table.proofs.Rows.{row-holds}
 use mathlib.Core.List.{List}
-use mathlib.Core.Path.{_≡_, refl, sym, ap, _∙_}
-use Rattle.table.specs.Row.{rowOf}
+use mathlib.Core.Path.{ap, _∙_}
 use borrow.Author.Needs.{needs}
 use Rattle.table.proofs.lookup.row_holds.Statement.{statement}
 use Rattle.table.proofs.lookup.row_holds.Tie as tie
-use Rattle.table.proofs.lookup.row_holds.Reads as reads
-use Rattle.table.proofs.lookup.row_holds.Lts as lts
-use Rattle.octets.proofs.be16.Reads as be16-reads
-use Rattle.octets.proofs.part.Reads as part-reads
-use Rattle.octets.proofs.same.Reads as same-reads
 
--- src/lookup.rt:14:9
 be16-requires : tie.Need-be16-requires
 be16-requires c κs = search needs
 
--- src/lookup.rt:15:13
 be16-requires-2 : tie.Need-be16-requires-2
 be16-requires-2 c κs = search needs
 
--- src/lookup.rt:15:13
 cast-k : tie.Need-cast-k
 cast-k c = search needs
 
--- src/lookup.rt:16:32
 part-requires : tie.Need-part-requires
 part-requires c κs = search needs
 
--- src/lookup.rt:16:19
 same-requires : tie.Need-same-requires
 same-requires c κs = search needs
 
--- src/lookup.rt:11:1
 returns : tie.Need-returns
 returns c =
-    let a = (c .before .before .before .before .before .before .args) in
-    (λ i. not (eqb ((c .before .before .before .be16) .ensures i) 0) && ((c .same) .ensures ∙ ap (λ (l : List ℕ). same l (a .key .now)) ((c .before .part) .ensures ∙ ap (part (a .r .now) 32) ((c .before .before .be162) .ensures))) i)
+    let a = c .before .before .before .before .before .before .args in
+    (λ i. not (eqb (c .before .before .before .be16 .ensures i) 0) && (c .same .ensures ∙ ap (λ (l : List ℕ). same l (a .key .now)) (c .before .part .ensures ∙ ap (part (a .r .now) 32) (c .before .before .be162 .ensures))) i)
     ∙ row-holds (a .r .now) (a .key .now)
 
 pub row-holds-spec : {M : Type 1} → statement M

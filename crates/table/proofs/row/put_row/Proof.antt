@@ -1,90 +1,70 @@
 use lib.ListN.{length}
 use Prim.Native.Nat.{ℕ}
-use mathlib.Core.Path.{_≡_, refl, sym, ap, _∙_}
+use mathlib.Core.Path.{ap, _∙_}
 use Rattle.table.proofs.Writes.{row-put}
 use Rattle.octets.specs.Parts.{written}
 use Rattle.table.specs.Row.{slotBytes, slotFor}
 use borrow.Author.Needs.{needs}
 use Rattle.table.proofs.row.put_row.Statement.{statement}
 use Rattle.table.proofs.row.put_row.Tie as tie
-use Rattle.table.proofs.row.put_row.Reads as reads
-use Rattle.table.proofs.row.put_row.Lts as lts
-use Rattle.octets.proofs.put_bytes.Reads as put-bytes-reads
-use Rattle.octets.proofs.put_zeros.Reads as put-zeros-reads
-use Rattle.table.proofs.row.kind_of.Reads as kind-of-reads
-use Rattle.table.proofs.row.put_slot.Reads as put-slot-reads
 
--- src/row.rt:87:15
 kind-of-requires : tie.Need-kind-of-requires
 kind-of-requires c κs = search needs
 
--- src/row.rt:88:17
 cast-t11 : tie.Need-cast-t11
 cast-t11 c = search needs
 
--- src/row.rt:89:17
 cast-t12 : tie.Need-cast-t12
 cast-t12 c = search needs
 
--- src/row.rt:92:5
 put-slot-requires : tie.Need-put-slot-requires
 put-slot-requires c κs = search needs
 
--- src/row.rt:93:26
 add-put-bytes : tie.Need-add-put-bytes
 add-put-bytes c = search needs
 
--- src/row.rt:93:5
 put-bytes-requires : tie.Need-put-bytes-requires
 put-bytes-requires c κs = search needs
 
--- src/row.rt:94:26
 add-put-bytes-2 : tie.Need-add-put-bytes-2
 add-put-bytes-2 c = search needs
 
--- src/row.rt:94:26
 add-put-bytes-3 : tie.Need-add-put-bytes-3
 add-put-bytes-3 c = search needs
 
--- src/row.rt:94:5
 put-bytes-requires-2 : tie.Need-put-bytes-requires-2
 put-bytes-requires-2 c κs = search needs
 
--- src/row.rt:95:26
 add-put-zeros : tie.Need-add-put-zeros
 add-put-zeros c = search needs
 
--- src/row.rt:95:26
 add-put-zeros-2 : tie.Need-add-put-zeros-2
 add-put-zeros-2 c = search needs
 
--- src/row.rt:95:26
 add-put-zeros-3 : tie.Need-add-put-zeros-3
 add-put-zeros-3 c = search needs
 
--- src/row.rt:95:51
 add-put-zeros-4 : tie.Need-add-put-zeros-4
 add-put-zeros-4 c = search needs
 
--- src/row.rt:95:43
 sub-put-zeros : tie.Need-sub-put-zeros
 sub-put-zeros c = search needs
 
--- src/row.rt:95:5
 put-zeros-requires : tie.Need-put-zeros-requires
 put-zeros-requires c κs = search needs
 
--- src/row.rt:80:1
 same-length : tie.Need-same-length
 same-length c = search needs
 
--- src/row.rt:80:1
 returns : tie.Need-returns
 unfolding slotFor
-returns c = let a = (c .before .before .before .before .before .before .before .before .before .before .before .before .before .before .before .before .before .before .before .before .args) in
-    row-put (record { key = a .key .now; doc = record { tomb = a .tomb; value = a .value .now; numbers = a .n } }) ((c .before .before .before .before .before .before .before .before .before .before .before .before .before .before .before .before .before .before .before .before .pre) .1) _ _ _ _ _ (a .at) ((c .before .before .before .before .before .before .before .before .before .before .before .before .before .before .before .before .before .before .before .before .pre) .0)
-    ((c .before .before .before .before .before .before .before .before .before .before .before .before .before .before .put-slot) .ensures ∙ ap (λ (k : ℕ). written (a .s .now) (a .at) (slotBytes (record { kind = k; keylen = length (a .key .now); vallen = length (a .value .now); numbers = a .n }))) ((c .before .before .before .before .before .before .before .before .before .before .before .before .before .before .before .before .kind-of) .ensures))
-    ((c .before .before .before .before .before .before .before .before .before .before .put-bytes) .ensures) ((c .before .before .before .before .before .before .put-bytes2) .ensures) ((c .before .before .put-zeros) .ensures)
+returns c =
+    let g = c .before .before .before .before .before .before .before .before .before .before .before .before .before .before in
+    let q = g .before .before .before .before .before .before in
+    let a = q .args in
+    row-put (record { key = a .key .now; doc = record { tomb = a .tomb; value = a .value .now; numbers = a .n } }) (q .pre .1) _ _ _ _ _ (a .at) (q .pre .0)
+    (g .put-slot .ensures ∙ ap (λ (k : ℕ). written (a .s .now) (a .at) (slotBytes (record { kind = k; keylen = length (a .key .now); vallen = length (a .value .now); numbers = a .n }))) (g .before .before .kind-of .ensures))
+    (c .before .before .before .before .before .before .before .before .before .before .put-bytes .ensures) (c .before .before .before .before .before .before .put-bytes2 .ensures) (c .before .before .put-zeros .ensures)
 
 pub put-row-spec : {M : Type 1} → statement M
 put-row-spec =

@@ -1,5 +1,5 @@
 use Prim.Native.Nat.{_+_}
-use mathlib.Core.Path.{_≡_, refl, sym, ap, _∙_}
+use mathlib.Core.Path.{refl}
 use native.Mathlib.Omega.{arith}
 use Rattle.octets.proofs.Lists.{then}
 use Rattle.octets.specs.BigEndian.{bytesOf}
@@ -7,38 +7,28 @@ use Rattle.table.specs.Row.{shortBytes}
 use borrow.Author.Needs.{needs}
 use Rattle.table.proofs.row.put_short.Statement.{statement}
 use Rattle.table.proofs.row.put_short.Tie as tie
-use Rattle.table.proofs.row.put_short.Reads as reads
-use Rattle.table.proofs.row.put_short.Lts as lts
-use Rattle.octets.proofs.put_be.Reads as put-be-reads
 
--- src/row.rt:49:30
 cast-put-be : tie.Need-cast-put-be
 cast-put-be c = search needs
 
--- src/row.rt:49:5
 put-be-requires : tie.Need-put-be-requires
 put-be-requires c κs = search needs
 
--- src/row.rt:50:23
 add-put-be : tie.Need-add-put-be
 add-put-be c = search needs
 
--- src/row.rt:50:34
 cast-put-be-2 : tie.Need-cast-put-be-2
 cast-put-be-2 c = search needs
 
--- src/row.rt:50:5
 put-be-requires-2 : tie.Need-put-be-requires-2
 put-be-requires-2 c κs = search needs
 
--- src/row.rt:45:1
 same-length : tie.Need-same-length
 same-length c = search needs
 
--- src/row.rt:45:1
 returns : tie.Need-returns
 unfolding shortBytes bytesOf
-returns c = then _ _ _ ((c .before .before .before .before .before .before .before .before .before .before .before .args) .at) ((c .before .before .before .before .before .before .before .before .before .before .before .args) .at + 4) _ _ ((c .before .before .before .before .before .before .before .put-be) .ensures) ((c .before .before .put-be2) .ensures) refl (omega (arith, (c .before .before .before .before .before .before .before .before .before .before .before .pre)))
+returns c = then _ _ _ (c .before .before .before .before .before .before .before .before .before .before .before .args .at) (c .before .before .before .before .before .before .before .before .before .before .before .args .at + 4) _ _ (c .before .before .before .before .before .before .before .put-be .ensures) (c .before .before .put-be2 .ensures) refl (omega (arith, (c .before .before .before .before .before .before .before .before .before .before .before .pre)))
 
 pub put-short-spec : {M : Type 1} → statement M
 put-short-spec =

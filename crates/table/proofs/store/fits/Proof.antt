@@ -1,26 +1,20 @@
 use Prim.Native.Nat.{_+_}
 use borrow.Author.Tests.{lt-leb}
 use native.Mathlib.Omega.{arith}
-use mathlib.Core.Path.{_≡_, refl, sym, ap, _∙_}
+use mathlib.Core.Path.{sym}
 use borrow.Author.Needs.{needs}
 use Rattle.table.proofs.store.fits.Statement.{statement}
 use Rattle.table.proofs.store.fits.Tie as tie
-use Rattle.table.proofs.store.fits.Reads as reads
-use Rattle.table.proofs.store.fits.Lts as lts
 
--- src/store.rt:65:9
 returns : tie.Need-returns
-returns c = sym (lt-leb ((c .before .args) .k + (c .before .args) .v) 1280 (omega (arith, (c .if1) .taken)))
+returns c = sym (lt-leb (c .before .args .k + (c .before .args) .v) 1280 (omega (arith, c .if1 .taken)))
 
--- src/store.rt:68:9
 returns-2 : tie.Need-returns-2
-returns-2 c = sym (lt-leb ((c .before .before .args) .k + (c .before .before .args) .v) 1280 (omega (arith, (c .if2) .taken)))
+returns-2 c = sym (lt-leb (c .before .before .args .k + (c .before .before .args) .v) 1280 (omega (arith, c .if2 .taken)))
 
--- src/store.rt:70:5
 add-result : tie.Need-add-result
 add-result c = search needs
 
--- src/store.rt:61:1
 returns-3 : tie.Need-returns-3
 returns-3 c = search needs
 

@@ -1,66 +1,51 @@
-use lib.ListN.{length}
-use Prim.Native.Nat.{_+_, _≤_}
 use Rattle.table.proofs.Writes.{store-nowhere, store-unfit, store-put}
 use borrow.Author.Tests.{not-true, not-false, leb-true}
 use native.Mathlib.Omega.{arith}
-use mathlib.Core.Path.{_≡_, refl, sym, ap, _∙_}
+use mathlib.Core.Path.{sym, _∙_}
 use borrow.Author.Needs.{needs}
 use Rattle.table.proofs.store.store.Statement.{statement}
 use Rattle.table.proofs.store.store.Tie as tie
-use Rattle.table.proofs.store.store.Reads as reads
-use Rattle.table.proofs.store.store.Lts as lts
-use Rattle.octets.proofs.put_be.Reads as put-be-reads
-use Rattle.table.proofs.row.put_row.Reads as put-row-reads
-use Rattle.table.proofs.rows_in.Reads as rows-in-reads
-use Rattle.table.proofs.store.fits.Reads as fits-reads
 
--- src/store.rt:50:13
 rows-in-requires : tie.Need-rows-in-requires
 rows-in-requires c κs = search needs
 
--- src/store.rt:51:9
 returns : tie.Need-returns
 returns c =
-    let a = (c .before .before .before .before .before .args) in
-    store-nowhere (a .s .now) (a .i) (record { key = a .key .now; doc = record { tomb = a .tomb; value = a .value .now; numbers = a .n } }) (a .mark .0) (rw ((c .before .rows-in) .ensures) at ((c .if1) .taken))
+    let a = c .before .before .before .before .before .args in
+    store-nowhere (a .s .now) (a .i) (record { key = a .key .now; doc = record { tomb = a .tomb; value = a .value .now; numbers = a .n } }) (a .mark .0) (rw (c .before .rows-in .ensures) at (c .if1 .taken))
 
--- src/store.rt:53:9
 fits-requires : tie.Need-fits-requires
 fits-requires c κs = search needs
 
--- src/store.rt:54:9
 returns-2 : tie.Need-returns-2
 returns-2 c =
-    let a = (c .before .before .before .before .before .before .before .args) in
-    store-unfit (a .s .now) (a .i) (record { key = a .key .now; doc = record { tomb = a .tomb; value = a .value .now; numbers = a .n } }) (a .mark .0) (sym ((c .before .fits2) .ensures) ∙ not-true _ ((c .if2) .taken))
+    let a = c .before .before .before .before .before .before .before .args in
+    store-unfit (a .s .now) (a .i) (record { key = a .key .now; doc = record { tomb = a .tomb; value = a .value .now; numbers = a .n } }) (a .mark .0) (sym (c .before .fits2 .ensures) ∙ not-true _ (c .if2 .taken))
 
--- src/store.rt:56:33
 mul-put-row : tie.Need-mul-put-row
 mul-put-row c = search needs
 
--- src/store.rt:56:28
 add-put-row : tie.Need-add-put-row
 add-put-row c = search needs
 
--- src/store.rt:56:5
 put-row-requires : tie.Need-put-row-requires
 put-row-requires c κs =
-    let room = leb-true _ _ (sym ((c .before .before .fits2) .ensures) ∙ not-false _ ((c .before .if2) .left)) in
-    (omega (arith, (c .before .before .before .if1) .left, (c .before .before .before .before .rows-in) .ensures), room)
+    let room = leb-true _ _ (sym (c .before .before .fits2 .ensures) ∙ not-false _ (c .before .if2 .left)) in
+    (omega (arith, c .before .before .before .if1 .left, c .before .before .before .before .rows-in .ensures), room)
 
--- src/store.rt:57:5
 put-be-requires : tie.Need-put-be-requires
 put-be-requires c κs = search needs
 
--- src/store.rt:47:1
 same-length : tie.Need-same-length
 same-length c = search needs
 
--- src/store.rt:47:1
 returns-3 : tie.Need-returns-3
 returns-3 c =
-    let a = (c .before .before .before .before .before .before .before .before .before .before .before .before .before .before .before .args) in
-    store-put (a .s .now) (a .i) (record { key = a .key .now; doc = record { tomb = a .tomb; value = a .value .now; numbers = a .n } }) (a .mark .0) (rw ((c .before .before .before .before .before .before .before .before .before .before .before .rows-in) .ensures) at ((c .before .before .before .before .before .before .before .before .before .before .if1) .left)) (leb-true _ _ (sym ((c .before .before .before .before .before .before .before .before .before .fits2) .ensures) ∙ not-false _ ((c .before .before .before .before .before .before .before .before .if2) .left))) _ _ ((c .before .before .before .before .before .before .put-row) .ensures) ((c .before .before .put-be) .ensures)
+    let d = c .before .before .before .before .before .before .before .before in
+    let a = d .before .before .before .before .before .before .before .args in
+    let room = leb-true _ _ (sym (d .before .fits2 .ensures) ∙ not-false _ (d .if2 .left)) in
+    store-put (a .s .now) (a .i) (record { key = a .key .now; doc = record { tomb = a .tomb; value = a .value .now; numbers = a .n } }) (a .mark .0)
+    (rw (d .before .before .before .rows-in .ensures) at (d .before .before .if1 .left)) room _ _ (c .before .before .before .before .before .before .put-row .ensures) (c .before .before .put-be .ensures)
 
 pub store-spec : {M : Type 1} → statement M
 store-spec =

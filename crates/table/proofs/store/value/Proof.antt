@@ -1,44 +1,32 @@
 use Prim.Native.Nat.{_+_}
 use Rattle.octets.specs.Parts.{part}
 use Rattle.table.specs.Row.{docOf}
-use mathlib.Core.Path.{_≡_, refl, sym, ap, _∙_}
+use mathlib.Core.Path.{_∙_}
 use borrow.Author.Needs.{needs}
 use Rattle.table.proofs.store.value.Statement.{statement}
 use Rattle.table.proofs.store.value.Tie as tie
-use Rattle.table.proofs.store.value.Reads as reads
-use Rattle.table.proofs.store.value.Lts as lts
-use Rattle.octets.proofs.part.Reads as part-reads
-use Rattle.table.proofs.store.row_at.Reads as row-at-reads
-use Rattle.table.proofs.store.slot_at.Reads as slot-at-reads
 
--- src/store.rt:42:9
 slot-at-requires : tie.Need-slot-at-requires
 slot-at-requires c κs = search needs
 
--- src/store.rt:43:18
 row-at-requires : tie.Need-row-at-requires
 row-at-requires c κs = search needs
 
--- src/store.rt:43:37
 cast-part : tie.Need-cast-part
 cast-part c = search needs
 
--- src/store.rt:43:32
 add-part : tie.Need-add-part
 add-part c = search needs
 
--- src/store.rt:43:56
 cast-part-2 : tie.Need-cast-part-2
 cast-part-2 c = search needs
 
--- src/store.rt:43:5
 part-requires : tie.Need-part-requires
 part-requires c κs = search needs
 
--- src/store.rt:39:1
 returns : tie.Need-returns
 unfolding docOf
-returns c = (c .part) .ensures ∙ (λ i. part ((c .before .before .before .row-at) .ensures i) (32 + (c .before .before .before .before .slot-at) .ensures i .keylen) ((c .before .before .before .before .slot-at) .ensures i .vallen))
+returns c = c .part .ensures ∙ (λ i. part (c .before .before .before .row-at .ensures i) (32 + (c .before .before .before .before .slot-at) .ensures i .keylen) (c .before .before .before .before .slot-at .ensures i .vallen))
 
 pub value-spec : {M : Type 1} → statement M
 value-spec =
