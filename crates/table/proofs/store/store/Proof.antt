@@ -30,8 +30,8 @@ add-put-row c = search needs
 
 put-row-requires : tie.Need-put-row-requires
 put-row-requires c κs =
-    let room = leb-true _ _ (sym (c .before .before .fits2 .ensures) ∙ not-false _ (c .before .if2 .left)) in
-    (omega (arith, c .before .before .before .if1 .left, c .before .before .before .before .rows-in .ensures), room)
+    let d = c .before in
+    (omega (arith, d .before .before .if1 .left, d .before .before .before .rows-in .ensures), leb-true _ _ (sym (d .before .fits2 .ensures) ∙ not-false _ (d .if2 .left)))
 
 put-be-requires : tie.Need-put-be-requires
 put-be-requires c κs = search needs
