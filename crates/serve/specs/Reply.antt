@@ -1,0 +1,34 @@
+-- A reply's bytes: document 000's header with magic 0x81 and the status in place of the vbucket, then extras, key and value as 01 has them for each command.
+use Prim.Native.Nat.{ℕ, _+_}
+use mathlib.Core.Bool.{Bool, true, false, cond}
+use mathlib.Core.List.{List, [], _++_}
+use lib.ListN.{length}
+use Rattle.numbers.specs.declared.Cas.{Cas}
+use Rattle.header.specs.declared.Header.{Header}
+use Rattle.header.specs.Header.{headerBytes}
+use Rattle.commands.specs.declared.Reply.{Reply}
+use Rattle.commands.specs.declared.Decision.{Decision}
+use Rattle.commands.specs.Decide.{extrasOf, keyOf, replyOf}
+
+-- extras, key and value in a row, for a request's key and the stored value
+abbrev pub bodyOf : Reply → List ℕ → List ℕ → List ℕ
+bodyOf r key old = extrasOf r ++ (keyOf r key ++ replyOf r old)
+
+-- opcode and opaque echoed
+unfoldable pub replyHeader : ℕ → ℕ → Decision → List ℕ → List ℕ → Header
+replyHeader op opaque x key old = record {
+  magic = 0x81;
+  opcode = op;
+  keylen = length (keyOf (x .done .reply) key);
+  extlen = length (extrasOf (x .done .reply));
+  datatype = 0;
+  vbucket = x .status;
+  body = length (bodyOf (x .done .reply) key old);
+  opaque = opaque;
+  cas = x .done .cas;
+}
+
+-- no bytes where the frame is silent
+unfoldable pub replyBytes : ℕ → ℕ → Decision → List ℕ → List ℕ → List ℕ
+unfolding replyHeader
+replyBytes op opaque x key old = cond (x .silent) [] (headerBytes (replyHeader op opaque x key old) ++ bodyOf (x .done .reply) key old)

@@ -1,0 +1,94 @@
+-- Serving one request: the outcomes of document 01 in the order tested; then the request is decided, answered and stored.
+use Prim.Native.Nat.{ℕ, _+_}
+use mathlib.Core.Bool.{Bool, true, false, cond, not, _||_}
+use mathlib.Core.List.{List, []}
+use mathlib.Core.Option.{Option, none, some}
+use lib.ListN.{length}
+use lib.Dec.{ltb, eqb}
+use Rattle.octets.specs.Parts.{written}
+use Rattle.numbers.specs.declared.Cas.{Cas}
+use Rattle.header.specs.declared.Header.{Header}
+use Rattle.request.specs.declared.Gate.{Gate}
+use Rattle.request.specs.declared.Gate.the-variants.{Stop, Whole}
+use Rattle.request.specs.Reading.{gateOf, frameStatus, bytesIn, keySpan}
+use Rattle.engine.specs.declared.Head.{Head}
+use Rattle.engine.specs.Documents.{Key, Doc}
+use Rattle.engine.specs.Stored.{storedOf}
+use Rattle.digits.specs.Decimal.{numberOf}
+use Rattle.commands.specs.declared.Decision.{Decision}
+use Rattle.commands.specs.declared.Reply.the-variants.{Bare}
+use Rattle.commands.specs.Done.{decision, nothing}
+use Rattle.commands.specs.Decide.{Request, Answer, Effect, askOf, answerOf, valueOf}
+use Rattle.asks.specs.Asks.{requestOf}
+use Rattle.table.specs.Table.{Table, tableOf}
+use Rattle.table.specs.Lookup.{placeIn}
+use Rattle.table.specs.Damage.{sound}
+use Rattle.table.specs.Plain.{findRow, freeRows}
+use Rattle.serve.specs.declared.Served.{Served}
+use Rattle.serve.specs.declared.Served.the-variants.{Refused, Done}
+use Rattle.serve.specs.Reply.{replyBytes}
+use Rattle.serve.specs.Change.{storedAt}
+
+-- 01's number for each answer: its outcome, 0 where a frame was served
+abbrev pub outcomeOf : Served → ℕ
+outcomeOf (Refused n need) = n
+outcomeOf (Done status used len) = 0
+
+-- 5 table damaged, 4 reply room under 1,302 bytes, then the frame's own
+unfoldable pub gateAll : List ℕ → ℕ → List ℕ → Gate
+gateAll b room s = cond (not (sound b)) (Stop 5 0) (cond (ltb room 1302) (Stop 4 0) (gateOf s))
+
+-- the reader's status ends it, save a 0x03: a 0x04 that needs mode or clock comes before
+abbrev pub goesOn : ℕ → Bool
+goesOn status = eqb status 0 || eqb status 0x03
+
+abbrev pub refusal : Head → ℕ → Decision
+refusal h status = record { status = status; silent = false; done = nothing h Bare (record { 0 = 0 }) }
+
+-- the decision on a whole frame
+unfoldable pub decisionOn : Table → ℕ → List ℕ → Header → Decision
+decisionOn t clock s h =
+    cond (goesOn (frameStatus s h))
+    (decision (t .head) (storedOf (findRow (t .rows) (bytesIn s (keySpan h)))) (ltb 0 (freeRows (t .rows))) clock
+    (numberOf (valueOf (findRow (t .rows) (bytesIn s (keySpan h))))) (askOf (requestOf s h)))
+    (refusal (t .head) (frameStatus s h))
+
+-- its answer, with the bytes put in
+unfoldable pub answerOn : Table → ℕ → List ℕ → Header → Answer
+unfolding decisionOn
+answerOn t clock s h = answerOf (requestOf s h) (valueOf (findRow (t .rows) (bytesIn s (keySpan h)))) (decisionOn t clock s h)
+
+-- the table's memory after it
+unfoldable pub frameTable : List ℕ → ℕ → List ℕ → Header → List ℕ
+unfolding answerOn
+frameTable b clock s h =
+    storedAt b (placeIn (bytesIn s (keySpan h)) (tableOf b .rows)) (bytesIn s (keySpan h)) (answerOn (tableOf b) clock s h .effect .store)
+    (answerOn (tableOf b) clock s h .effect .head .mark .0)
+
+unfoldable pub frameReply : List ℕ → ℕ → List ℕ → Header → List ℕ
+unfolding decisionOn
+frameReply b clock s h =
+    replyBytes (h .opcode) (h .opaque) (decisionOn (tableOf b) clock s h) (bytesIn s (keySpan h)) (valueOf (findRow (tableOf b .rows) (bytesIn s (keySpan h))))
+
+-- ---- serving: by the gate
+abbrev pub answerBy : List ℕ → ℕ → List ℕ → Gate → Served
+answerBy b clock s (Stop n need) = Refused n need
+answerBy b clock s (Whole h) = Done (answerOn (tableOf b) clock s h .effect .status) (24 + h .body) (length (frameReply b clock s h))
+
+abbrev pub tableBy : List ℕ → ℕ → List ℕ → Gate → List ℕ
+tableBy b clock s (Stop n need) = b
+tableBy b clock s (Whole h) = frameTable b clock s h
+
+abbrev pub replyBy : List ℕ → ℕ → List ℕ → List ℕ → Gate → List ℕ
+replyBy b clock s out (Stop n need) = out
+replyBy b clock s out (Whole h) = written out 0 (frameReply b clock s h)
+
+-- what serving answers, and what it leaves of the table and of the reply area
+unfoldable pub served : List ℕ → ℕ → List ℕ → ℕ → Served
+served b clock s room = answerBy b clock s (gateAll b room s)
+
+unfoldable pub servedTable : List ℕ → ℕ → List ℕ → ℕ → List ℕ
+servedTable b clock s room = tableBy b clock s (gateAll b room s)
+
+unfoldable pub servedReply : List ℕ → ℕ → List ℕ → List ℕ → List ℕ
+servedReply b clock s out = replyBy b clock s out (gateAll b (length out) s)
