@@ -1,0 +1,32 @@
+-- Lists of serving calls, each on the table as the one before left it.
+use Prim.Native.Nat.{ℕ}
+use mathlib.Core.List.{List, [], _∷_}
+use lib.ListN.{length}
+use Rattle.serve.specs.declared.Served.{Served}
+use Rattle.serve.specs.declared.Served.the-variants.{Refused, Done}
+use Rattle.serve.specs.Serve.{served, servedTable, servedReply}
+
+-- a clock, received bytes and a reply area as it was before
+pub record Call : Type 0 where
+  pub clock : ℕ
+  pub received : List ℕ
+  pub reply : List ℕ
+
+abbrev pub servedBy : List ℕ → Call → Served
+servedBy b c = served b (c .clock) (c .received) (length (c .reply))
+
+abbrev pub tableBy : List ℕ → Call → List ℕ
+tableBy b c = servedTable b (c .clock) (c .received) (length (c .reply))
+
+abbrev pub bytesAfter : List ℕ → List Call → List ℕ
+bytesAfter b [] = b
+bytesAfter b (c ∷ cs) = bytesAfter (tableBy b c) cs
+
+abbrev pub answers : List ℕ → List Call → List Served
+answers b [] = []
+answers b (c ∷ cs) = servedBy b c ∷ answers (tableBy b c) cs
+
+-- a status, or a number that is none where a call was refused
+abbrev pub statusOf : Served → ℕ
+statusOf (Refused n need) = 0xffff
+statusOf (Done status used len) = status

@@ -1,0 +1,4 @@
+pub mod Calls
+pub mod Merge
+pub mod Table
+pub mod Expiry

@@ -1,0 +1,26 @@
+-- The table under serving: it stays sound, and a call that is refused, or answers with another status than 0, changes no byte of it.
+use Prim.Native.Nat.{ℕ}
+use mathlib.Core.Path.{_≡_}
+use mathlib.Core.Bool.{true}
+use mathlib.Core.List.{List}
+use lib.ListN.{length}
+use Rattle.octets.specs.Parts.{Bytes}
+use Rattle.table.specs.Damage.{sound}
+use Rattle.serve.specs.declared.Served.{Served}
+use Rattle.serve.specs.declared.Served.the-variants.{Refused, Done}
+use Rattle.serve.specs.Serve.{served, servedTable, servedReply}
+
+-- whatever the bytes, the clock and the room
+abbrev pub StaysSound : Type 0
+StaysSound =
+    (b : List ℕ) (clock : ℕ) (s : List ℕ) (room : ℕ) → Bytes b → Bytes s → sound b ≡ true → sound (servedTable b clock s room) ≡ true
+
+abbrev pub RefusedKeeps : Type 0
+RefusedKeeps =
+    (b : List ℕ) (clock : ℕ) (s out : List ℕ) (n need : ℕ) → served b clock s (length out) ≡ Refused n need
+    → (servedTable b clock s (length out) ≡ b) × (servedReply b clock s out ≡ out)
+
+abbrev pub StatusKeeps : Type 0
+StatusKeeps =
+    (b : List ℕ) (clock : ℕ) (s : List ℕ) (room status used len : ℕ) → served b clock s room ≡ Done status used len → (status ≡ 0 → ⊥)
+    → servedTable b clock s room ≡ b
