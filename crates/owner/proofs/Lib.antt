@@ -1,0 +1,4 @@
+pub mod Making
+pub mod Purging
+pub mod Reading
+pub mod Tells

@@ -1,0 +1,19 @@
+use Rattle.owner.specs.Owner.{makeOk}
+use borrow.Author.Needs.{needs}
+use Rattle.owner.proofs.make_ok.Statement.{statement}
+use Rattle.owner.proofs.make_ok.Tie as tie
+use Rattle.owner.proofs.make_ok.Reads as reads
+use Rattle.owner.proofs.make_ok.Lts as lts
+use Rattle.table.proofs.damage.size_ok.Reads as size-ok-reads
+
+-- src/lib.rt:46:9
+size-ok-requires : tie.Need-size-ok-requires
+size-ok-requires c κs = search needs
+
+-- src/lib.rt:43:1
+returns : tie.Need-returns
+unfolding makeOk
+returns c = simp ((c .size-ok) .ensures)
+
+pub make-ok-spec : {M : Type 1} → statement M
+make-ok-spec = tie.close (tie.spec size-ok-requires returns)
