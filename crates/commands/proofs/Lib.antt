@@ -1,1 +1,3 @@
 pub mod MergingLaws
+pub mod Passed
+pub mod Stores

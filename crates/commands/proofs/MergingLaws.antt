@@ -36,6 +36,8 @@ same-beq false = refl
 pub merging-decided : MergingDecided
 unfolding decide decision ruleOf testsOf statusOf firstFailure doneOf
 merging-decided h row free w c active p room =
-    rw (p .with-meta)
-    (simp (p .mode, same-beq (isLast (modeOf (h .mode))), le-ltb 1024 (length (c .request .value)) (p .short), p .here, eq-eqb (h .vbucket) (h .vbucket) refl, p .header-cas, active, p .force, p .regenerate, p .skip, not-add (w .kind) (p .kind), room)
-    (cases (accepted (modeOf (h .mode)) (storedOf row) (w .numbers)) (λ t. rw t (rw (frame-alone (w .kind)))) (λ t. rw t)))
+    let fault : not (Bool·beq (w .last) (isLast (modeOf (h .mode)))) ≡ false = rw (p .mode) (same-beq (isLast (modeOf (h .mode)))) in
+    let long = le-ltb 1024 (length (c .request .value)) (p .short) in
+    let here = eq-eqb (c .request .vbucket) (h .vbucket) (p .here) in
+    rw (p .with-meta, fault, long, here, active, p .header-cas, p .force, p .regenerate, p .skip, not-add (w .kind) (p .kind), room)
+    (cases (accepted (modeOf (h .mode)) (storedOf row) (w .numbers)) (λ t. rw t (rw (frame-alone (w .kind)))) (λ t. rw t))
