@@ -1,12 +1,11 @@
 -- One key: what its row holds after a list of writes is the greatest of what it held and what was written.
-use mathlib.Core.Path.{_≡_, refl, sym, ap, _∙_}
-use mathlib.Core.Bool.{Bool, true, false, cond, _&&_, and-true, and-false, true≢false}
-use mathlib.Core.Logic.{_⊎_, inl, inr, ⊎-elim}
+use mathlib.Core.Path.{_≡_, refl, sym, _∙_}
+use mathlib.Core.Bool.{Bool, true, false, cond, and-true, and-false, true≢false}
+use mathlib.Core.Logic.{inl, inr, ⊎-elim}
 use mathlib.Core.List.{List, [], _∷_, _++_}
 use mathlib.Core.Option.{Option, none, some}
 use Rattle.octets.proofs.Choices.{cases}
 use Rattle.numbers.specs.declared.Mode.{Mode}
-use Rattle.numbers.specs.Order.{greater}
 use Rattle.numbers.proofs.OrderLaws.{strict-total}
 use Rattle.engine.specs.Documents.{Doc}
 use Rattle.engine.specs.Engine.{isSome}

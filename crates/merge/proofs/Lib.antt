@@ -1,1 +1,3 @@
 pub mod Greatest
+pub mod Run
+pub mod Demand3
