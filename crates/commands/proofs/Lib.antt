@@ -1,0 +1,4 @@
+pub mod MergingLaws
+pub mod Passed
+pub mod Stores
+pub mod Examples

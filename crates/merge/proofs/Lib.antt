@@ -1,0 +1,4 @@
+pub mod Greatest
+pub mod Run
+pub mod Demand3
+pub mod Worked

@@ -1,0 +1,84 @@
+-- The worked list meets the premises and gives what specs/Worked.antt says.
+use native.Mathlib.Omega.{arith}
+use mathlib.Core.Path.{_≡_, refl, sym, ap, _∙_}
+use mathlib.Core.Logic.{⊎-elim}
+use mathlib.Core.List.{List, [], _∷_, _++_}
+use mathlib.Core.Option.{Option, none, some}
+use Prim.Native.Nat.{ℕ, _≤_}
+use lib.Dec.{eqb}
+use borrow.Author.Needs.{needs}
+use Rattle.octets.specs.Choice.{pick}
+use Rattle.octets.specs.Compare.{same}
+use Rattle.octets.proofs.Choices.{cases}
+use Rattle.digits.specs.Decimal.{numberOf, numberFrom, allDigits, isDigit, valueFrom}
+use Rattle.numbers.specs.declared.Numbers.{Numbers}
+use Rattle.numbers.specs.Order.{greater, above, lead, second}
+use Rattle.numbers.specs.Expiry.{expired}
+use Rattle.engine.specs.Documents.{Key, Doc, Entry}
+use Rattle.engine.specs.Stored.{accepted, live}
+use Rattle.table.specs.Row.{Row}
+use Rattle.table.specs.Plain.{plain, findRow}
+use Rattle.table.proofs.PlainLaws.{none-some}
+use Rattle.commands.specs.Rules.{ruleOf, testsOf, statusOf, firstFailure}
+use Rattle.commands.specs.Done.{decision, doneOf}
+use Rattle.commands.specs.Decide.{decide}
+use Rattle.merge.specs.Writes.{_∈_, held, for}
+use Rattle.merge.specs.Merge.{Premises, All, docIn, candidates, writes, effectOn, tableOn}
+use Rattle.merge.specs.Worked.{table, calls, Worked}
+
+-- ---- what holds of every row and of every write holds of every candidate
+module _ (P : Doc → Type 0) where
+  abbrev Holds : Row → Type 0
+  Holds none = Unit {0}
+  Holds (some e) = P (e .doc)
+
+  found-all : (rows : List Row) (k : Key) (d : Doc) → All Holds rows → findRow rows k ≡ some d → P d
+  found-all [] k d p e = none-some d e
+  found-all (none ∷ rows) k d p e = found-all rows k d (p .1) e
+  found-all (some x ∷ rows) k d p e =
+      cases (same (x .key) k)
+      (λ s. let e′ = rw s at e in let z : x .doc ≡ d = cc in rw (← z) (p .0))
+      (λ s. found-all rows k d (p .1) (rw s at e))
+
+  for-all : (ws : List Entry) (k : Key) (d : Doc) → All (λ w. P (w .doc)) ws → d ∈ for k ws → P d
+  for-all [] k d p h = absurd h
+  for-all (w ∷ ws) k d p h =
+      cases (same (w .key) k)
+      (λ s. ⊎-elim (λ e. rw e (p .0)) (λ r. for-all ws k d (p .1) r) (rw s at h))
+      (λ s. for-all ws k d (p .1) (rw s at h))
+
+  candidates-all : (o : Option Doc) (ds : List Doc) (d : Doc) → ((e : Doc) → o ≡ some e → P e) → (d ∈ ds → P d) → d ∈ (held o ++ ds) → P d
+  candidates-all none ds d p q h = q h
+  candidates-all (some e) ds d p q h = ⊎-elim (λ z. rw z (p e refl)) q h
+
+-- here the numbers say the rest
+abbrev told : Numbers → Doc
+told n = record { tomb = eqb (n .cas .0) 61; value = pick (eqb (n .cas .0) 61) [] (n .cas .0 ∷ []); numbers = n }
+
+module _ (mode : ℕ) where
+  all-told : (k : Key) (d : Doc) → d ∈ candidates plain (table mode) (calls mode) k → d ≡ told (d .numbers)
+  all-told k d h =
+      candidates-all (λ x. x ≡ told (x .numbers)) (docIn plain (table mode) k) (for k (writes (calls mode))) d
+      (λ e s. found-all (λ x. x ≡ told (x .numbers)) (table mode .rows) k e (search) s)
+      (λ r. for-all (λ x. x ≡ told (x .numbers)) (writes (calls mode)) k d (search) r)
+      h
+
+  premises : Premises plain (table mode) (calls mode)
+  unfolding same
+  premises = record {
+    sound = record {
+      good = search;
+      below = λ k d s. found-all (λ x. x .numbers .cas .0 ≤ 50) (table mode .rows) k d (search needs) s;
+    };
+    active = refl;
+    merging = search needs;
+    room = omega arith;
+    unique = λ k x y p q e. all-told k x p ∙ ap told e ∙ sym (all-told k y q);
+  }
+
+pub worked : Worked
+unfolding effectOn tableOn same decide decision ruleOf testsOf statusOf firstFailure doneOf live expired accepted greater above lead second numberOf numberFrom allDigits isDigit valueFrom
+worked = record {
+  by-revision = record { premises = premises 1; statuses = refl; after = refl };
+  last-write = record { premises = premises 2; statuses = refl; after = refl };
+}
