@@ -6,9 +6,9 @@ use mathlib.Core.List.{List}
 use lib.ListN.{length}
 use Rattle.octets.specs.Parts.{Bytes}
 use Rattle.table.specs.Damage.{sound}
-use Rattle.serve.specs.declared.Served.{Served}
-use Rattle.serve.specs.declared.Served.the-variants.{Refused, Done}
-use Rattle.serve.specs.Serve.{served, servedTable, servedReply}
+use Rattle.serving.specs.declared.Served.{Served}
+use Rattle.serving.specs.declared.Served.the-variants.{Refused, Done}
+use Rattle.serving.specs.Serve.{served, servedTable, servedReply}
 
 -- whatever the bytes, the clock and the room
 abbrev pub StaysSound : Type 0

@@ -6,7 +6,7 @@ ghost use lib.ListN.{length};
 ghost use Rattle.commands.specs.Decide.{bytesFrom, docFrom};
 ghost use Rattle.table.specs.Row.{docOf};
 ghost use Rattle.table.specs.Store.{rowAt, stored};
-ghost use Rattle.serve.specs.Change.{storedAt, heldAt, valueIn};
+ghost use Rattle.serving.specs.Change.{storedAt, heldAt, valueIn};
 use commands::Done;
 use commands::Source;
 use engine::Held;

@@ -10,10 +10,10 @@ ghost use lib.ListN.{length};
 ghost use Rattle.octets.specs.Parts.{written};
 ghost use Rattle.request.specs.Reading.{frameStatus, bytesIn, keySpan};
 ghost use Rattle.table.specs.Lookup.{findIn, freeIn, missing};
-ghost use Rattle.serve.specs.Reply.{replyBytes};
+ghost use Rattle.serving.specs.Reply.{replyBytes};
 ghost use Rattle.table.specs.Damage.{sound};
 ghost use Rattle.table.specs.Table.{tableOf};
-ghost use Rattle.serve.specs.Serve.{gateAll, goesOn, refusal, decisionOn, answerBy, frameTable, frameReply, served, servedTable, servedReply};
+ghost use Rattle.serving.specs.Serve.{gateAll, goesOn, refusal, decisionOn, answerBy, frameTable, frameReply, served, servedTable, servedReply};
 use commands::Decision;
 use commands::Done;
 use commands::Reply;
@@ -23,13 +23,8 @@ use engine::Stored;
 use header::Header;
 use numbers::Cas;
 use request::Gate;
+use serving::Served;
 use table::Found;
-
-// An outcome with the bytes needed from the frame's start, or status, bytes consumed and reply length.
-pub enum Served {
-    Refused(u8, usize),
-    Done(u8, usize, usize),
-}
 
 // The outcomes, in the order tested.
 fn gate_all(b: &[u8], room: usize, s: &[u8]) -> Gate

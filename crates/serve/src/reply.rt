@@ -7,7 +7,7 @@ ghost use lib.ListN.{length};
 ghost use Rattle.octets.specs.Parts.{written};
 ghost use Rattle.octets.specs.BigEndian.{bytesOf};
 ghost use Rattle.commands.specs.Decide.{extrasOf, keyOf};
-ghost use Rattle.serve.specs.Reply.{bodyOf, replyHeader, replyBytes};
+ghost use Rattle.serving.specs.Reply.{bodyOf, replyHeader, replyBytes};
 use commands::Decision;
 use commands::Reply;
 use header::Header;

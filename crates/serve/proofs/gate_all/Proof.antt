@@ -1,4 +1,4 @@
-use Rattle.serve.specs.Serve.{gateAll, decisionOn}
+use Rattle.serving.specs.Serve.{gateAll, decisionOn}
 use borrow.Author.Tests.{lt-ltb, le-ltb}
 use mathlib.Core.Path.{_≡_, refl, sym, ap, _∙_}
 use borrow.Author.Needs.{needs}

@@ -24,10 +24,10 @@ use Rattle.table.specs.Table.{Table, tableOf}
 use Rattle.table.specs.Lookup.{placeIn}
 use Rattle.table.specs.Damage.{sound}
 use Rattle.table.specs.Plain.{findRow, freeRows}
-use Rattle.serve.specs.declared.Served.{Served}
-use Rattle.serve.specs.declared.Served.the-variants.{Refused, Done}
-use Rattle.serve.specs.Reply.{replyBytes}
-use Rattle.serve.specs.Change.{storedAt}
+use Rattle.serving.specs.declared.Served.{Served}
+use Rattle.serving.specs.declared.Served.the-variants.{Refused, Done}
+use Rattle.serving.specs.Reply.{replyBytes}
+use Rattle.serving.specs.Change.{storedAt}
 
 -- 01's number for each answer: its outcome, 0 where a frame was served
 abbrev pub outcomeOf : Served → ℕ
