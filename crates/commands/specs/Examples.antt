@@ -50,7 +50,7 @@ a gives b = record { given = a; wanted = b }
 abbrev at : Head → Option Doc → ℕ → Request → Answer
 at h row clock q = decide h row true clock q
 
--- ---- document 001's Set of `mykey` to `myvalue`, with some flags
+-- ---- document 001's Set of `mykey` to `myvalue`, with some flags; it is served at a clock past its expiry, which is absolute and does not keep it from being compared
 abbrev myvalue : List ℕ
 myvalue = 109 ∷ 121 ∷ 118 ∷ 97 ∷ 108 ∷ 117 ∷ 101 ∷ []
 
@@ -89,15 +89,15 @@ counted value n = stored (head 2 0 1) (doc value (numbers 5 0 2 2)) (bytesOf 8 n
 abbrev pub examples : List Example
 examples =
     -- "m1: 001's Set [..], vbucket 3, fresh last-write-wins table for 3: stores flags 7, expiry 10, revision 20, CAS 30. Whole reply: [..] 1e"
-    (at (head 2 3 0) none 0 (m1 7) gives stored (head 2 3 0) (mydoc 7) [])
+    (at (head 2 3 0) none 1000000 (m1 7) gives stored (head 2 3 0) (mydoc 7) [])
     -- "m2: m1 in revision mode: 0x04."
-    ∷ (at (head 1 3 0) none 0 (m1 7) gives refused (head 1 3 0) 0x04)
+    ∷ (at (head 1 3 0) none 1000000 (m1 7) gives refused (head 1 3 0) 0x04)
     -- "m3: m1 sent again: 0x02."
-    ∷ (at (head 2 3 30) (some (mydoc 7)) 0 (m1 7) gives refused (head 2 3 30) 0x02)
+    ∷ (at (head 2 3 30) (some (mydoc 7)) 1000000 (m1 7) gives refused (head 2 3 30) 0x02)
     -- "m4: again with flags 6: stored;"
-    ∷ (at (head 2 3 30) (some (mydoc 7)) 0 (m1 6) gives stored (head 2 3 30) (mydoc 6) [])
+    ∷ (at (head 2 3 30) (some (mydoc 7)) 1000000 (m1 6) gives stored (head 2 3 30) (mydoc 6) [])
     -- "with 8: 0x02."
-    ∷ (at (head 2 3 30) (some (mydoc 7)) 0 (m1 8) gives refused (head 2 3 30) 0x02)
+    ∷ (at (head 2 3 30) (some (mydoc 7)) 1000000 (m1 8) gives refused (head 2 3 30) 0x02)
     -- "m5: 000's Add (0x0e10 is one hour [..]) at clock 1,000,000 on a fresh table: expiry 1,003,600, revision 1, CAS 1."
     ∷ (at (head 2 0 0) none 1000000 (plain Add 0x0e10) gives stored (head 2 0 0) (until 1003600) [])
     -- "m6: expiry 21,600 set at 1,000,000: Get hits at 1,021,599, misses at 1,021,600."
