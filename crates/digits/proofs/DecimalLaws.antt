@@ -3,12 +3,11 @@ use Prim.Native.Nat.{ℕ, zero, suc, _+_, _-_, _*_, _/_, _%_, _≤_, _<_, _^_}
 use native.Mathlib.Omega.{arith}
 use native.Mathlib.Nat.{div-lt-iff-lt-mul, pow-suc, add-zero}
 use mathlib.Core.Path.{_≡_, refl, ap, _∙_, sym}
-use mathlib.Core.Bool.{Bool, true, false, _&&_, and-true, and-false}
+use mathlib.Core.Bool.{Bool, true, false, _&&_, and-true, and-false, cond}
 use mathlib.Core.List.{List, [], _∷_, _++_}
 use lib.Dec.{ltb, leb}
 use lib.ListN.{length, set, length-append, length-set}
 use borrow.Author.Tests.{lt-ltb, le-ltb, ltb-true, ltb-false}
-use Rattle.octets.specs.Choice.{pick}
 use Rattle.octets.specs.Parts.{pasted}
 use Rattle.octets.proofs.Choices.{cases, both}
 use Rattle.octets.proofs.Lists.{pasted-none, pasted-push}
@@ -22,7 +21,7 @@ unfolding digitsIn
 enough zero n h = let h′ : n < 10 = h in rw (lt-ltb n 10 h′)
 enough (suc k) n h =
     let ih : digitsIn (suc k) (n / 10) ≡ digitsIn (suc (suc k)) (n / 10) = enough k (n / 10) (div-lt-iff-lt-mul (omega arith) .1 (rw pow-suc at h)) in
-    cases (ltb n 10) (λ t. rw t) (λ f. ap (λ (l : List ℕ). pick (ltb n 10) ((48 + n) ∷ []) (l ++ ((48 + n % 10) ∷ []))) ih)
+    cases (ltb n 10) (λ t. rw t) (λ f. ap (λ (l : List ℕ). cond (ltb n 10) ((48 + n) ∷ []) (l ++ ((48 + n % 10) ∷ []))) ih)
 
 pub digits-one : (n : ℕ) → n < 10 → digits n ≡ (48 + n) ∷ []
 unfolding digits digitsIn

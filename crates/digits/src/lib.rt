@@ -1,10 +1,10 @@
 // Decimal numbers as bytes: a counter's value read and written.
 ghost use mathlib.Core.Path.{_≡_};
+ghost use mathlib.Core.Bool.{cond};
 ghost use mathlib.Core.List.{[], _∷_};
 ghost use Prim.Native.Nat.{_+_, _≤_, _<_};
 ghost use lib.ListN.{length};
 ghost use lib.Dec.{leb};
-ghost use Rattle.octets.specs.Choice.{pick};
 ghost use Rattle.octets.specs.Parts.{pasted};
 ghost use Rattle.digits.specs.Decimal.{digits, numberOf, numberFrom};
 
@@ -38,8 +38,8 @@ fn put_digits(out: &mut [u8], at: usize, n: u64) -> usize
 // Writes n in decimal at the start of out and answers how many digits it has. Where out has no room for 20 digits,
 // nothing changes and the answer is 0.
 pub fn put_number(out: &mut [u8], n: u64) -> usize
-    ensures { λ r. ⌜ (r ≡ pick (leb 20 (length (now (out .entry)))) (length (digits n)) 0)
-        × (now (out .exit) ≡ pick (leb 20 (length (now (out .entry)))) (pasted (now (out .entry)) 0 (digits n)) (now (out .entry))) ⌝ }
+    ensures { λ r. ⌜ (r ≡ cond (leb 20 (length (now (out .entry)))) (length (digits n)) 0)
+        × (now (out .exit) ≡ cond (leb 20 (length (now (out .entry)))) (pasted (now (out .entry)) 0 (digits n)) (now (out .entry))) ⌝ }
 {
     if out.len() < 20 {
         return 0;

@@ -1,4 +1,5 @@
 -- The worked list meets the premises and gives what specs/Worked.antt says.
+use mathlib.Core.Bool.{cond}
 use native.Mathlib.Omega.{arith}
 use mathlib.Core.Path.{_≡_, refl, sym, ap, _∙_}
 use mathlib.Core.Logic.{⊎-elim}
@@ -7,7 +8,6 @@ use mathlib.Core.Option.{Option, none, some}
 use Prim.Native.Nat.{ℕ, _≤_}
 use lib.Dec.{eqb}
 use borrow.Author.Needs.{needs}
-use Rattle.octets.specs.Choice.{pick}
 use Rattle.octets.specs.Compare.{same}
 use Rattle.octets.proofs.Choices.{cases}
 use Rattle.digits.specs.Decimal.{numberOf, numberFrom, allDigits, isDigit, valueFrom}
@@ -53,7 +53,7 @@ module _ (P : Doc → Type 0) where
 
 -- here the numbers say the rest
 abbrev told : Numbers → Doc
-told n = record { tomb = eqb (n .cas .0) 61; value = pick (eqb (n .cas .0) 61) [] (n .cas .0 ∷ []); numbers = n }
+told n = record { tomb = eqb (n .cas .0) 61; value = cond (eqb (n .cas .0) 61) [] (n .cas .0 ∷ []); numbers = n }
 
 module _ (mode : ℕ) where
   all-told : (k : Key) (d : Doc) → d ∈ candidates plain (table mode) (calls mode) k → d ≡ told (d .numbers)

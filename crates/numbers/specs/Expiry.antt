@@ -1,8 +1,7 @@
 -- Expiry. The clock is seconds since 1970 in 32 bits.
 use Prim.Native.Nat.{ℕ, _+_, min}
-use mathlib.Core.Bool.{Bool, not, _&&_, _||_}
+use mathlib.Core.Bool.{Bool, not, _&&_, _||_, cond}
 use lib.Dec.{eqb, leb, ltb}
-use Rattle.octets.specs.Choice.{pick}
 
 -- "A document is *expired* when its expiry is not 0 and the clock is at or past it."
 unfoldable pub expired : ℕ → ℕ → Bool
@@ -14,4 +13,4 @@ passes expiry clock = (leb 1 expiry && leb expiry 2592000) && ltb 0xffffffff (ex
 
 -- plain expiry as it is stored: "0 never; 1 to 2,592,000 is added to the clock [..]; above, absolute". The sum is held at 2^32 - 1, where the write is refused.
 unfoldable pub absolute : ℕ → ℕ → ℕ
-absolute expiry clock = pick (eqb expiry 0 || ltb 2592000 expiry) expiry (min (expiry + clock) 0xffffffff)
+absolute expiry clock = cond (eqb expiry 0 || ltb 2592000 expiry) expiry (min (expiry + clock) 0xffffffff)

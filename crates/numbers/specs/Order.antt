@@ -1,15 +1,14 @@
 -- The published order of the four numbers, document 001's in both modes: "Last-write-wins: larger CAS, then revision, then expiry, then *smaller* flags. Revision mode: revision, then CAS, then the rest. Equal in all four loses."
 use Prim.Native.Nat.{ℕ}
-use mathlib.Core.Bool.{Bool, _&&_, _||_}
+use mathlib.Core.Bool.{Bool, _&&_, _||_, cond}
 use lib.Dec.{ltb, eqb}
-use Rattle.octets.specs.Choice.{pick}
 use Rattle.numbers.specs.declared.Numbers.{Numbers}
 use Rattle.numbers.specs.declared.Mode.{Mode}
 use Rattle.numbers.specs.declared.Mode.the-variants.{ByRevision, LastWrite}
 
 -- a table's mode by its number: 1 revision, 2 last-write-wins
 abbrev pub modeOf : ℕ → Mode
-modeOf n = pick (eqb n 2) LastWrite ByRevision
+modeOf n = cond (eqb n 2) LastWrite ByRevision
 
 -- a is above b, or equal to it and `rest` decides
 unfoldable pub above : ℕ → ℕ → Bool → Bool

@@ -1,4 +1,3 @@
-pub mod Choice
 pub mod Parts
 pub mod BigEndian
 pub mod Compare

@@ -1,9 +1,9 @@
 -- Parts of a list of bytes, and bytes written over a part of it.
+use mathlib.Core.Bool.{cond}
 use Prim.Native.Nat.{ℕ, _+_, _<_}
 use mathlib.Core.List.{List, _++_}
 use lib.ListN.{length, take, drop, getD}
 use lib.Dec.{leb}
-use Rattle.octets.specs.Choice.{pick}
 
 -- every element is a byte, as in every slice of bytes
 abbrev pub Bytes : List ℕ → Type 0
@@ -20,4 +20,4 @@ pasted s at xs = take at s ++ (xs ++ drop (at + length xs) s)
 -- the same where xs fits, else s unchanged: what every writer leaves
 unfoldable pub written : List ℕ → ℕ → List ℕ → List ℕ
 unfolding pasted
-written s at xs = pick (leb (at + length xs) (length s)) (pasted s at xs) s
+written s at xs = cond (leb (at + length xs) (length s)) (pasted s at xs) s

@@ -13,7 +13,7 @@ use borrow.Author.Tests.{leb-true, lt-ltb}
 use Rattle.octets.specs.Parts.{part}
 use Rattle.octets.specs.BigEndian.{be, beFrom}
 use Rattle.octets.specs.Compare.{same, zeros}
-use Rattle.octets.proofs.Choices.{cases, both, pick-elim}
+use Rattle.octets.proofs.Choices.{cases, both, cond-elim}
 use Rattle.octets.proofs.Tests.{same-true}
 use Rattle.numbers.specs.declared.Numbers.{Numbers}
 use Rattle.engine.specs.Documents.{Key, Doc, Entry}
@@ -52,7 +52,7 @@ module _ (r : List ℕ) where
   unfolding rowOf
   used-row e h =
       let x : Entry = record { key = keyOf r; doc = docOf r } in
-      pick-elim (eqb (slotOf r .kind) 0) none (some x) (some e) h
+      cond-elim (eqb (slotOf r .kind) 0) none (some x) (some e) h
       (λ t z. none-some e z)
       (λ f z. let q : x ≡ e = cc in (f, ap (λ (w : Entry). w .doc) q))
 

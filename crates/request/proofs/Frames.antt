@@ -2,14 +2,13 @@
 use Prim.Native.Nat.{ℕ, _+_, _-_, _^_, _≤_, _<_}
 use mathlib.Core.Path.{_≡_, refl, sym, ap, ap₂, _∙_}
 use mathlib.Core.List.{List, [], _∷_, _++_, append-assoc, append-nil}
-use mathlib.Core.Bool.{Bool, true, false, not, _&&_}
+use mathlib.Core.Bool.{Bool, true, false, not, _&&_, cond}
 use native.Mathlib.Omega.{arith}
 use native.Mathlib.Nat.{add-sub-cancel-left}
 use lib.ListN.{length, take, drop, length-append}
 use lib.Seq.{drop-drop, take-append-seam, drop-append-seam}
 use lib.Dec.{ltb, eqb}
 use borrow.Author.Tests.{le-ltb, lt-ltb, ltb-true}
-use Rattle.octets.specs.Choice.{pick}
 use Rattle.octets.specs.Parts.{part}
 use Rattle.octets.proofs.Choices.{both}
 use Rattle.header.specs.declared.Header.{Header}
@@ -90,7 +89,7 @@ module _ (f : Fields) (extras key value rest : List ℕ) where
     unfolding h
     header-is = ap headerOf pieces ∙ header-back h (extras ++ (key ++ (value ++ rest))) (header-fits f (length extras) (length key) (length value) p w)
 
-    gate-is : gateOf frame ≡ pick (ltb 1400 body) (Stop 3 0) (Whole h)
+    gate-is : gateOf frame ≡ cond (ltb 1400 body) (Stop 3 0) (Whole h)
     unfolding gateOf body h headerFor
     gate-is =
         simp (
@@ -103,6 +102,6 @@ module _ (f : Fields) (extras key value rest : List ℕ) where
     unfolding reading
     reading-long l = rw (gate-is, lt-ltb 1400 body l)
 
-    pub reading-frame : body ≤ 1400 → reading frame ≡ pick (eqb (status h extras value) 0) (Accepted (frameOf frame h)) (Status (status h extras value))
+    pub reading-frame : body ≤ 1400 → reading frame ≡ cond (eqb (status h extras value) 0) (Accepted (frameOf frame h)) (Status (status h extras value))
     unfolding reading wholeReading
     reading-frame l = rw (gate-is, le-ltb 1400 body l, frame-status)

@@ -2,16 +2,15 @@
 use Prim.Native.Nat.{ℕ, _+_, _-_, _^_, _≤_, _<_}
 use mathlib.Core.Path.{_≡_, refl, sym, ap, ap₂, _∙_}
 use mathlib.Core.List.{List, [], _∷_, _++_}
-use mathlib.Core.Bool.{Bool, true, false, not, _&&_}
+use mathlib.Core.Bool.{Bool, true, false, not, _&&_, cond}
 use native.Mathlib.Omega.{arith}
 use native.Mathlib.Nat.{zero-add}
 use lib.ListN.{length, take, drop}
 use lib.Dec.{ltb, leb, eqb}
 use borrow.Author.Tests.{ltb-false, ltb-true, eqb-true, lt-ltb, le-ltb, not-false, not-true, leb-true, leb-false}
-use Rattle.octets.specs.Choice.{pick}
 use Rattle.octets.specs.Parts.{Bytes, part, pasted, written}
 use Rattle.octets.specs.BigEndian.{num}
-use Rattle.octets.proofs.Choices.{cases, pick-elim}
+use Rattle.octets.proofs.Choices.{cases, cond-elim}
 use Rattle.octets.proofs.Lists.{written-fits, part-length, glue}
 use Rattle.octets.proofs.Numbers.{num-below}
 use Rattle.header.specs.declared.Header.{Header}
@@ -43,9 +42,9 @@ pub record WasWritten (f : Fields) (extras key value : List ℕ) (room n : ℕ) 
 was-written : (f : Fields) (extras key value : List ℕ) (room n : ℕ) → writing f extras key value room ≡ Wrote n → WasWritten f extras key value room n
 unfolding writing
 was-written f extras key value room n e =
-    pick-elim (not (held (length extras) (length key) (length value))) _ _ _ e (λ t z. absurd (let y : _≡_ {A = ℕ} 0 1 = cc in omega arith))
-    (λ t e₁. pick-elim (refuses (reading (frameBytes f extras key value))) _ _ _ e₁ (λ u z. absurd (let y : _≡_ {A = ℕ} 0 1 = cc in omega arith))
-    (λ u e₂. pick-elim (ltb room (length (frameBytes f extras key value))) _ _ _ e₂ (λ v z. absurd (let y : _≡_ {A = ℕ} 0 1 = cc in omega arith))
+    cond-elim (not (held (length extras) (length key) (length value))) _ _ _ e (λ t z. absurd (let y : _≡_ {A = ℕ} 0 1 = cc in omega arith))
+    (λ t e₁. cond-elim (refuses (reading (frameBytes f extras key value))) _ _ _ e₁ (λ u z. absurd (let y : _≡_ {A = ℕ} 0 1 = cc in omega arith))
+    (λ u e₂. cond-elim (ltb room (length (frameBytes f extras key value))) _ _ _ e₂ (λ v z. absurd (let y : _≡_ {A = ℕ} 0 1 = cc in omega arith))
     (λ v z. record { is-held = not-false _ t; read = u; fits = ltb-false _ _ v; size = cc })))
 
 module _ (f : Fields) (extras key value : List ℕ) (p : Fits f) (w : held (length extras) (length key) (length value) ≡ true) where
@@ -54,7 +53,7 @@ module _ (f : Fields) (extras key value : List ℕ) (p : Fits f) (w : held (leng
 
   -- whether reading refuses a frame does not depend on what follows it
   refuses-by : (rest : List ℕ) → refuses (reading (frame f extras key value rest))
-      ≡ pick (ltb 1400 (length extras + length key + length value)) true (pick (eqb rules 0) false true)
+      ≡ cond (ltb 1400 (length extras + length key + length value)) true (cond (eqb rules 0) false true)
   unfolding rules h body
   refuses-by rest =
       cases (ltb 1400 (length extras + length key + length value))
@@ -66,13 +65,13 @@ module _ (f : Fields) (extras key value : List ℕ) (p : Fits f) (w : held (leng
 
   module _ (a : refuses (reading (frameBytes f extras key value)) ≡ false) where
     short : length extras + length key + length value ≤ 1400
-    short = pick-elim (ltb 1400 (length extras + length key + length value)) _ _ _ (sym (refuses-by []) ∙ sym (refuses-alike []) ∙ a)
+    short = cond-elim (ltb 1400 (length extras + length key + length value)) _ _ _ (sym (refuses-by []) ∙ sym (refuses-alike []) ∙ a)
         (λ t z. absurd (let y : _≡_ {A = ℕ} 0 1 = cc in omega arith)) (λ t z. ltb-false _ _ t)
 
     ruled : eqb rules 0 ≡ true
-    ruled = pick-elim (ltb 1400 (length extras + length key + length value)) _ _ _ (sym (refuses-by []) ∙ sym (refuses-alike []) ∙ a)
+    ruled = cond-elim (ltb 1400 (length extras + length key + length value)) _ _ _ (sym (refuses-by []) ∙ sym (refuses-alike []) ∙ a)
         (λ t z. absurd (let y : _≡_ {A = ℕ} 0 1 = cc in omega arith))
-        (λ t z. pick-elim (eqb rules 0) _ _ _ z (λ u y. u) (λ u y. absurd (let x : _≡_ {A = ℕ} 0 1 = cc in omega arith)))
+        (λ t z. cond-elim (eqb rules 0) _ _ _ z (λ u y. u) (λ u y. absurd (let x : _≡_ {A = ℕ} 0 1 = cc in omega arith)))
 
     accepts : (rest : List ℕ) → reading (frame f extras key value rest) ≡ Accepted (frameOf (frame f extras key value rest) (h f extras key value rest))
     unfolding rules h body
@@ -98,9 +97,9 @@ written-reads f extras key value out n p e =
 refused : (f : Fields) (extras key value : List ℕ) (room : ℕ) → held (length extras) (length key) (length value) ≡ true → writing f extras key value room ≡ Refused → refuses (reading (frameBytes f extras key value)) ≡ true
 unfolding writing
 refused f extras key value room w e =
-    pick-elim (not (held (length extras) (length key) (length value))) _ _ _ e (λ t z. absurd (let b : false ≡ true = sym (not-true _ t) ∙ w in let y : _≡_ {A = ℕ} 0 1 = cc in omega arith))
-    (λ t e₁. pick-elim (refuses (reading (frameBytes f extras key value))) _ _ _ e₁ (λ u z. u)
-    (λ u e₂. pick-elim (ltb room (length (frameBytes f extras key value))) _ _ _ e₂ (λ v z. absurd (let y : _≡_ {A = ℕ} 0 1 = cc in omega arith)) (λ v z. absurd (let y : _≡_ {A = ℕ} 0 1 = cc in omega arith))))
+    cond-elim (not (held (length extras) (length key) (length value))) _ _ _ e (λ t z. absurd (let b : false ≡ true = sym (not-true _ t) ∙ w in let y : _≡_ {A = ℕ} 0 1 = cc in omega arith))
+    (λ t e₁. cond-elim (refuses (reading (frameBytes f extras key value))) _ _ _ e₁ (λ u z. u)
+    (λ u e₂. cond-elim (ltb room (length (frameBytes f extras key value))) _ _ _ e₂ (λ v z. absurd (let y : _≡_ {A = ℕ} 0 1 = cc in omega arith)) (λ v z. absurd (let y : _≡_ {A = ℕ} 0 1 = cc in omega arith))))
 
 pub refused-reads : RefusedReads
 unfolding frame
@@ -123,7 +122,7 @@ pub record WasRead (s : List ℕ) (g : Frame) (h : Header) : Type 0 where
 was-whole : (s : List ℕ) (g : Frame) (h : Header) → wholeReading s h ≡ Accepted g → (frameStatus s h ≡ 0) × (g ≡ frameOf s h)
 unfolding wholeReading
 was-whole s g h e =
-    pick-elim (eqb (frameStatus s h) 0) _ _ _ e (λ t z. (eqb-true _ _ t, cc)) (λ t z. absurd (let y : _≡_ {A = ℕ} 0 1 = cc in omega arith))
+    cond-elim (eqb (frameStatus s h) 0) _ _ _ e (λ t z. (eqb-true _ _ t, cc)) (λ t z. absurd (let y : _≡_ {A = ℕ} 0 1 = cc in omega arith))
 
 was-read : (s : List ℕ) (g : Frame) → reading s ≡ Accepted g → WasRead s g (headerOf s)
 unfolding reading gateOf

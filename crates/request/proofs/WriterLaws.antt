@@ -2,12 +2,11 @@
 use Prim.Native.Nat.{ℕ, _+_, _^_, _≤_, _<_}
 use mathlib.Core.Path.{_≡_, refl, sym, ap, _∙_}
 use mathlib.Core.List.{List, [], _++_, append-nil}
-use mathlib.Core.Bool.{Bool, true, false, not, _&&_, and-false}
+use mathlib.Core.Bool.{Bool, true, false, not, _&&_, and-false, cond}
 use native.Mathlib.Omega.{arith}
 use lib.ListN.{length}
 use lib.Dec.{ltb, leb, eqb}
 use borrow.Author.Tests.{le-ltb, lt-ltb, eq-eqb, ne-eqb, leb-true, leb-false}
-use Rattle.octets.specs.Choice.{pick}
 use Rattle.octets.proofs.Choices.{cases}
 use Rattle.rules.specs.Rules.{status}
 use Rattle.request.specs.declared.Fields.{Fields}
@@ -35,8 +34,8 @@ module _ (f : Fields) (extras key value : List ℕ) (room : ℕ) where
   not-held w = rw w
 
   by-reading : held (length extras) (length key) (length value) ≡ true → writing f extras key value room
-      ≡ pick (refuses (reading (frameBytes f extras key value))) Refused
-      (pick (ltb room (24 + (length extras + length key + length value))) NoRoom (Wrote (24 + (length extras + length key + length value))))
+      ≡ cond (refuses (reading (frameBytes f extras key value))) Refused
+      (cond (ltb room (24 + (length extras + length key + length value))) NoRoom (Wrote (24 + (length extras + length key + length value))))
   unfolding writing
   by-reading w = rw (w, frame-size)
 
@@ -57,7 +56,7 @@ module _ (f : Fields) (extras key value : List ℕ) (room : ℕ) where
 
     module _ (e : length extras ≤ 255) (n : length extras + length key + length value ≤ 1400) where
       is-read : reading (frameBytes f extras key value)
-          ≡ pick (eqb (status (headerFor f (length extras) (length key) (length value)) extras value) 0)
+          ≡ cond (eqb (status (headerFor f (length extras) (length key) (length value)) extras value) 0)
           (Accepted (frameOf (frame f extras key value []) (h f extras key value [])))
           (Status (status (headerFor f (length extras) (length key) (length value)) extras value))
       unfolding h body
@@ -74,8 +73,8 @@ module _ (f : Fields) (extras key value : List ℕ) (room : ℕ) where
         wrote r = by-reading (small-held e n) ∙ rw (is-read, eq-eqb _ _ s, le-ltb _ _ r)
 
 -- the sum that was capped at 1,401
-pub over-sum : (n b : ℕ) → b ≡ pick (leb n 1400) n 1401 → 1400 < b → 1400 < n
+pub over-sum : (n b : ℕ) → b ≡ cond (leb n 1400) n 1401 → 1400 < b → 1400 < n
 over-sum n b e l = cases (leb n 1400) (λ t. omega (arith, rw t at e, leb-true n 1400 t)) (λ t. leb-false n 1400 t)
 
-pub small-sum : (n b : ℕ) → b ≡ pick (leb n 1400) n 1401 → b ≤ 1400 → (b ≡ n) × (n ≤ 1400)
+pub small-sum : (n b : ℕ) → b ≡ cond (leb n 1400) n 1401 → b ≤ 1400 → (b ≡ n) × (n ≤ 1400)
 small-sum n b e l = cases (leb n 1400) (λ t. (rw t at e, leb-true n 1400 t)) (λ t. absurd (let z : b ≡ 1401 = rw t at e in omega arith))

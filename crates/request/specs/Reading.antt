@@ -1,10 +1,9 @@
 -- Reading a request: outcomes 1, 2, 3 of document 01, then statuses 1 to 3 save the rules that need mode or clock, else the fields.
 use Prim.Native.Nat.{ℕ, _+_, _-_}
 use mathlib.Core.List.{List}
-use mathlib.Core.Bool.{Bool, true, false, not}
+use mathlib.Core.Bool.{Bool, true, false, not, cond}
 use lib.ListN.{length}
 use lib.Dec.{ltb, eqb}
-use Rattle.octets.specs.Choice.{pick}
 use Rattle.octets.specs.Parts.{part}
 use Rattle.shape.specs.Shapes.{shapeOf}
 use Rattle.header.specs.Header.{headerOf}
@@ -32,10 +31,10 @@ statusOf (Accepted f) = 0
 -- the outcomes, in the order tested, each with the bytes needed from the frame's start (0 where 01 promises none), or the header of a whole frame
 unfoldable pub gateOf : List ℕ → Gate
 gateOf s =
-    pick (ltb (length s) 24) (Stop 1 24)
-    (pick (not (eqb (headerOf s .magic) 0x80)) (Stop 2 0)
-    (pick (ltb 1400 (headerOf s .body)) (Stop 3 0)
-    (pick (ltb (length s) (24 + headerOf s .body)) (Stop 1 (24 + headerOf s .body))
+    cond (ltb (length s) 24) (Stop 1 24)
+    (cond (not (eqb (headerOf s .magic) 0x80)) (Stop 2 0)
+    (cond (ltb 1400 (headerOf s .body)) (Stop 3 0)
+    (cond (ltb (length s) (24 + headerOf s .body)) (Stop 1 (24 + headerOf s .body))
     (Whole (headerOf s)))))
 
 -- where extras, key and value stand in a frame: one after the other, after the header
@@ -73,7 +72,7 @@ frameStatus s h = status h (bytesIn s (extrasSpan h)) (bytesIn s (valueSpan h))
 
 unfoldable pub wholeReading : List ℕ → Header → Reading
 unfolding frameStatus frameOf
-wholeReading s h = pick (eqb (frameStatus s h) 0) (Accepted (frameOf s h)) (Status (frameStatus s h))
+wholeReading s h = cond (eqb (frameStatus s h) 0) (Accepted (frameOf s h)) (Status (frameStatus s h))
 
 abbrev pub gated : List ℕ → Gate → Reading
 gated s (Stop n need) = Outcome n

@@ -2,10 +2,9 @@
 -- then with outcome 4 exactly if the room is too small for that frame; the output is then unchanged. Otherwise bytes past the frame are unchanged."
 use Prim.Native.Nat.{ℕ, _+_, _^_, _<_}
 use mathlib.Core.List.{List, _++_}
-use mathlib.Core.Bool.{Bool, true, false, not, _&&_}
+use mathlib.Core.Bool.{Bool, true, false, not, _&&_, cond}
 use lib.ListN.{length}
 use lib.Dec.{ltb}
-use Rattle.octets.specs.Choice.{pick}
 use Rattle.octets.specs.Parts.{written}
 use Rattle.header.specs.Header.{headerBytes}
 use Rattle.header.specs.declared.Header.{Header}
@@ -58,9 +57,9 @@ refuses (Accepted f) = false
 unfoldable pub writing : Fields → List ℕ → List ℕ → List ℕ → ℕ → Written
 unfolding frameBytes held
 writing f extras key value room =
-    pick (not (held (length extras) (length key) (length value))) Refused
-    (pick (refuses (reading (frameBytes f extras key value))) Refused
-    (pick (ltb room (length (frameBytes f extras key value))) NoRoom
+    cond (not (held (length extras) (length key) (length value))) Refused
+    (cond (refuses (reading (frameBytes f extras key value))) Refused
+    (cond (ltb room (length (frameBytes f extras key value))) NoRoom
     (Wrote (length (frameBytes f extras key value)))))
 
 -- the output after that answer

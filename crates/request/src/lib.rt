@@ -1,10 +1,10 @@
 // Requests: read from received bytes, and written. A frame is refused by the outcomes and statuses of document 01 that
 // need no table; else its fields are shown, with extras, key and value as parts of the caller's bytes.
 ghost use mathlib.Core.Path.{_≡_};
+ghost use mathlib.Core.Bool.{cond};
 ghost use Prim.Native.Nat.{_+_, _-_, _≤_};
 ghost use lib.ListN.{length};
 ghost use lib.Dec.{leb};
-ghost use Rattle.octets.specs.Choice.{pick};
 ghost use Rattle.octets.specs.Parts.{written};
 ghost use Rattle.header.specs.Header.{headerBytes};
 ghost use mathlib.Core.List.{_++_};
@@ -183,7 +183,7 @@ pub fn read(received: &[u8]) -> Reading
 
 // The lengths of extras, key and value together, or 1,401 where that is over 1,400: their sum may be more than a usize holds.
 fn body_size(e: usize, k: usize, v: usize) -> usize
-    ensures { λ r. ⌜ r ≡ pick (leb (e + k + v) 1400) (e + k + v) 1401 ⌝ }
+    ensures { λ r. ⌜ r ≡ cond (leb (e + k + v) 1400) (e + k + v) 1401 ⌝ }
 {
     if 1400 < e {
         return 1401;

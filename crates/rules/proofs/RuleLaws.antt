@@ -2,12 +2,11 @@
 use Prim.Native.Nat.{ℕ, _+_, _≤_}
 use mathlib.Core.Path.{_≡_, refl, sym, ap, _∙_}
 use mathlib.Core.List.{List}
-use mathlib.Core.Bool.{Bool, true, false, not, _&&_, _||_}
+use mathlib.Core.Bool.{Bool, true, false, not, _&&_, _||_, cond}
 use native.Mathlib.Omega.{arith}
 use lib.Dec.{ltb, leb, eqb}
 use borrow.Author.Tests.{leb-true, eqb-true, not-false}
-use Rattle.octets.specs.Choice.{pick}
-use Rattle.octets.proofs.Choices.{pick-elim, both}
+use Rattle.octets.proofs.Choices.{cond-elim, both}
 use Rattle.shape.specs.Shapes.{shapeOf}
 use Rattle.shape.specs.declared.Shape.{Shape}
 use Rattle.header.specs.declared.Header.{Header}
@@ -16,9 +15,9 @@ use Rattle.rules.specs.Rules.{formOk, fieldRulesOk, judged, status}
 judged-form : (s : Shape) (h : Header) (extras value : List ℕ) → judged s h extras value ≡ 0 → formOk s h ≡ true
 unfolding judged
 judged-form s h extras value e =
-    pick-elim (not (eqb (s .status) 0)) _ _ _ e
+    cond-elim (not (eqb (s .status) 0)) _ _ _ e
     (λ t z. absurd (no-status (eqb (s .status) 0) refl t z))
-    (λ t e₁. pick-elim (not (formOk s h)) _ _ _ e₁ (λ u z. absurd (omega arith)) (λ u z. not-false (formOk s h) u))
+    (λ t e₁. cond-elim (not (formOk s h)) _ _ _ e₁ (λ u z. absurd (omega arith)) (λ u z. not-false (formOk s h) u))
   where
     no-status : (b : Bool) → eqb (s .status) 0 ≡ b → not b ≡ true → s .status ≡ 0 → ⊥
     no-status true p q z = let y : _≡_ {A = ℕ} 0 1 = cc in omega arith

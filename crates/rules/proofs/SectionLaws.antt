@@ -2,13 +2,12 @@
 use Prim.Native.Nat.{ℕ, zero, suc, _+_, _-_, _≤_, _<_}
 use mathlib.Core.Path.{_≡_, refl, sym, ap, _∙_}
 use mathlib.Core.List.{List, [], _∷_}
-use mathlib.Core.Bool.{Bool, true, false, _&&_, _||_}
+use mathlib.Core.Bool.{Bool, true, false, _&&_, _||_, cond}
 use native.Mathlib.Omega.{arith}
 use lib.ListN.{length, drop, length-drop, drop-of-length-le}
 use lib.Seq.{drop-drop}
 use lib.Dec.{leb, eqb}
 use borrow.Author.Tests.{ne-eqb, leb-true}
-use Rattle.octets.specs.Choice.{pick}
 use Rattle.octets.specs.BigEndian.{num}
 use Rattle.octets.proofs.Choices.{both}
 use Rattle.rules.specs.Section.{fieldOk, fieldSize, walk, fieldsOk}
@@ -38,7 +37,7 @@ unfolding fieldsOk walk
 fields-end = refl
 
 module _ (l : List ℕ) (some : 0 < length l) where
-  fields-law : fieldsOk l ≡ pick (fieldOk l) (fieldsOk (drop (fieldSize l) l)) false
+  fields-law : fieldsOk l ≡ cond (fieldOk l) (fieldsOk (drop (fieldSize l) l)) false
   unfolding fieldsOk walk
   fields-law =
       let e = length-drop (fieldSize l) l in

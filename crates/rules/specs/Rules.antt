@@ -1,10 +1,9 @@
 -- Statuses 1 to 3 of document 01, "first that applies", save the rules that need mode or clock.
 use Prim.Native.Nat.{ℕ, _+_, _-_, _/_, _%_}
 use mathlib.Core.List.{List}
-use mathlib.Core.Bool.{Bool, true, false, not, _&&_, _||_}
+use mathlib.Core.Bool.{Bool, true, false, not, _&&_, _||_, cond}
 use lib.ListN.{length, drop}
 use lib.Dec.{ltb, leb, eqb}
-use Rattle.octets.specs.Choice.{pick}
 use Rattle.shape.specs.Shapes.{shapeOf}
 use Rattle.shape.specs.declared.Shape.{Shape}
 use Rattle.header.specs.declared.Header.{Header}
@@ -59,7 +58,7 @@ withMetaOk meta w value =
 
 -- how many bytes of extended meta end the value
 unfoldable pub metaSize : Shape → List ℕ → ℕ
-metaSize s extras = pick (eqb (s .meta) 0) 0 (sectionOf extras)
+metaSize s extras = cond (eqb (s .meta) 0) 0 (sectionOf extras)
 
 unfoldable pub fieldRulesOk : Shape → List ℕ → List ℕ → Bool
 unfolding withMetaOk
@@ -69,10 +68,10 @@ fieldRulesOk s extras value = eqb (s .meta) 0 || withMetaOk (s .meta) (withMeta 
 unfoldable pub judged : Shape → Header → List ℕ → List ℕ → ℕ
 unfolding formOk fieldRulesOk metaSize
 judged s h extras value =
-    pick (not (eqb (s .status) 0)) (s .status)
-    (pick (not (formOk s h)) 0x04
-    (pick (not (fieldRulesOk s extras value)) 0x04
-    (pick (ltb 1024 (length value - metaSize s extras)) 0x03 0)))
+    cond (not (eqb (s .status) 0)) (s .status)
+    (cond (not (formOk s h)) 0x04
+    (cond (not (fieldRulesOk s extras value)) 0x04
+    (cond (ltb 1024 (length value - metaSize s extras)) 0x03 0)))
 
 unfoldable pub status : Header → List ℕ → List ℕ → ℕ
 unfolding judged

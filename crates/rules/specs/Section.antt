@@ -1,10 +1,9 @@
 -- The extended meta section: "a version byte of 1, then fields of one-byte id and two-byte length. Ids 1 and 2 are ignored; another version or id, a cut field" is wrong.
 use Prim.Native.Nat.{ℕ, zero, suc, _+_, _-_}
 use mathlib.Core.List.{List}
-use mathlib.Core.Bool.{Bool, true, false, _&&_, _||_}
+use mathlib.Core.Bool.{Bool, true, false, _&&_, _||_, cond}
 use lib.ListN.{length, drop}
 use lib.Dec.{ltb, leb, eqb}
-use Rattle.octets.specs.Choice.{pick}
 use Rattle.octets.specs.BigEndian.{num}
 
 -- a field's head stands there whole, its id is 1 or 2, and its bytes follow
@@ -19,7 +18,7 @@ fieldSize l = 3 + num l 1 2
 unfoldable pub walk : ℕ → List ℕ → Bool
 unfolding fieldOk fieldSize
 walk zero l = true
-walk (suc f) l = pick (eqb (length l) 0) true (pick (fieldOk l) (walk f (drop (fieldSize l) l)) false)
+walk (suc f) l = cond (eqb (length l) 0) true (cond (fieldOk l) (walk f (drop (fieldSize l) l)) false)
 
 unfoldable pub fieldsOk : List ℕ → Bool
 unfolding walk

@@ -1,9 +1,9 @@
 -- The extras of a with-meta request: "flags 4, expiry 4, revision 8, CAS 8; 26 adds meta length (2); 28 adds options (4); 30 adds options, then meta length."
+use mathlib.Core.Bool.{cond}
 use Prim.Native.Nat.{ℕ}
 use mathlib.Core.List.{List}
 use lib.ListN.{length}
 use lib.Dec.{eqb, leb}
-use Rattle.octets.specs.Choice.{pick}
 use Rattle.octets.specs.BigEndian.{num}
 use Rattle.numbers.specs.declared.Cas.{Cas}
 use Rattle.numbers.specs.declared.Revision.{Revision}
@@ -20,11 +20,11 @@ numbersOf extras = record {
 
 -- 0 where the extras have none
 unfoldable pub optionsOf : List ℕ → ℕ
-optionsOf extras = pick (leb 28 (length extras)) (num extras 24 4) 0
+optionsOf extras = cond (leb 28 (length extras)) (num extras 24 4) 0
 
 -- the length of the extended meta, 0 where the extras have none
 unfoldable pub sectionOf : List ℕ → ℕ
-sectionOf extras = pick (eqb (length extras) 26) (num extras 24 2) (pick (eqb (length extras) 30) (num extras 28 2) 0)
+sectionOf extras = cond (eqb (length extras) 26) (num extras 24 2) (cond (eqb (length extras) 30) (num extras 28 2) 0)
 
 unfoldable pub withMeta : List ℕ → WithMeta
 unfolding numbersOf optionsOf sectionOf

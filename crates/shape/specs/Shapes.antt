@@ -1,9 +1,8 @@
 -- The shape of every opcode, as document 01 lists the commands: extras size, key, value, quiet; and which opcodes are not built (0x83) or unknown (0x81).
 use Prim.Native.Nat.{ℕ}
 use mathlib.Core.List.{List, [], _∷_, _++_}
-use mathlib.Core.Bool.{Bool, true, false, _||_}
+use mathlib.Core.Bool.{Bool, true, false, _||_, cond}
 use lib.Dec.{eqb}
-use Rattle.octets.specs.Choice.{pick}
 use Rattle.shape.specs.declared.Shape.{Shape}
 
 -- what stands between the header and the end of the body, for a loud opcode and its quiet twin
@@ -63,7 +62,7 @@ empty s = record { status = s; extras = 0; key = 0; value = 0; meta = 0; quiet =
 
 unfoldable pub lookUp : ℕ → List Command → Shape → Shape
 lookUp op [] other = other
-lookUp op (c ∷ cs) other = pick (eqb op (c .loud)) (shapeBy c false) (pick (eqb op (c .quiet)) (shapeBy c true) (lookUp op cs other))
+lookUp op (c ∷ cs) other = cond (eqb op (c .loud)) (shapeBy c false) (cond (eqb op (c .quiet)) (shapeBy c true) (lookUp op cs other))
 
 unfoldable pub among : ℕ → List ℕ → Bool
 among op [] = false
@@ -72,4 +71,4 @@ among op (x ∷ xs) = eqb op x || among op xs
 -- "0x81: every other opcode"
 unfoldable pub shapeOf : ℕ → Shape
 unfolding lookUp among commands bare unbuilt
-shapeOf op = lookUp op commands (pick (among op bare) (empty 0) (pick (among op unbuilt) (empty 0x83) (empty 0x81)))
+shapeOf op = lookUp op commands (cond (among op bare) (empty 0) (cond (among op unbuilt) (empty 0x83) (empty 0x81)))

@@ -6,7 +6,6 @@ use mathlib.Core.Option.{none, some}
 use Prim.Native.Nat.{ℕ, _+_, _^_, _<_}
 use lib.ListN.{length, take, drop, replicate}
 use lib.Seq.{take-at}
-use Rattle.octets.specs.Choice.{pick}
 use Rattle.octets.proofs.Choices.{cases}
 use Rattle.engine.specs.Documents.{Doc}
 use Rattle.table.specs.Row.{Row, rowOf, rowBytes}
@@ -28,7 +27,7 @@ module _ (p : Doc → Bool) where
   purge-first none ws = refl
   purge-first (some e) ws = refl
 
-  row-purged : (w : Row) → pick (gone p w) (replicate 1312 0) (rowBytes w) ≡ rowBytes (purged w)
+  row-purged : (w : Row) → cond (gone p w) (replicate 1312 0) (rowBytes w) ≡ rowBytes (purged w)
   unfolding rowBytes
   row-purged none = refl
   row-purged (some e) = cases (p (e .doc)) (λ t. rw t) (λ t. rw t)
@@ -40,7 +39,7 @@ module _ (p : Doc → Bool) where
     rows-purged (w ∷ ws) g =
         let h = good-first mark w ws g in
         (λ i. purgeRow p (first-row mark w ws (h .0) i) ++ purgeBytes p (length ws) (later-rows mark w ws (h .0) i))
-        ∙ (λ i. pick (gone p (row-read mark w (h .0) small i)) (replicate 1312 0) (rowBytes w) ++ rows-purged ws (h .1) i)
+        ∙ (λ i. cond (gone p (row-read mark w (h .0) small i)) (replicate 1312 0) (rowBytes w) ++ rows-purged ws (h .1) i)
         ∙ (λ i. row-purged w i ++ rowsBytes (purgeRows ws p))
         ∙ ap rowsBytes (sym (purge-first w ws))
 

@@ -3,7 +3,7 @@ use native.Mathlib.Omega.{arith}
 use native.Mathlib.Nat.{add-assoc}
 use mathlib.Core.Logic.{_⊎_, inl, inr, ⊎-elim}
 use mathlib.Core.Path.{_≡_, refl, sym, ap, _∙_}
-use mathlib.Core.Bool.{Bool, true, false, _&&_, _||_}
+use mathlib.Core.Bool.{Bool, true, false, _&&_, _||_, cond}
 use mathlib.Core.List.{List, _++_}
 use mathlib.Core.Option.{none, some}
 use Prim.Native.Nat.{ℕ, _+_, _-_, _^_, _≤_, _<_}
@@ -11,7 +11,6 @@ use lib.ListN.{length, drop, replicate, length-append, length-drop, length-repli
 use lib.Seq.{drop-drop, take-at, drop-at}
 use lib.Dec.{eqb, leb}
 use borrow.Author.Tests.{leb-true, eqb-true, le-leb, eq-eqb}
-use Rattle.octets.specs.Choice.{pick}
 use Rattle.octets.specs.Parts.{Bytes, part}
 use Rattle.octets.specs.BigEndian.{be, beFrom, bytesOf}
 use Rattle.octets.specs.Compare.{zeros}
@@ -98,11 +97,11 @@ module _ (mark : ℕ) (e : Entry) (g : EntryGood mark e) where
     used-read =
         let r = usedBytes e in
         let s = slot-read in
-        (λ i. pick (eqb (s i .kind) 0) none (some (record {
+        (λ i. cond (eqb (s i .kind) 0) none (some (record {
           key = part r 32 (s i .keylen);
           doc = record { tomb = eqb (s i .kind) 2; value = part r (32 + s i .keylen) (s i .vallen); numbers = s i .numbers };
         })))
-        ∙ (λ i. pick (kind-used (e .doc .tomb) i) none (some (record {
+        ∙ (λ i. cond (kind-used (e .doc .tomb) i) none (some (record {
           key = key-read e i;
           doc = record { tomb = kind-tomb (e .doc .tomb) i; value = value-read e i; numbers = e .doc .numbers };
         })))
@@ -122,8 +121,8 @@ module _ (mark : ℕ) (e : Entry) (g : EntryGood mark e) where
     used-sound =
         let r = usedBytes e in
         let s = slot-read in
-        (λ i. pick (eqb (s i .kind) 0) (zeros r) (usedOk mark (s i) && zeros (drop (32 + (s i .keylen + s i .vallen)) r)))
-        ∙ (λ i. pick (kind-used (e .doc .tomb) i) (zeros r) (used-ok i && (ap zeros (after-value e) ∙ zeros-replicate (left e)) i))
+        (λ i. cond (eqb (s i .kind) 0) (zeros r) (usedOk mark (s i) && zeros (drop (32 + (s i .keylen + s i .vallen)) r)))
+        ∙ (λ i. cond (kind-used (e .doc .tomb) i) (zeros r) (used-ok i && (ap zeros (after-value e) ∙ zeros-replicate (left e)) i))
 
 module _ (mark : ℕ) where
   pub row-length : (w : Row) → RowGood mark w → length (rowBytes w) ≡ 1312

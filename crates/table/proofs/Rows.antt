@@ -1,7 +1,7 @@
 -- One row of a run of rows: what each pass over rows makes of it, and what a row's first bytes say.
 use Prim.Native.Nat.{ℕ, zero, suc, _+_, _-_, _*_, _≤_, _<_}
 use mathlib.Core.Path.{_≡_, refl, sym, ap, _∙_}
-use mathlib.Core.Bool.{true, _&&_, not}
+use mathlib.Core.Bool.{true, _&&_, not, cond}
 use mathlib.Core.List.{List, [], _∷_, map}
 use mathlib.Core.Option.{none, some}
 use native.Mathlib.Omega.{arith}
@@ -10,7 +10,6 @@ use lib.Dec.{eqb, leb}
 use lib.ListN.{length, drop, getD}
 use lib.Seq.{drop-drop}
 use borrow.Author.Tests.{eqb-true, eqb-false, ne-eqb}
-use Rattle.octets.specs.Choice.{pick}
 use Rattle.octets.specs.Parts.{part}
 use Rattle.octets.specs.BigEndian.{num, be, beFrom}
 use Rattle.octets.specs.Compare.{same, zeros}
@@ -35,10 +34,10 @@ module _ (s : List ℕ) (at n : ℕ) (h : 0 < n) where
   pub sound-row : (mark : ℕ) → allSound mark (chunks n (drop at s)) ≡ (rowSound mark (part s at 1312) && allSound mark (chunks (n - 1) (drop (at + 1312) s)))
   sound-row mark = ap (allSound mark) one-row
 
-  pub find-row : (key : List ℕ) (i : ℕ) → findIn key i (rowsOf n (drop at s)) ≡ pick (holds key (rowOf (part s at 1312))) (At i) (findIn key (i + 1) (rowsOf (n - 1) (drop (at + 1312) s)))
+  pub find-row : (key : List ℕ) (i : ℕ) → findIn key i (rowsOf n (drop at s)) ≡ cond (holds key (rowOf (part s at 1312))) (At i) (findIn key (i + 1) (rowsOf (n - 1) (drop (at + 1312) s)))
   find-row key i = ap (λ (l : List (List ℕ)). findIn key i (map rowOf l)) one-row
 
-  pub free-row : (i : ℕ) → freeIn i (rowsOf n (drop at s)) ≡ pick (isFree (rowOf (part s at 1312))) (At i) (freeIn (i + 1) (rowsOf (n - 1) (drop (at + 1312) s)))
+  pub free-row : (i : ℕ) → freeIn i (rowsOf n (drop at s)) ≡ cond (isFree (rowOf (part s at 1312))) (At i) (freeIn (i + 1) (rowsOf (n - 1) (drop (at + 1312) s)))
   free-row i = ap (λ (l : List (List ℕ)). freeIn i (map rowOf l)) one-row
 
 -- the two bytes of a number that is 0

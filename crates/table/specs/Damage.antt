@@ -1,11 +1,10 @@
 -- "Damaged: wrong size, a header field out of range, a row against these rules, a used row with CAS 0 or above the mark, or two used rows with one key." Sound is not damaged.
 use Prim.Native.Nat.{ℕ, _+_, _*_}
 use mathlib.Core.List.{List, [], _∷_}
-use mathlib.Core.Bool.{Bool, true, false, _&&_, _||_}
+use mathlib.Core.Bool.{Bool, true, false, _&&_, _||_, cond}
 use mathlib.Core.Option.{Option, none, some}
 use lib.ListN.{length, drop}
 use lib.Dec.{eqb, leb}
-use Rattle.octets.specs.Choice.{pick}
 use Rattle.octets.specs.Compare.{zeros}
 use Rattle.table.specs.declared.Slot.{Slot}
 use Rattle.engine.specs.declared.Head.{Head}
@@ -38,7 +37,7 @@ usedOk mark s =
 -- "Unused bytes are zero": all of a free row, and what follows key and value
 unfoldable pub rowSound : ℕ → List ℕ → Bool
 unfolding usedOk
-rowSound mark r = pick (eqb (slotOf r .kind) 0) (zeros r) (usedOk mark (slotOf r) && zeros (drop (32 + (slotOf r .keylen + slotOf r .vallen)) r))
+rowSound mark r = cond (eqb (slotOf r .kind) 0) (zeros r) (usedOk mark (slotOf r) && zeros (drop (32 + (slotOf r .keylen + slotOf r .vallen)) r))
 
 abbrev pub allSound : ℕ → List (List ℕ) → Bool
 allSound mark [] = true

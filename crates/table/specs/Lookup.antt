@@ -1,9 +1,8 @@
 -- Where a key's row is, and where a new key goes: "A new key takes the lowest free row."
 use Prim.Native.Nat.{ℕ, _+_}
 use mathlib.Core.List.{List, [], _∷_}
-use mathlib.Core.Bool.{Bool, true, false}
+use mathlib.Core.Bool.{Bool, true, false, cond}
 use mathlib.Core.Option.{Option, none, some}
-use Rattle.octets.specs.Choice.{pick}
 use Rattle.octets.specs.Compare.{same}
 use Rattle.table.specs.Row.{Row}
 use Rattle.table.specs.declared.Found.{Found}
@@ -26,11 +25,11 @@ orElse Nothing f = f
 -- the place of the first row that holds the key, and of the first free row, counted from i
 abbrev pub findIn : List ℕ → ℕ → List Row → Found
 findIn key i [] = Nothing
-findIn key i (w ∷ ws) = pick (holds key w) (At i) (findIn key (i + 1) ws)
+findIn key i (w ∷ ws) = cond (holds key w) (At i) (findIn key (i + 1) ws)
 
 abbrev pub freeIn : ℕ → List Row → Found
 freeIn i [] = Nothing
-freeIn i (w ∷ ws) = pick (isFree w) (At i) (freeIn (i + 1) ws)
+freeIn i (w ∷ ws) = cond (isFree w) (At i) (freeIn (i + 1) ws)
 
 -- the key's row, else the lowest free row
 abbrev pub placeIn : List ℕ → List Row → Found

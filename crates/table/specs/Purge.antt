@@ -1,10 +1,9 @@
 -- A purge of rows in memory, one after the other: a row whose document the test picks is freed in place.
 use Prim.Native.Nat.{ℕ, zero, suc, _+_}
 use mathlib.Core.List.{List, [], _∷_, _++_}
-use mathlib.Core.Bool.{Bool, true, false}
+use mathlib.Core.Bool.{Bool, true, false, cond}
 use mathlib.Core.Option.{none, some}
 use lib.ListN.{take, drop, replicate}
-use Rattle.octets.specs.Choice.{pick}
 use Rattle.engine.specs.Documents.{Doc}
 use Rattle.table.specs.Row.{Row, rowOf}
 use Rattle.table.specs.Table.{Table}
@@ -21,7 +20,7 @@ one false = 0
 
 -- a row's bytes after a purge
 unfoldable pub purgeRow : (Doc → Bool) → List ℕ → List ℕ
-purgeRow p r = pick (gone p (rowOf r)) (replicate 1312 0) r
+purgeRow p r = cond (gone p (rowOf r)) (replicate 1312 0) r
 
 -- the bytes of n rows after a purge, and what follows them
 abbrev pub purgeBytes : (Doc → Bool) → ℕ → List ℕ → List ℕ

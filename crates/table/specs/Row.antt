@@ -1,11 +1,10 @@
 -- A row's 1,312 bytes and what they mean: kind 2, key length 2, value length 4, flags 4, expiry 4, revision 8, CAS 8, then the key, the value and zeros without a gap.
 use Prim.Native.Nat.{ℕ, _+_, _-_}
 use mathlib.Core.List.{List, _++_}
-use mathlib.Core.Bool.{Bool, true, false}
+use mathlib.Core.Bool.{Bool, true, false, cond}
 use mathlib.Core.Option.{Option, none, some}
 use lib.ListN.{length, replicate}
 use lib.Dec.{eqb}
-use Rattle.octets.specs.Choice.{pick}
 use Rattle.octets.specs.Parts.{part}
 use Rattle.octets.specs.BigEndian.{num, bytesOf}
 use Rattle.numbers.specs.declared.Cas.{Cas}
@@ -62,7 +61,7 @@ keyOf r = part r 32 (slotOf r .keylen)
 
 unfoldable pub rowOf : List ℕ → Row
 unfolding docOf keyOf
-rowOf r = pick (eqb (slotOf r .kind) 0) none (some (record { key = keyOf r; doc = docOf r }))
+rowOf r = cond (eqb (slotOf r .kind) 0) none (some (record { key = keyOf r; doc = docOf r }))
 
 unfoldable pub slotFor : Entry → Slot
 slotFor e = record { kind = kindOf (e .doc .tomb); keylen = length (e .key); vallen = length (e .doc .value); numbers = e .doc .numbers }

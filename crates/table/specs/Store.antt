@@ -1,12 +1,11 @@
 -- Reading and writing rows in memory, on any bytes. What it means on a sound table is in Claims.antt.
 use Prim.Native.Nat.{ℕ, _+_, _*_}
 use mathlib.Core.List.{List, []}
-use mathlib.Core.Bool.{Bool, _&&_}
+use mathlib.Core.Bool.{Bool, _&&_, cond}
 use mathlib.Core.Option.{Option, none, some}
 use lib.ListN.{length, getD}
 use lib.Dec.{ltb, leb}
 use lib.ListN.{drop}
-use Rattle.octets.specs.Choice.{pick}
 use Rattle.octets.specs.Parts.{pasted}
 use Rattle.octets.specs.BigEndian.{bytesOf}
 use Rattle.engine.specs.Documents.{Entry}
@@ -20,10 +19,10 @@ rowAt b i = getD (chunks (rowCount b) (drop 16 b)) i []
 
 -- where the value of the row at a place stands, 0 where there is no such row
 unfoldable pub valueAt : List ℕ → ℕ → ℕ
-valueAt b i = pick (ltb i (rowCount b)) (16 + i * 1312 + 32 + slotOf (rowAt b i) .keylen) 0
+valueAt b i = cond (ltb i (rowCount b)) (16 + i * 1312 + 32 + slotOf (rowAt b i) .keylen) 0
 
 -- an entry in the row at a place and a mark; unchanged where there is no such row or the entry doesn't fit one
 unfoldable pub stored : List ℕ → ℕ → Entry → ℕ → List ℕ
 stored b i e mark =
-    pick (ltb i (rowCount b) && leb (length (e .key) + length (e .doc .value)) 1280)
+    cond (ltb i (rowCount b) && leb (length (e .key) + length (e .doc .value)) 1280)
     (pasted (pasted b (16 + i * 1312) (rowBytes (some e))) 8 (bytesOf 8 mark)) b

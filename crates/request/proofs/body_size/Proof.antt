@@ -1,5 +1,4 @@
-use Rattle.octets.specs.Choice.{pick}
-use mathlib.Core.Bool.{Bool}
+use mathlib.Core.Bool.{Bool, cond}
 use Prim.Native.Nat.{ℕ, _+_, _-_, _≤_, _<_}
 use native.Mathlib.Omega.{arith}
 use borrow.Author.Tests.{le-ltb, lt-ltb, le-leb, lt-leb, eq-eqb, ne-eqb, not-true, not-false}
@@ -12,15 +11,15 @@ use Rattle.request.proofs.body_size.Lts as lts
 
 -- src/lib.rt:187:9
 returns : tie.Need-returns
-returns c = sym (ap (λ (b : Bool). pick b ((c .before .args) .e + (c .before .args) .k + (c .before .args) .v) 1401) (lt-leb ((c .before .args) .e + (c .before .args) .k + (c .before .args) .v) 1400 (omega (arith, (c .if1) .taken))))
+returns c = sym (ap (λ (b : Bool). cond b ((c .before .args) .e + (c .before .args) .k + (c .before .args) .v) 1401) (lt-leb ((c .before .args) .e + (c .before .args) .k + (c .before .args) .v) 1400 (omega (arith, (c .if1) .taken))))
 
 -- src/lib.rt:190:9
 returns-2 : tie.Need-returns-2
-returns-2 c = sym (ap (λ (b : Bool). pick b ((c .before .before .args) .e + (c .before .before .args) .k + (c .before .before .args) .v) 1401) (lt-leb ((c .before .before .args) .e + (c .before .before .args) .k + (c .before .before .args) .v) 1400 (omega (arith, (c .if2) .taken))))
+returns-2 c = sym (ap (λ (b : Bool). cond b ((c .before .before .args) .e + (c .before .before .args) .k + (c .before .before .args) .v) 1401) (lt-leb ((c .before .before .args) .e + (c .before .before .args) .k + (c .before .before .args) .v) 1400 (omega (arith, (c .if2) .taken))))
 
 -- src/lib.rt:193:9
 returns-3 : tie.Need-returns-3
-returns-3 c = sym (ap (λ (b : Bool). pick b ((c .before .before .before .args) .e + (c .before .before .before .args) .k + (c .before .before .before .args) .v) 1401) (lt-leb ((c .before .before .before .args) .e + (c .before .before .before .args) .k + (c .before .before .before .args) .v) 1400 (omega (arith, (c .if3) .taken))))
+returns-3 c = sym (ap (λ (b : Bool). cond b ((c .before .before .before .args) .e + (c .before .before .before .args) .k + (c .before .before .before .args) .v) 1401) (lt-leb ((c .before .before .before .args) .e + (c .before .before .before .args) .k + (c .before .before .before .args) .v) 1400 (omega (arith, (c .if3) .taken))))
 
 -- src/lib.rt:195:15
 add-if4 : tie.Need-add-if4
@@ -32,7 +31,7 @@ add-if4-2 c = search needs
 
 -- src/lib.rt:196:9
 returns-4 : tie.Need-returns-4
-returns-4 c = sym (ap (λ (b : Bool). pick b ((c .before .before .before .before .args) .e + (c .before .before .before .before .args) .k + (c .before .before .before .before .args) .v) 1401) (lt-leb ((c .before .before .before .before .args) .e + (c .before .before .before .before .args) .k + (c .before .before .before .before .args) .v) 1400 (omega (arith, (c .if4) .taken))))
+returns-4 c = sym (ap (λ (b : Bool). cond b ((c .before .before .before .before .args) .e + (c .before .before .before .before .args) .k + (c .before .before .before .before .args) .v) 1401) (lt-leb ((c .before .before .before .before .args) .e + (c .before .before .before .before .args) .k + (c .before .before .before .before .args) .v) 1400 (omega (arith, (c .if4) .taken))))
 
 -- src/lib.rt:198:5
 add-result : tie.Need-add-result
@@ -44,7 +43,7 @@ add-result-2 c = search needs
 
 -- src/lib.rt:183:1
 returns-5 : tie.Need-returns-5
-returns-5 c = sym (ap (λ (b : Bool). pick b ((c .before .before .before .before .args) .e + (c .before .before .before .before .args) .k + (c .before .before .before .before .args) .v) 1401) (le-leb ((c .before .before .before .before .args) .e + (c .before .before .before .before .args) .k + (c .before .before .before .before .args) .v) 1400 (omega (arith, (c .if4) .left))))
+returns-5 c = sym (ap (λ (b : Bool). cond b ((c .before .before .before .before .args) .e + (c .before .before .before .before .args) .k + (c .before .before .before .before .args) .v) 1401) (le-leb ((c .before .before .before .before .args) .e + (c .before .before .before .before .args) .k + (c .before .before .before .before .args) .v) 1400 (omega (arith, (c .if4) .left))))
 
 pub body-size-spec : {M : Type 1} → statement M
 body-size-spec =
