@@ -133,6 +133,9 @@ module _ (s : List ℕ) (at : ℕ) (xs : List ℕ) where
       (λ t. let h = leb-true (at + length xs) (length s) t in ap length (written-fits h) ∙ length-pasted s at xs h)
       (λ f. ap length (written-not (leb-false (at + length xs) (length s) f)))
 
+pub written-none : (s : List ℕ) (at : ℕ) → at ≤ length s → written s at [] ≡ s
+written-none s at h = written-fits s at [] (omega arith) ∙ pasted-none s at h
+
 -- what a writer leaves, by its test r for n bytes' room
 module _ (s : List ℕ) (at n : ℕ) (r : Bool) (e : r ≡ leb (at + n) (length s)) where
   pub room : r ≡ true → at + n ≤ length s
@@ -157,3 +160,14 @@ pub then-two : (s0 s1 s2 s3 : List ℕ) (at m k : ℕ) (xs ys zs : List ℕ) →
 then-two s0 s1 s2 s3 at m k xs ys zs e f g p q h =
     let d : s2 ≡ written s0 at (xs ++ ys) = then s0 s1 s2 at m xs ys e f p (omega arith) in
     rw append-assoc at (then s0 s2 s3 at k (xs ++ ys) zs d g (simp length-append (omega arith)) h)
+
+-- a write at the start after a write behind it
+pub before : (s0 s1 s2 : List ℕ) (n : ℕ) (xs ys : List ℕ) → s1 ≡ written s0 n xs → s2 ≡ written s1 0 ys → length ys ≡ n → n + length xs ≤ length s0 → s2 ≡ written s0 0 (ys ++ xs)
+unfolding pasted
+before s0 s1 s2 n xs ys e f g h =
+    let l : length s1 ≡ length s0 = ap length e ∙ length-written s0 n xs in
+    let e′ : s1 ≡ pasted s0 n xs = e ∙ written-fits s0 n xs h in
+    let f′ : s2 ≡ pasted s1 0 ys = f ∙ written-fits s1 0 ys (omega arith) in
+    let p : length (take n s0) ≡ length ys = length-take-le n s0 (omega arith) ∙ sym g in
+    f′ ∙ ap (λ (s : List ℕ). pasted s 0 ys) e′ ∙ pasted-over (take n s0) (xs ++ drop (n + length xs) s0) ys p
+    ∙ rw (written-fits s0 0 (ys ++ xs) (simp length-append (omega arith)), zero-add, length-append, g, append-assoc)

@@ -1,0 +1,53 @@
+use Rattle.serve.proofs.Replies.{body-most, no-reply, replied}
+use denote.Ref.{now}
+use native.Mathlib.Omega.{arith}
+use borrow.Author.Needs.{needs}
+use Rattle.serve.proofs.reply.put_reply.Statement.{statement}
+use Rattle.serve.proofs.reply.put_reply.Tie as tie
+use Rattle.serve.proofs.reply.put_reply.Reads as reads
+use Rattle.serve.proofs.reply.put_reply.Lts as lts
+use Rattle.header.proofs.put.Reads as put-reads
+use Rattle.serve.proofs.reply.put_body.Reads as put-body-reads
+use Rattle.serve.proofs.reply.reply_header.Reads as reply-header-reads
+
+-- src/reply.rt:113:9
+returns : tie.Need-returns
+returns c = let a = (c .before .before .before .before .args) in no-reply (a .op) (a .opaque) (a .d) (now (a .key)) (now (a .old)) (now (a .out)) ((c .if1) .taken)
+
+-- src/reply.rt:117:9
+put-body-requires : tie.Need-put-body-requires
+put-body-requires c κs = search needs
+
+-- src/reply.rt:118:22
+reply-header-requires : tie.Need-reply-header-requires
+reply-header-requires c κs = search needs
+
+-- src/reply.rt:118:5
+put-requires : tie.Need-put-requires
+put-requires c κs = search needs
+
+-- src/reply.rt:119:5
+add-result : tie.Need-add-result
+add-result c = let a = (c .before .before .before .before .before .before .before .before .before .before .before .before .before .before .args) in omega (arith, body-most (a .d .done .reply) (now (a .key)) (now (a .old)) ((c .before .before .before .before .before .before .before .before .before .before .before .before .before .before .pre) .1 .0) ((c .before .before .before .before .before .before .before .before .before .before .before .before .before .before .pre) .1 .1), (c .before .before .before .before .before .before .before .put-body) .ensures .0)
+
+-- src/reply.rt:100:1
+same-length : tie.Need-same-length
+same-length c = search needs
+
+-- src/reply.rt:100:1
+returns-2 : tie.Need-returns-2
+returns-2 c = let a = (c .before .before .before .before .before .before .before .before .before .before .before .before .before .before .args) in
+    let l = body-most (a .d .done .reply) (now (a .key)) (now (a .old)) ((c .before .before .before .before .before .before .before .before .before .before .before .before .before .before .pre) .1 .0) ((c .before .before .before .before .before .before .before .before .before .before .before .before .before .before .pre) .1 .1) in
+    replied (a .op) (a .opaque) (a .d) (now (a .key)) (now (a .old)) (now (a .out)) _ _ _ _ ((c .before .before .before .before .before .before .before .before .before .before .if1) .left) (omega (arith, l, (c .before .before .before .before .before .before .before .before .before .before .before .before .before .before .pre) .0, (c .before .before .before .before .before .before .before .put-body) .ensures .0)) ((c .before .before .before .before .before .before .before .put-body) .ensures) ((c .before .before .before .reply-header) .ensures) ((c .before .before .put) .ensures)
+
+pub put-reply-spec : {M : Type 1} → statement M
+put-reply-spec =
+    tie.close
+    (tie.spec
+    returns
+    put-body-requires
+    reply-header-requires
+    put-requires
+    add-result
+    same-length
+    returns-2)
