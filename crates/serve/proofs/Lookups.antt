@@ -1,25 +1,28 @@
 -- What a lookup by place finds in a table's bytes, against the plain engine's rows.
-use Prim.Native.Nat.{ℕ, zero, suc, _+_, _*_, _≤_, _<_}
+use Prim.Native.Nat.{ℕ, zero, suc, _+_, _*_, _≤_}
 use mathlib.Core.Path.{_≡_, refl, sym, ap, _∙_, subst}
-use mathlib.Core.Bool.{true, not, _&&_}
+use mathlib.Core.Bool.{true, not}
 use mathlib.Core.List.{List, [], _∷_}
-use mathlib.Core.Option.{Option, none, some}
+use mathlib.Core.Option.{none, some}
 use mathlib.Core.Logic.{_⊎_, inl, inr, ⊎-elim}
 use native.Mathlib.Omega.{arith}
 use lib.Dec.{ltb, eqb}
-use lib.ListN.{length, drop, getD, replicate, List·getD-map}
+use lib.ListN.{length, drop, getD, List·getD-map}
 use borrow.Author.Tests.{lt-ltb, ltb-true, ltb-false}
-use Rattle.octets.specs.Parts.{Bytes, part}
+use Rattle.octets.specs.Parts.{Bytes}
 use Rattle.octets.specs.BigEndian.{be, beFrom}
 use Rattle.octets.specs.Compare.{zeros}
 use Rattle.octets.proofs.Choices.{cases, both, pick-elim}
-use Rattle.octets.proofs.Lists.{bytes-part, part-length}
+use Rattle.octets.proofs.Lists.{bytes-part, part-length, part-most}
+use Rattle.header.specs.declared.Header.{Header}
+use Rattle.rules.proofs.RuleLaws.{key-most}
+use Rattle.request.specs.Reading.{frameStatus, bytesIn, extrasSpan, keySpan, valueSpan}
 use Rattle.engine.specs.Documents.{Key, Doc, Entry}
-use Rattle.engine.specs.Stored.{heldOf, storedOf}
+use Rattle.engine.specs.Stored.{storedOf}
 use Rattle.commands.specs.Decide.{valueOf}
 use Rattle.table.specs.declared.Found.{Found}
 use Rattle.table.specs.declared.Found.the-variants.{At, Nothing}
-use Rattle.table.specs.Row.{Row, slotOf, docOf, keyOf, rowOf, rowBytes}
+use Rattle.table.specs.Row.{Row, slotOf, docOf, rowOf, rowBytes}
 use Rattle.table.specs.Table.{headOf, chunks, rowCount, tableOf}
 use Rattle.table.specs.Lookup.{findIn, freeIn, placeIn, missing}
 use Rattle.table.specs.Damage.{rowSound, allSound, sound}
@@ -31,6 +34,7 @@ use Rattle.table.proofs.Rows.{row-there, row-nowhere}
 use Rattle.table.proofs.RowLaws.{RowGood, row-back}
 use Rattle.table.proofs.TableLaws.{sound-parts}
 use Rattle.serve.specs.Change.{heldAt, valueIn}
+use Rattle.serve.specs.Serve.{goesOn}
 
 no-row : rowOf [] ≡ none
 unfolding rowOf slotOf be beFrom
@@ -130,3 +134,13 @@ module _ (b : List ℕ) where
         free-empty : (f : Found) → freeIn 0 (tableOf b .rows) ≡ f → valueIn b f ≡ []
         free-empty (At i) e = let h = free-there 0 i (tableOf b .rows) e in let z : h .0 ≡ i = omega (arith, h .1 .0) in free-value i (rw z at (h .1 .1))
         free-empty Nothing e = refl
+
+-- the key that a frame is looked up by fits a row, whatever else is wrong with it
+module _ (s : List ℕ) (h : Header) (e : goesOn (frameStatus s h) ≡ true) where
+  pub form-key : h .keylen ≤ 250
+  unfolding frameStatus
+  form-key = key-most h (bytesIn s (extrasSpan h)) (bytesIn s (valueSpan h)) e
+
+  pub key-short : length (bytesIn s (keySpan h)) ≤ 250
+  unfolding keySpan
+  key-short = omega (arith, part-most s (24 + h .extlen) (h .keylen), form-key)
