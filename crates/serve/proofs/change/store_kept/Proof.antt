@@ -1,0 +1,44 @@
+use Rattle.serve.proofs.Storing.{storing, copy-back}
+use mathlib.Core.Path.{ap, _∙_}
+use borrow.Author.Needs.{needs}
+use Rattle.serve.proofs.change.store_kept.Statement.{statement}
+use Rattle.serve.proofs.change.store_kept.Tie as tie
+
+value-requires : tie.Need-value-requires
+value-requires c κs = search needs
+
+slice-aggregate-put-bytes : tie.Need-slice-aggregate-put-bytes
+slice-aggregate-put-bytes c = search needs
+
+put-bytes-requires : tie.Need-put-bytes-requires
+put-bytes-requires c κs = search needs
+
+slice-aggregate-part : tie.Need-slice-aggregate-part
+slice-aggregate-part c = search needs
+
+part-requires : tie.Need-part-requires
+part-requires c κs = search needs
+
+store-requires : tie.Need-store-requires
+store-requires c κs = search needs
+
+same-length : tie.Need-same-length
+same-length c = search needs
+
+returns : tie.Need-returns
+returns c =
+    let a = c .before .before .before .before .before .before .before .before .before .before .before .before .before .before .args in
+    c .before .before .store .ensures ∙ ap (storing (a .b .now) (a .i) (a .key .now) (a .d) (a .mark .0)) (copy-back _ _ _ _ _ (c .before .before .before .before .before .before .before .before .before .before .value .ensures) (c .before .before .before .before .before .before .before .before .put-bytes .ensures) (c .before .before .before .part .ensures) (c .before .before .before .before .before .before .before .before .before .before .before .before .before .before .pre))
+
+pub store-kept-spec : {M : Type 1} → statement M
+store-kept-spec =
+    tie.close
+    (tie.spec
+    value-requires
+    slice-aggregate-put-bytes
+    put-bytes-requires
+    slice-aggregate-part
+    part-requires
+    store-requires
+    same-length
+    returns)
