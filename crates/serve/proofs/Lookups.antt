@@ -33,8 +33,8 @@ use Rattle.table.proofs.Places.{founds, nothing-at, find-place, find-nothing}
 use Rattle.table.proofs.Rows.{row-there, row-nowhere}
 use Rattle.table.proofs.RowLaws.{RowGood, row-back}
 use Rattle.table.proofs.TableLaws.{sound-parts}
-use Rattle.serve.specs.Change.{heldAt, valueIn}
-use Rattle.serve.specs.Serve.{goesOn}
+use Rattle.serving.specs.Change.{heldAt, valueIn}
+use Rattle.serving.specs.Serve.{goesOn}
 
 no-row : rowOf [] ≡ none
 unfolding rowOf slotOf be beFrom

@@ -15,7 +15,7 @@ use Rattle.commands.specs.declared.Reply.{Reply}
 use Rattle.commands.specs.declared.Reply.the-variants.{Bare, Found, Counted, Release}
 use Rattle.commands.specs.declared.Decision.{Decision}
 use Rattle.commands.specs.Decide.{keyOf}
-use Rattle.serve.specs.Reply.{bodyOf, replyHeader, replyBytes}
+use Rattle.serving.specs.Reply.{bodyOf, replyHeader, replyBytes}
 
 shown-most : (keyed : Bool) (key : List ℕ) → length (cond keyed key []) ≤ length key
 shown-most true key = omega arith

@@ -13,7 +13,7 @@ use Rattle.engine.specs.declared.Held.{Held}
 use Rattle.table.specs.declared.Found.{Found}
 use Rattle.table.specs.declared.Found.the-variants.{At, Nothing}
 use Rattle.table.specs.Store.{stored}
-use Rattle.serve.specs.Change.{storedAt}
+use Rattle.serving.specs.Change.{storedAt}
 
 -- a key's row with this value
 abbrev pub storing : List ℕ → ℕ → Key → Held → ℕ → List ℕ → List ℕ

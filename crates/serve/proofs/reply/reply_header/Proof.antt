@@ -1,4 +1,4 @@
-use Rattle.serve.specs.Reply.{replyHeader}
+use Rattle.serving.specs.Reply.{replyHeader}
 use Rattle.serve.proofs.Replies.{key-most, body-most}
 use denote.Ref.{now}
 use native.Mathlib.Omega.{arith}
