@@ -1,3 +1,4 @@
 pub mod Replies
 pub mod Storing
 pub mod Lookups
+pub mod Joint

@@ -1,3 +1,11 @@
+use mathlib.Core.List.{append-nil}
+use Rattle.serving.specs.Reply.{replyBytes, replyHeader}
+use Rattle.header.proofs.HeaderLaws.{length-header}
+use lib.ListN.{length}
+use denote.Ref.{now}
+use Prim.Native.Nat.{ℕ, _+_, _≤_}
+use native.Mathlib.Omega.{arith}
+use mathlib.Core.Path.{_≡_, refl, sym, ap, _∙_}
 use borrow.Author.Needs.{needs}
 use Rattle.serve.proofs.put_refusal.Statement.{statement}
 use Rattle.serve.proofs.put_refusal.Tie as tie
@@ -5,25 +13,25 @@ use Rattle.serve.proofs.put_refusal.Reads as reads
 use Rattle.serve.proofs.put_refusal.Lts as lts
 use Rattle.serve.proofs.reply.put_reply.Reads as put-reply-reads
 
--- src/lib.rt:121:50
+-- src/lib.rt:116:50
 slice-aggregate-put-reply : tie.Need-slice-aggregate-put-reply
 slice-aggregate-put-reply c = search needs
 
--- src/lib.rt:121:55
+-- src/lib.rt:116:55
 slice-aggregate-put-reply-2 : tie.Need-slice-aggregate-put-reply-2
 slice-aggregate-put-reply-2 c = search needs
 
--- src/lib.rt:121:5
+-- src/lib.rt:116:5
 put-reply-requires : tie.Need-put-reply-requires
-put-reply-requires c κs = search needs
+put-reply-requires c κs = ((c .before .before .before .before .pre), (omega arith, omega arith))
 
--- src/lib.rt:105:1
+-- src/lib.rt:100:1
 same-length : tie.Need-same-length
 same-length c = search needs
 
--- src/lib.rt:105:1
+-- src/lib.rt:100:1
 returns : tie.Need-returns
-returns c = ?
+returns c = ((c .before .before .put-reply) .ensures .0 ∙ ?, (c .before .before .put-reply) .ensures .1)
 
 pub put-refusal-spec : {M : Type 1} → statement M
 put-refusal-spec =

@@ -1,3 +1,9 @@
+use Rattle.serving.specs.Serve.{served, servedTable, servedReply}
+use lib.ListN.{length}
+use denote.Ref.{now}
+use Prim.Native.Nat.{ℕ, _+_, _≤_}
+use native.Mathlib.Omega.{arith}
+use mathlib.Core.Path.{_≡_, refl, sym, ap, _∙_}
 use borrow.Author.Needs.{needs}
 use Rattle.serve.proofs.serve_one.Statement.{statement}
 use Rattle.serve.proofs.serve_one.Tie as tie
@@ -6,39 +12,39 @@ use Rattle.serve.proofs.serve_one.Lts as lts
 use Rattle.serve.proofs.gate_all.Reads as gate-all-reads
 use Rattle.serve.proofs.serve_whole.Reads as serve-whole-reads
 
--- src/lib.rt:144:11
+-- src/lib.rt:139:11
 gate-all-requires : tie.Need-gate-all-requires
 gate-all-requires c κs = search needs
 
--- src/lib.rt:145:20
+-- src/lib.rt:140:20
 enum-known-outcome : tie.Need-enum-known-outcome
 enum-known-outcome c = search needs
 
--- src/lib.rt:146:21
+-- src/lib.rt:141:21
 enum-known-h : tie.Need-enum-known-h
 enum-known-h c = search needs
 
--- src/lib.rt:146:27
+-- src/lib.rt:141:27
 serve-whole-requires : tie.Need-serve-whole-requires
 serve-whole-requires c κs = ?
 
--- src/lib.rt:139:1
+-- src/lib.rt:134:1
 same-length : tie.Need-same-length
 same-length c = search needs
 
--- src/lib.rt:139:1
+-- src/lib.rt:134:1
 returns : tie.Need-returns
 returns c = ?
 
--- src/lib.rt:139:1
+-- src/lib.rt:134:1
 same-length-2 : tie.Need-same-length-2
 same-length-2 c = search needs
 
--- src/lib.rt:139:1
+-- src/lib.rt:134:1
 same-length-3 : tie.Need-same-length-3
 same-length-3 c = search needs
 
--- src/lib.rt:139:1
+-- src/lib.rt:134:1
 returns-2 : tie.Need-returns-2
 returns-2 c = ?
 

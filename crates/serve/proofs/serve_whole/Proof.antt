@@ -1,3 +1,12 @@
+use Rattle.octets.specs.Parts.{written}
+use mathlib.Core.Bool.{true, false}
+use Rattle.serve.proofs.Joint.{decided-is, status-is, reply-is, answer-is, table-is, refused-reply, refused-table, refused-answer}
+use lib.ListN.{length}
+use denote.Ref.{now}
+use Prim.Native.Nat.{ℕ, _+_, _≤_}
+use native.Mathlib.Omega.{arith}
+use mathlib.Core.Path.{_≡_, refl, sym, ap, _∙_}
+use Rattle.serving.specs.Serve.{goesOn}
 use borrow.Author.Needs.{needs}
 use Rattle.serve.proofs.serve_whole.Statement.{statement}
 use Rattle.serve.proofs.serve_whole.Tie as tie
@@ -9,57 +18,60 @@ use Rattle.serve.proofs.put_refusal.Reads as put-refusal-reads
 use Rattle.serve.proofs.serve_formed.Reads as serve-formed-reads
 use Rattle.table.proofs.head_of.Reads as head-of-reads
 
--- src/lib.rt:130:9
+-- src/lib.rt:125:9
 frame-status-requires : tie.Need-frame-status-requires
 frame-status-requires c κs = search needs
 
--- src/lib.rt:131:8
+-- src/lib.rt:126:8
 goes-on-requires : tie.Need-goes-on-requires
 goes-on-requires c κs = search needs
 
--- src/lib.rt:132:9
+-- src/lib.rt:127:9
 serve-formed-requires : tie.Need-serve-formed-requires
-serve-formed-requires c κs = ?
+serve-formed-requires c κs = ((c .before .before .before .before .before .before .before .before .pre) .0, ((c .before .before .before .before .before .before .before .before .pre) .1, sym (ap goesOn ((c .before .before .before .before .frame-status) .ensures)) ∙ sym ((c .before .before .before .goes-on) .ensures) ∙ (c .before .before .if1) .taken))
 
--- src/lib.rt:132:9
+-- src/lib.rt:127:9
 same-length : tie.Need-same-length
 same-length c = search needs
 
--- src/lib.rt:132:9
+-- src/lib.rt:127:9
 same-length-2 : tie.Need-same-length-2
 same-length-2 c = search needs
 
--- src/lib.rt:132:9
+-- src/lib.rt:127:9
 returns : tie.Need-returns
-returns c = search needs
+returns c = (c .before .before .before .before .serve-formed) .ensures
 
--- src/lib.rt:134:33
+-- src/lib.rt:129:33
 head-of-requires : tie.Need-head-of-requires
 head-of-requires c κs = search needs
 
--- src/lib.rt:134:9
+-- src/lib.rt:129:9
 put-refusal-requires : tie.Need-put-refusal-requires
-put-refusal-requires c κs = search needs
+put-refusal-requires c κs = (c .before .before .before .before .before .before .before .before .before .pre) .1
 
--- src/lib.rt:135:31
+-- src/lib.rt:130:31
 cast-t18 : tie.Need-cast-t18
 cast-t18 c = search needs
 
--- src/lib.rt:135:26
+-- src/lib.rt:130:26
 add-t19 : tie.Need-add-t19
 add-t19 c = search needs
 
--- src/lib.rt:124:1
+-- src/lib.rt:119:1
 same-length-3 : tie.Need-same-length-3
 same-length-3 c = search needs
 
--- src/lib.rt:124:1
+-- src/lib.rt:119:1
 same-length-4 : tie.Need-same-length-4
 same-length-4 c = search needs
 
--- src/lib.rt:124:1
+-- src/lib.rt:119:1
 returns-2 : tie.Need-returns-2
-returns-2 c = ?
+returns-2 c = let b = now ((c .before .before .before .before .before .before .before .before .before .before .before .before .before .args) .b) in
+    let s = now ((c .before .before .before .before .before .before .before .before .before .before .before .before .before .args) .s) in
+    let g = sym (ap goesOn ((c .before .before .before .before .before .before .before .before .before .frame-status) .ensures)) ∙ sym ((c .before .before .before .before .before .before .before .before .goes-on) .ensures) ∙ (c .before .before .before .before .before .before .before .if1) .left in
+    ?
 
 pub serve-whole-spec : {M : Type 1} → statement M
 serve-whole-spec =
