@@ -1,4 +1,5 @@
 pub mod Calls
+pub mod Step
 pub mod Merge
 pub mod Table
 pub mod Expiry

@@ -94,10 +94,13 @@ returns c = let ek = (c .before .before .before .before .before .before .before 
     let b = now ((c .before .before .before .before .before .before .before .before .before .before .before .before .before .before .before .before .before .before .before .before .before .before .before .before .before .args) .b) in
     let s = now ((c .before .before .before .before .before .before .before .before .before .before .before .before .before .before .before .before .before .before .before .before .before .before .before .before .before .args) .s) in
     let d = (c .before .before .before .before .before .before .before .before .before .before .before .before .before .before .decided) .result in
-    let w = reply-is b s ((c .before .before .before .before .before .before .before .before .before .before .before .before .before .before .before .before .before .before .before .before .before .before .before .before .before .args) .clock) ((c .before .before .before .before .before .before .before .before .before .before .before .before .before .before .before .before .before .before .before .before .before .before .before .before .before .args) .h) d ((c .before .before .before .before .before .before .before .before .before .before .before .before .before .before .decided) .ensures) ((c .before .before .before .before .before .before .before .before .before .before .before .before .before .before .before .before .before .before .find) .result) ((c .before .before .before .before .before .before .before .before .before .before .before .before .before .before .before .before .free) .result) _ _ ek ((c .before .before .before .before .before .before .before .before .before .before .before .before .before .before .before .before .before .before .find) .ensures) ((c .before .before .before .before .before .before .before .before .before .before .before .before .before .before .before .before .free) .ensures) ((c .before .before .before .before .before .before .before .before .before .before .before .value-in) .ensures) in
-    (answer-is b s ((c .before .before .before .before .before .before .before .before .before .before .before .before .before .before .before .before .before .before .before .before .before .before .before .before .before .args) .clock) ((c .before .before .before .before .before .before .before .before .before .before .before .before .before .before .before .before .before .before .before .before .before .before .before .before .before .args) .h) d ((c .before .before .before .before .before .before .before .before .before .before .before .before .before .before .decided) .ensures) ((c .before .before .before .before .before .before .before .before .before .before .before .before .before .before .before .before .before .before .find) .result) ((c .before .before .before .before .before .before .before .before .before .before .before .before .before .before .before .before .free) .result) _ _ ek ((c .before .before .before .before .before .before .before .before .before .before .before .before .before .before .before .before .before .before .find) .ensures) ((c .before .before .before .before .before .before .before .before .before .before .before .before .before .before .before .before .free) .ensures) ((c .before .before .before .before .before .before .before .before .before .before .before .value-in) .ensures) _ ((c .before .before .before .before .before .before .before .before .before .before .put-reply) .ensures .0),
-    ((c .before .before .before .change) .ensures ∙ table-is b s ((c .before .before .before .before .before .before .before .before .before .before .before .before .before .before .before .before .before .before .before .before .before .before .before .before .before .args) .clock) ((c .before .before .before .before .before .before .before .before .before .before .before .before .before .before .before .before .before .before .before .before .before .before .before .before .before .args) .h) d ((c .before .before .before .before .before .before .before .before .before .before .before .before .before .before .decided) .ensures) ((c .before .before .before .before .before .before .before .before .before .before .before .before .before .before .before .before .before .before .find) .result) ((c .before .before .before .before .before .before .before .before .before .before .before .before .before .before .before .before .free) .result) _ _ ek ((c .before .before .before .before .before .before .before .before .before .before .before .before .before .before .before .before .before .before .find) .ensures) ((c .before .before .before .before .before .before .before .before .before .before .before .before .before .before .before .before .free) .ensures) ((c .before .before .before .before .before .before .before .before .before .before .before .value-in) .ensures) ((c .before .before .before .before .before .either) .result) _ (λ i. (c .before .before .before .before .before .before .before .before .before .before .before .before .before .before .before .before .before .before .before .before .before .before .before .before .slice-known) .given i .fits) ((c .before .before .before .before .before .before .before .before .before .before .before .before .before .before .before .before .before .before .before .before .before .before .before .before .before .pre) .0) ((c .before .before .before .before .before .either) .ensures) ((c .before .before .before .before .value-of) .ensures),
-    (c .before .before .before .before .before .before .before .before .before .before .put-reply) .ensures .1 ∙ ap (written (now ((c .before .before .before .before .before .before .before .before .before .before .before .before .before .before .before .before .before .before .before .before .before .before .before .before .before .args) .out)) 0) w))
+    let w = reply-is b s ((c .before .before .before .before .before .before .before .before .before .before .before .before .before .before .before .before .before .before .before .before .before .before .before .before .before .args) .clock) ((c .before .before .before .before .before .before .before .before .before .before .before .before .before .before .before .before .before .before .before .before .before .before .before .before .before .args) .h) d ((c .before .before .before .before .before .before .before .before .before .before .before .before .before .before .decided) .ensures) ((c .before .before .before .before .before .before .before .before .before .before .before .before .before .before .before .before .before .before .find) .result) ((c .before .before .before .before .before .before .before .before .before .before .before .before .before .before .before .before .free) .result) _ _ ek ((c .before .before .before .before .before .before .before .before .before .before .before .before .before .before .before .before .before .before .find) .ensures) ((c .before .before .before .before .before .before .before .before .before .before .before .before .before .before .before .before .free) .ensures) ((c .before .before .before .before .before .before .before .before .before .before .before .value-in) .ensures) in (
+      answer-is b s ((c .before .before .before .before .before .before .before .before .before .before .before .before .before .before .before .before .before .before .before .before .before .before .before .before .before .args) .clock) ((c .before .before .before .before .before .before .before .before .before .before .before .before .before .before .before .before .before .before .before .before .before .before .before .before .before .args) .h) d ((c .before .before .before .before .before .before .before .before .before .before .before .before .before .before .decided) .ensures) ((c .before .before .before .before .before .before .before .before .before .before .before .before .before .before .before .before .before .before .find) .result) ((c .before .before .before .before .before .before .before .before .before .before .before .before .before .before .before .before .free) .result) _ _ ek ((c .before .before .before .before .before .before .before .before .before .before .before .before .before .before .before .before .before .before .find) .ensures) ((c .before .before .before .before .before .before .before .before .before .before .before .before .before .before .before .before .free) .ensures) ((c .before .before .before .before .before .before .before .before .before .before .before .value-in) .ensures) _ ((c .before .before .before .before .before .before .before .before .before .before .put-reply) .ensures .0),
+      (
+        (c .before .before .before .change) .ensures ∙ table-is b s ((c .before .before .before .before .before .before .before .before .before .before .before .before .before .before .before .before .before .before .before .before .before .before .before .before .before .args) .clock) ((c .before .before .before .before .before .before .before .before .before .before .before .before .before .before .before .before .before .before .before .before .before .before .before .before .before .args) .h) d ((c .before .before .before .before .before .before .before .before .before .before .before .before .before .before .decided) .ensures) ((c .before .before .before .before .before .before .before .before .before .before .before .before .before .before .before .before .before .before .find) .result) ((c .before .before .before .before .before .before .before .before .before .before .before .before .before .before .before .before .free) .result) _ _ ek ((c .before .before .before .before .before .before .before .before .before .before .before .before .before .before .before .before .before .before .find) .ensures) ((c .before .before .before .before .before .before .before .before .before .before .before .before .before .before .before .before .free) .ensures) ((c .before .before .before .before .before .before .before .before .before .before .before .value-in) .ensures) ((c .before .before .before .before .before .either) .result) _ (λ i. (c .before .before .before .before .before .before .before .before .before .before .before .before .before .before .before .before .before .before .before .before .before .before .before .before .slice-known) .given i .fits) ((c .before .before .before .before .before .before .before .before .before .before .before .before .before .before .before .before .before .before .before .before .before .before .before .before .before .pre) .0) ((c .before .before .before .before .before .either) .ensures) ((c .before .before .before .before .value-of) .ensures),
+        (c .before .before .before .before .before .before .before .before .before .before .put-reply) .ensures .1 ∙ ap (written (now ((c .before .before .before .before .before .before .before .before .before .before .before .before .before .before .before .before .before .before .before .before .before .before .before .before .before .args) .out)) 0) w,
+      ),
+    )
 
 pub serve-formed-spec : {M : Type 1} → statement M
 serve-formed-spec =

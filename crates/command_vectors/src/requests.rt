@@ -1,0 +1,165 @@
+// The request that a line describes.
+use crate::text;
+use crate::text::Fields;
+use commands::Ask;
+use commands::Command;
+use commands::Counter;
+use commands::Kind;
+use commands::Meta;
+use commands::Plain;
+use numbers::Cas;
+
+pub(crate) enum Asked {
+    Request(Ask),
+    Unknown,
+}
+
+// The opcode of a command's word, in the form that is not quiet, or 0xff where it is none.
+fn plain_opcode(word: &[u8]) -> u8 {
+    if octets::same(word, b"get") {
+        return 0x00;
+    }
+    if octets::same(word, b"set") {
+        return 0x01;
+    }
+    if octets::same(word, b"add") {
+        return 0x02;
+    }
+    if octets::same(word, b"replace") {
+        return 0x03;
+    }
+    if octets::same(word, b"delete") {
+        return 0x04;
+    }
+    if octets::same(word, b"incr") {
+        return 0x05;
+    }
+    if octets::same(word, b"decr") {
+        return 0x06;
+    }
+    0xff
+}
+
+fn opcode(word: &[u8]) -> u8 {
+    if octets::same(word, b"noop") {
+        return 0x0a;
+    }
+    if octets::same(word, b"version") {
+        return 0x0b;
+    }
+    if octets::same(word, b"getk") {
+        return 0x0c;
+    }
+    if octets::same(word, b"setm") {
+        return 0xa2;
+    }
+    if octets::same(word, b"addm") {
+        return 0xa4;
+    }
+    if octets::same(word, b"delm") {
+        return 0xa8;
+    }
+    plain_opcode(word)
+}
+
+// How many fields a command's line has, with vbucket and header CAS.
+fn width(opcode: u8) -> usize {
+    match opcode {
+        0x01 | 0x02 | 0x03 | 0x05 | 0x06 => 5,
+        0xa2 | 0xa4 | 0xa8 => 8,
+        _ => 2,
+    }
+}
+
+fn size(opcode: u8, f: Fields) -> usize {
+    match opcode {
+        0x01 | 0x02 | 0x03 => text::field(f, 4) as usize,
+        0xa2 | 0xa4 | 0xa8 => text::field(f, 7) as usize,
+        _ => 0,
+    }
+}
+
+// A delete's line has no flags and no expiry, which are then 0.
+fn plain(kind: Kind, f: Fields) -> Command {
+    Command::Write(Plain {
+        kind,
+        flags: text::low32(text::field(f, 2)),
+        expiry: text::low32(text::field(f, 3)),
+    })
+}
+
+fn counter(up: bool, f: Fields) -> Command {
+    Command::Count(Counter {
+        up,
+        delta: text::field(f, 2),
+        initial: text::field(f, 3),
+        expiry: text::low32(text::field(f, 4)),
+    })
+}
+
+fn is_set(options: u64, bit: u64) -> bool {
+    options & bit != 0
+}
+
+fn with_meta(kind: Kind, f: Fields) -> Command {
+    let numbers = text::numbers(
+        text::field(f, 2),
+        text::field(f, 3),
+        text::field(f, 4),
+        text::field(f, 5),
+    );
+    let options = text::field(f, 6);
+    Command::WithMeta(Meta {
+        kind,
+        numbers,
+        force: is_set(options, 0x01),
+        last: is_set(options, 0x02),
+        regenerate: is_set(options, 0x04),
+        skip: is_set(options, 0x08),
+    })
+}
+
+fn command(opcode: u8, f: Fields) -> Command {
+    match opcode {
+        0x00 => Command::Get(false),
+        0x01 => plain(Kind::Set, f),
+        0x02 => plain(Kind::Add, f),
+        0x03 => plain(Kind::Replace, f),
+        0x04 => plain(Kind::Delete, f),
+        0x05 => counter(true, f),
+        0x06 => counter(false, f),
+        0x0b => Command::Version,
+        0x0c => Command::Get(true),
+        0xa2 => with_meta(Kind::Set, f),
+        0xa4 => with_meta(Kind::Add, f),
+        0xa8 => with_meta(Kind::Delete, f),
+        _ => Command::Noop,
+    }
+}
+
+fn request(opcode: u8, quiet: bool, f: Fields) -> Ask {
+    let command = command(opcode, f);
+    Ask {
+        vbucket: text::low16(text::field(f, 0)),
+        cas: Cas(text::field(f, 1)),
+        quiet,
+        size: size(opcode, f),
+        command,
+    }
+}
+
+fn read_as(line: &[u8], quiet: bool) -> Asked {
+    let code = opcode(text::before(line, b' '));
+    let f = text::spelled(text::after(line, b' '));
+    if (code != 0xff) & text::are(f, width(code)) {
+        return Asked::Request(request(code, quiet, f));
+    }
+    Asked::Unknown
+}
+
+pub(crate) fn read(line: &[u8]) -> Asked {
+    if octets::same(text::before(line, b' '), b"quiet") {
+        return read_as(text::after(line, b' '), true);
+    }
+    read_as(line, false)
+}

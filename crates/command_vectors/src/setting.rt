@@ -1,0 +1,186 @@
+// What a request is decided on, and the lines that set it.
+use crate::text;
+use crate::text::Fields;
+use digits::Number;
+use engine::Head;
+use engine::Held;
+use engine::Stored;
+use numbers::Cas;
+
+pub(crate) struct Setting {
+    pub(crate) head: Head,
+    pub(crate) row: Stored,
+    pub(crate) free: bool,
+    pub(crate) clock: u32,
+    // what the row's value says
+    pub(crate) number: Number,
+}
+
+// The setting after a line, and whether the line sets something: else it is the one before.
+pub(crate) struct Changed {
+    pub(crate) setting: Setting,
+    pub(crate) good: bool,
+}
+
+// A fresh active table in revision mode.
+pub(crate) fn first() -> Setting {
+    let head = Head {
+        state: 1,
+        mode: 1,
+        vbucket: 0,
+        clock: 0,
+        mark: Cas(0),
+    };
+    Setting {
+        head,
+        row: Stored::Nothing,
+        free: true,
+        clock: 0,
+        number: Number::NoNumber,
+    }
+}
+
+fn if_good(good: bool, after: Setting, before: Setting) -> Changed {
+    if good {
+        return Changed {
+            setting: after,
+            good,
+        };
+    }
+    Changed {
+        setting: before,
+        good,
+    }
+}
+
+fn with_head(t: Setting, head: Head) -> Setting {
+    let row = t.row;
+    let number = t.number;
+    Setting {
+        head,
+        row,
+        free: t.free,
+        clock: t.clock,
+        number,
+    }
+}
+
+fn with_row(t: Setting, row: Stored, number: Number) -> Setting {
+    let head = t.head;
+    Setting {
+        head,
+        row,
+        free: t.free,
+        clock: t.clock,
+        number,
+    }
+}
+
+fn with_free(t: Setting, free: bool) -> Setting {
+    let head = t.head;
+    let row = t.row;
+    let number = t.number;
+    Setting {
+        head,
+        row,
+        free,
+        clock: t.clock,
+        number,
+    }
+}
+
+fn with_clock(t: Setting, clock: u32) -> Setting {
+    let head = t.head;
+    let row = t.row;
+    let number = t.number;
+    Setting {
+        head,
+        row,
+        free: t.free,
+        clock,
+        number,
+    }
+}
+
+fn head_of(f: Fields) -> Head {
+    Head {
+        state: text::low8(text::field(f, 0)),
+        mode: text::low8(text::field(f, 1)),
+        vbucket: text::low16(text::field(f, 2)),
+        clock: 0,
+        mark: Cas(text::field(f, 3)),
+    }
+}
+
+fn document(f: Fields) -> Stored {
+    let numbers = text::numbers(
+        text::field(f, 0),
+        text::field(f, 1),
+        text::field(f, 2),
+        text::field(f, 3),
+    );
+    Stored::Used(Held {
+        tomb: false,
+        numbers,
+    })
+}
+
+fn tombstone(f: Fields) -> Stored {
+    let numbers = text::numbers(0, 0, text::field(f, 0), text::field(f, 1));
+    Stored::Used(Held {
+        tomb: true,
+        numbers,
+    })
+}
+
+fn change_row(line: &[u8], t: Setting) -> Changed {
+    let word = text::before(line, b' ');
+    let rest = text::after(line, b' ');
+    if octets::same(word, b"tomb") {
+        let f = text::spelled(rest);
+        return if_good(
+            text::are(f, 2),
+            with_row(t, tombstone(f), Number::NoNumber),
+            t,
+        );
+    }
+    if octets::same(word, b"doc") {
+        let f = text::spelled(text::before(rest, b'\''));
+        let value = text::before(text::after(rest, b'\''), b'\'');
+        return if_good(
+            text::are(f, 4),
+            with_row(t, document(f), digits::parse(value)),
+            t,
+        );
+    }
+    if_good(
+        octets::same(line, b"none"),
+        with_row(t, Stored::Nothing, Number::NoNumber),
+        t,
+    )
+}
+
+pub(crate) fn change(line: &[u8], t: Setting) -> Changed {
+    let word = text::before(line, b' ');
+    let rest = text::after(line, b' ');
+    if octets::same(word, b"row") {
+        return change_row(rest, t);
+    }
+    if octets::same(word, b"free") {
+        let yes = octets::same(rest, b"yes");
+        return if_good(yes | octets::same(rest, b"no"), with_free(t, yes), t);
+    }
+    if octets::same(word, b"clock") {
+        let f = text::spelled(rest);
+        return if_good(
+            text::are(f, 1),
+            with_clock(t, text::low32(text::field(f, 0))),
+            t,
+        );
+    }
+    if octets::same(word, b"head") {
+        let f = text::spelled(rest);
+        return if_good(text::are(f, 4), with_head(t, head_of(f)), t);
+    }
+    if_good(false, t, t)
+}
