@@ -1,10 +1,15 @@
 -- What serving a frame's callees say, as what serving means: all their equations in, the answer, the reply and the table out.
-use Prim.Native.Nat.{ℕ, _+_}
+use Prim.Native.Nat.{ℕ, _+_, _≤_}
 use mathlib.Core.Path.{_≡_, refl, sym, ap, _∙_}
 use mathlib.Core.Bool.{Bool, true, false, cond, not}
-use mathlib.Core.List.{List, []}
+use mathlib.Core.List.{List, [], append-nil}
 use lib.ListN.{length}
+use lib.Dec.{ltb}
+use native.Mathlib.Omega.{arith}
+use borrow.Author.Tests.{not-false, ltb-false}
 use Rattle.octets.specs.Parts.{Bytes}
+use Rattle.octets.proofs.Choices.{cond-elim}
+use Rattle.header.proofs.HeaderLaws.{length-header}
 use Rattle.header.specs.declared.Header.{Header}
 use Rattle.request.specs.declared.Gate.the-variants.{Whole}
 use Rattle.request.specs.Reading.{bytesIn, keySpan, frameStatus}
@@ -26,7 +31,7 @@ use Rattle.serving.specs.declared.Served.{Served}
 use Rattle.serving.specs.declared.Served.the-variants.{Done}
 use Rattle.serving.specs.Reply.{replyBytes}
 use Rattle.serving.specs.Change.{storedAt, heldAt, valueIn}
-use Rattle.serving.specs.Serve.{goesOn, refusal, decisionOn, answerOn, frameTable, frameReply, answerBy}
+use Rattle.serving.specs.Serve.{gateAll, goesOn, refusal, decisionOn, answerOn, frameTable, frameReply, answerBy}
 use Rattle.serve.proofs.Storing.{stored-none}
 use Rattle.serve.proofs.Lookups.{held-found, value-found, free-found, value-place}
 
@@ -91,3 +96,15 @@ module _ (b s : List ℕ) (clock : ℕ) (h : Header) (g : goesOn (frameStatus s 
       → Done st (24 + h .body) n ≡ answerBy b clock s (Whole h)
   unfolding answerOn
   refused-answer st n es en = λ i. Done ((es ∙ sym (ap (λ (x : Decision). x .status) refused-is)) i) (24 + h .body) ((en ∙ ap length refused-reply) i)
+
+-- a refusal's reply is a bare header
+pub refusal-length : (op opaque : ℕ) (hd : Head) (st : ℕ) → length (replyBytes op opaque (refusal hd st) [] []) ≡ 24
+unfolding replyBytes
+refusal-length op opaque hd st = rw append-nil (length-header _)
+
+-- a frame that is served: the table is sound, and there is room
+pub gate-whole : (b s : List ℕ) (room : ℕ) (h : Header) → gateAll b room s ≡ Whole h → (sound b ≡ true) × (1302 ≤ room)
+unfolding gateAll
+gate-whole b s room h e =
+    cond-elim (not (sound b)) _ _ _ e (λ t z. absurd (let y : _≡_ {A = ℕ} 0 1 = cc in omega arith))
+    (λ t e₁. cond-elim (ltb room 1302) _ _ _ e₁ (λ u z. absurd (let y : _≡_ {A = ℕ} 0 1 = cc in omega arith)) (λ u z. (not-false (sound b) t, ltb-false _ _ u)))

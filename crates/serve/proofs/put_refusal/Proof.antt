@@ -1,3 +1,4 @@
+use Rattle.serve.proofs.Joint.{refusal-length}
 use mathlib.Core.List.{append-nil}
 use Rattle.serving.specs.Reply.{replyBytes, replyHeader}
 use Rattle.header.proofs.HeaderLaws.{length-header}
@@ -31,7 +32,7 @@ same-length c = search needs
 
 -- src/lib.rt:100:1
 returns : tie.Need-returns
-returns c = ((c .before .before .put-reply) .ensures .0 ∙ ?, (c .before .before .put-reply) .ensures .1)
+returns c = ((c .before .before .put-reply) .ensures .0 ∙ refusal-length ((c .before .before .before .before .before .before .before .args) .h .opcode) ((c .before .before .before .before .before .before .before .args) .h .opaque) ((c .before .before .before .before .before .before .before .args) .head) ((c .before .before .before .before .before .before .before .args) .status), (c .before .before .put-reply) .ensures .1)
 
 pub put-refusal-spec : {M : Type 1} → statement M
 put-refusal-spec =

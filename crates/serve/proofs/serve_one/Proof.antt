@@ -1,3 +1,5 @@
+use Rattle.serve.proofs.Joint.{gate-whole}
+use Rattle.serving.specs.Serve.{answerBy, tableBy, replyBy}
 use Rattle.serving.specs.Serve.{served, servedTable, servedReply}
 use lib.ListN.{length}
 use denote.Ref.{now}
@@ -26,7 +28,7 @@ enum-known-h c = search needs
 
 -- src/lib.rt:141:27
 serve-whole-requires : tie.Need-serve-whole-requires
-serve-whole-requires c κs = ?
+serve-whole-requires c κs = gate-whole (now ((c .before .before .before .before .before .before .before .before .before .before .args) .b)) (now ((c .before .before .before .before .before .before .before .before .before .before .args) .s)) (length (now ((c .before .before .before .before .before .before .before .before .before .before .args) .out))) ((c .before .before .before .h) .given .0 .0) (sym ((c .before .before .before .before .before .gate-all) .ensures) ∙ (c .before .before .before .h) .given .1)
 
 -- src/lib.rt:134:1
 same-length : tie.Need-same-length
@@ -34,7 +36,9 @@ same-length c = search needs
 
 -- src/lib.rt:134:1
 returns : tie.Need-returns
-returns c = ?
+unfolding served servedTable servedReply
+returns c = let e = sym ((c .before .before .before .gate-all) .ensures) ∙ (c .before .outcome) .given .1 in
+    (sym (ap (answerBy (now ((c .before .before .before .before .before .before .before .before .args) .b)) ((c .before .before .before .before .before .before .before .before .args) .clock) (now ((c .before .before .before .before .before .before .before .before .args) .s))) e), (sym (ap (tableBy (now ((c .before .before .before .before .before .before .before .before .args) .b)) ((c .before .before .before .before .before .before .before .before .args) .clock) (now ((c .before .before .before .before .before .before .before .before .args) .s))) e), sym (ap (replyBy (now ((c .before .before .before .before .before .before .before .before .args) .b)) ((c .before .before .before .before .before .before .before .before .args) .clock) (now ((c .before .before .before .before .before .before .before .before .args) .s)) (now ((c .before .before .before .before .before .before .before .before .args) .out))) e)))
 
 -- src/lib.rt:134:1
 same-length-2 : tie.Need-same-length-2
@@ -46,7 +50,9 @@ same-length-3 c = search needs
 
 -- src/lib.rt:134:1
 returns-2 : tie.Need-returns-2
-returns-2 c = ?
+unfolding served servedTable servedReply
+returns-2 c = let e = sym ((c .before .before .before .before .before .before .before .before .before .before .gate-all) .ensures) ∙ (c .before .before .before .before .before .before .before .before .h) .given .1 in
+    ((c .before .before .before .before .serve-whole) .ensures .0 ∙ sym (ap (answerBy (now ((c .before .before .before .before .before .before .before .before .before .before .before .before .before .before .before .args) .b)) ((c .before .before .before .before .before .before .before .before .before .before .before .before .before .before .before .args) .clock) (now ((c .before .before .before .before .before .before .before .before .before .before .before .before .before .before .before .args) .s))) e), ((c .before .before .before .before .serve-whole) .ensures .1 .0 ∙ sym (ap (tableBy (now ((c .before .before .before .before .before .before .before .before .before .before .before .before .before .before .before .args) .b)) ((c .before .before .before .before .before .before .before .before .before .before .before .before .before .before .before .args) .clock) (now ((c .before .before .before .before .before .before .before .before .before .before .before .before .before .before .before .args) .s))) e), (c .before .before .before .before .serve-whole) .ensures .1 .1 ∙ sym (ap (replyBy (now ((c .before .before .before .before .before .before .before .before .before .before .before .before .before .before .before .args) .b)) ((c .before .before .before .before .before .before .before .before .before .before .before .before .before .before .before .args) .clock) (now ((c .before .before .before .before .before .before .before .before .before .before .before .before .before .before .before .args) .s)) (now ((c .before .before .before .before .before .before .before .before .before .before .before .before .before .before .before .args) .out))) e)))
 
 pub serve-one-spec : {M : Type 1} → statement M
 serve-one-spec =

@@ -1,3 +1,10 @@
+use Rattle.serve.proofs.Joint.{refusal-length}
+use Rattle.request.specs.Reading.{frameStatus}
+use Rattle.table.specs.Table.{headOf}
+use Rattle.serving.specs.Serve.{refusal}
+use Rattle.serving.specs.Reply.{replyBytes}
+use mathlib.Core.List.{[]}
+use mathlib.Core.List.{List}
 use Rattle.octets.specs.Parts.{written}
 use mathlib.Core.Bool.{true, false}
 use Rattle.serve.proofs.Joint.{decided-is, status-is, reply-is, answer-is, table-is, refused-reply, refused-table, refused-answer}
@@ -70,8 +77,13 @@ same-length-4 c = search needs
 returns-2 : tie.Need-returns-2
 returns-2 c = let b = now ((c .before .before .before .before .before .before .before .before .before .before .before .before .before .args) .b) in
     let s = now ((c .before .before .before .before .before .before .before .before .before .before .before .before .before .args) .s) in
+    let h = (c .before .before .before .before .before .before .before .before .before .before .before .before .before .args) .h in
     let g = sym (ap goesOn ((c .before .before .before .before .before .before .before .before .before .frame-status) .ensures)) ∙ sym ((c .before .before .before .before .before .before .before .before .goes-on) .ensures) ∙ (c .before .before .before .before .before .before .before .if1) .left in
-    ?
+    let w : replyBytes (h .opcode) (h .opaque) (refusal ((c .before .before .before .before .head-of) .result) ((c .before .before .before .before .before .before .before .before .before .frame-status) .result)) [] [] ≡ replyBytes (h .opcode) (h .opaque) (refusal (headOf b) (frameStatus s h)) [] [] =
+    λ i. replyBytes (h .opcode) (h .opaque) (refusal ((c .before .before .before .before .head-of) .ensures i) ((c .before .before .before .before .before .before .before .before .before .frame-status) .ensures i)) [] [] in (
+      refused-answer b s ((c .before .before .before .before .before .before .before .before .before .before .before .before .before .args) .clock) h g _ _ ((c .before .before .before .before .before .before .before .before .before .frame-status) .ensures) ((c .before .before .before .put-refusal) .ensures .0 ∙ sym (refusal-length (h .opcode) (h .opaque) (headOf b) (frameStatus s h))),
+      (sym (refused-table b s ((c .before .before .before .before .before .before .before .before .before .before .before .before .before .args) .clock) h g), (c .before .before .before .put-refusal) .ensures .1 ∙ ap (written (now ((c .before .before .before .before .before .before .before .before .before .before .before .before .before .args) .out)) 0) (w ∙ refused-reply b s ((c .before .before .before .before .before .before .before .before .before .before .before .before .before .args) .clock) h g)),
+    )
 
 pub serve-whole-spec : {M : Type 1} → statement M
 serve-whole-spec =
