@@ -133,19 +133,35 @@ fn store_entry(g: Given, key: &[u8], value: &[u8], s: &mut [u8]) {
     store_found(g, key, value, s, f);
 }
 
-pub(crate) fn store(g: Given, spelled: &[u8], s: &mut [u8], space: &mut [u8]) {
+// Where the key and the value end in the space, and whether the line spells them.
+struct Parts {
+    key: usize,
+    value: usize,
+    good: bool,
+}
+
+fn put_parts(space: &mut [u8], spelled: &[u8]) -> Parts {
     let key = text::put_bytes(space, 0, text::before(spelled, b'/'));
     let value = text::put_bytes(space, key.end, text::after(spelled, b'/'));
-    if !(key.good & value.good) {
-        show::text(b"what?");
-        return;
+    Parts {
+        key: key.end,
+        value: value.end,
+        good: key.good & value.good,
     }
-    store_entry(
-        g,
-        octets::part(space, 0, key.end),
-        between(space, key.end, value.end),
-        s,
-    );
+}
+
+fn store_parts(g: Given, space: &[u8], p: Parts, s: &mut [u8]) {
+    let key = octets::part(space, 0, p.key);
+    store_entry(g, key, between(space, p.key, p.value), s);
+}
+
+pub(crate) fn store(g: Given, spelled: &[u8], s: &mut [u8], space: &mut [u8]) {
+    let p = put_parts(space, spelled);
+    if p.good {
+        store_parts(g, space, p, s);
+    } else {
+        show::text(b"what?");
+    }
 }
 
 fn show_live(s: &[u8], n: Numbers, at: usize, len: usize) {
