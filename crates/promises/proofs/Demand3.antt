@@ -1,19 +1,15 @@
 -- Demand 3 on bytes, from the theorem on abstract tables.
-use Prim.Native.Nat.{ℕ, _+_, _≤_}
+use Prim.Native.Nat.{ℕ, _≤_}
 use mathlib.Core.Path.{_≡_, refl, sym, ap, _∙_}
-use mathlib.Core.Bool.{Bool, true, false, cond, not}
-use mathlib.Core.List.{List, [], _∷_, _++_, map}
-use mathlib.Core.Option.{Option, none, some}
-use native.Mathlib.Omega.{arith}
+use mathlib.Core.List.{List, [], _∷_, map}
+use mathlib.Core.Option.{none, some}
 use lib.ListN.{length}
-use lib.Dec.{ltb, eqb}
 use borrow.Author.Tests.{le-ltb}
 use Rattle.octets.specs.Parts.{Bytes}
 use Rattle.octets.specs.Compare.{same}
 use Rattle.octets.proofs.Choices.{cases}
 use Rattle.numbers.specs.declared.Mode.{Mode}
-use Rattle.engine.specs.Documents.{Key, Doc, Entry}
-use Rattle.header.specs.declared.Header.{Header}
+use Rattle.engine.specs.Documents.{Key, Doc}
 use Rattle.header.specs.Header.{headerOf}
 use Rattle.request.specs.declared.Gate.the-variants.{Whole}
 use Rattle.request.specs.Reading.{gateOf, frameStatus, keySpan, bytesIn}
@@ -21,7 +17,6 @@ use Rattle.commands.specs.Decide.{Effect, decide}
 use Rattle.asks.specs.Asks.{requestOf}
 use Rattle.table.specs.Row.{Row}
 use Rattle.table.specs.Table.{Table, tableOf, tableBytes}
-use Rattle.table.specs.Damage.{sound}
 use Rattle.table.specs.Claims.{AllGood, Good}
 use Rattle.table.specs.Plain.{findRow, plain}
 use Rattle.table.proofs.PlainLaws.{none-some, plain-laws}
