@@ -1,1 +1,3 @@
 pub mod Formed
+pub mod MergingCall
+pub mod Demand3

@@ -1,0 +1,121 @@
+-- A merging call on bytes is a merging call on abstract tables.
+use Prim.Native.Nat.{ℕ, _+_, _-_, _≤_}
+use mathlib.Core.Path.{_≡_, refl}
+use mathlib.Core.Bool.{true, false, not, _||_}
+use mathlib.Core.Logic.{⊎-elim}
+use mathlib.Core.List.{List, [], _∷_, map}
+use native.Mathlib.Omega.{arith}
+use lib.ListN.{length}
+use lib.Dec.{ltb, eqb}
+use borrow.Author.Tests.{eqb-true, eqb-false, not-true, ltb-false}
+use Rattle.octets.proofs.Choices.{cases, cond-elim, either as one-of}
+use Rattle.octets.proofs.Lists.{part-length, part-most}
+use Rattle.numbers.specs.declared.Mode.{Mode}
+use Rattle.numbers.specs.declared.Mode.the-variants.{ByRevision, LastWrite}
+use Rattle.shape.specs.declared.Shape.{Shape}
+use Rattle.shape.specs.Shapes.{shapeOf}
+use Rattle.header.specs.declared.Header.{Header}
+use Rattle.header.specs.Header.{headerOf}
+use Rattle.rules.specs.declared.WithMeta.{WithMeta}
+use Rattle.rules.specs.WithMeta.{withMeta}
+use Rattle.rules.specs.Rules.{formOk, fieldRulesOk, metaSize, judged, status}
+use Rattle.rules.proofs.RuleLaws.{parts-inside}
+use Rattle.request.specs.declared.Gate.the-variants.{Whole}
+use Rattle.request.specs.Reading.{gateOf, frameStatus, extrasSpan, valueSpan, bytesIn}
+use Rattle.commands.specs.declared.Kind.{Kind}
+use Rattle.commands.specs.declared.Kind.the-variants.{Set, Delete}
+use Rattle.commands.specs.declared.Command.{Command}
+use Rattle.commands.specs.declared.Command.the-variants.{WithMeta as Metas}
+use Rattle.commands.specs.Rules.{isLast}
+use Rattle.commands.specs.Merging.{SetOrDelete, meta, metaOf}
+use Rattle.commands.specs.Merging as abstract
+use Rattle.asks.specs.Asks.{either, commandOf, valueOf, requestOf}
+use Rattle.asks.specs.Asks as asks
+use Rattle.merge.specs.Merge.{All}
+use Rattle.promises.specs.Calls.{Call}
+use Rattle.promises.specs.Merge.{optionsFor, Merging}
+
+-- what a call asks for
+abbrev pub asked : Call → abstract.Call
+asked c = record { clock = c .clock; request = requestOf (c .received) (headerOf (c .received)) }
+
+-- ---- the command
+kind-of : (op : ℕ) (extras : List ℕ) → (either op 0xa2 0xa3 || either op 0xa8 0xa9) ≡ true
+    → (k : Kind) × SetOrDelete k × (commandOf op extras ≡ asks.metaOf k (withMeta extras))
+unfolding commandOf
+kind-of op extras e =
+    ⊎-elim
+    (λ s. ⊎-elim (λ z. rw (eqb-true op 0xa2 z) (Set, tt, refl)) (λ z. rw (eqb-true op 0xa3 z) (Set, tt, refl)) (one-of (eqb op 0xa2) (eqb op 0xa3) s))
+    (λ s. ⊎-elim (λ z. rw (eqb-true op 0xa8 z) (Delete, tt, refl)) (λ z. rw (eqb-true op 0xa9 z) (Delete, tt, refl)) (one-of (eqb op 0xa8) (eqb op 0xa9) s))
+    (one-of (either op 0xa2 0xa3) (either op 0xa8 0xa9) e)
+
+record Metaed (m : Mode) (x : Command) : Type 0 where
+  with-meta : x ≡ Metas (metaOf x)
+  kind : SetOrDelete (metaOf x .kind)
+  last : metaOf x .last ≡ isLast m
+  force : metaOf x .force ≡ false
+  regenerate : metaOf x .regenerate ≡ false
+  skip : metaOf x .skip ≡ false
+
+metaed : (m : Mode) (x : Command) (k : Kind) (w : WithMeta) → SetOrDelete k → x ≡ asks.metaOf k w → w .options ≡ optionsFor m → Metaed m x
+unfolding asks.metaOf
+metaed ByRevision x k w d e o = rw e (record { with-meta = refl; kind = d; last = rw o; force = rw o; regenerate = rw o; skip = rw o })
+metaed LastWrite x k w d e o = rw e (record { with-meta = refl; kind = d; last = rw o; force = rw o; regenerate = rw o; skip = rw o })
+
+-- ---- the value
+judged-short : (s : Shape) (h : Header) (extras value : List ℕ) → judged s h extras value ≡ 0 → length value - metaSize s extras ≤ 1024
+unfolding judged
+judged-short s h extras value e =
+    cond-elim (not (eqb (s .status) 0)) _ _ _ e
+    (λ t z. absurd (eqb-false (s .status) 0 (not-true _ t) z))
+    (λ t e₁. cond-elim (not (formOk s h)) _ _ _ e₁ (λ u z. absurd (omega arith))
+    (λ u e₂. cond-elim (not (fieldRulesOk s extras value)) _ _ _ e₂ (λ v z. absurd (omega arith))
+    (λ v e₃. cond-elim (ltb 1024 (length value - metaSize s extras)) _ _ _ e₃ (λ w z. absurd (omega arith)) (λ w z. ltb-false _ _ w))))
+
+whole-body : (s : List ℕ) → gateOf s ≡ Whole (headerOf s) → 24 + headerOf s .body ≤ length s
+unfolding gateOf
+whole-body s e =
+    cases (ltb (length s) 24) (λ t. absurd (let z = rw t at e in let y : _≡_ {A = ℕ} 0 1 = cc in omega arith))
+    (λ t. let e₁ = rw t at e in
+    cases (eqb (headerOf s .magic) 0x80)
+    (λ m. let e₂ = rw m at e₁ in
+    cases (ltb 1400 (headerOf s .body)) (λ u. absurd (let z = rw u at e₂ in let y : _≡_ {A = ℕ} 0 1 = cc in omega arith))
+    (λ u. let e₃ = rw u at e₂ in
+    cases (ltb (length s) (24 + headerOf s .body)) (λ v. absurd (let z = rw v at e₃ in let y : _≡_ {A = ℕ} 0 1 = cc in omega arith))
+    (λ v. ltb-false _ _ v)))
+    (λ m. absurd (let z = rw m at e₁ in let y : _≡_ {A = ℕ} 0 1 = cc in omega arith)))
+
+value-short : (s : List ℕ) (h : Header) → 24 + h .body ≤ length s → frameStatus s h ≡ 0 → length (valueOf s h) ≤ 1024
+unfolding valueOf frameStatus valueSpan status
+value-short s h w e =
+    let i = parts-inside h (bytesIn s (extrasSpan h)) (bytesIn s (valueSpan h)) e in
+    let n = h .body - (h .extlen + h .keylen) in
+    let at = 24 + h .extlen + h .keylen in
+    let l : length (bytesIn s (valueSpan h)) ≡ n = part-length s at n (omega arith) in
+    let j = judged-short (shapeOf (h .opcode)) h (bytesIn s (extrasSpan h)) (bytesIn s (valueSpan h)) e in
+    let q = part-most s at (n - metaSize (shapeOf (h .opcode)) (bytesIn s (extrasSpan h))) in
+    omega arith
+
+-- ---- the call
+merging-asked : (m : Mode) (v : ℕ) (c : Call) → Merging m v c → abstract.Merging m v (meta (asked c)) (asked c)
+unfolding requestOf
+merging-asked m v c p =
+    let s = c .received in
+    let h = headerOf s in
+    let (k, d, e) = kind-of (h .opcode) (bytesIn s (extrasSpan h)) (p .opcode) in
+    let x = metaed m (commandOf (h .opcode) (bytesIn s (extrasSpan h))) k (withMeta (bytesIn s (extrasSpan h))) d e (p .options) in
+    record {
+      with-meta = x .with-meta;
+      kind = x .kind;
+      mode = x .last;
+      short = value-short s h (whole-body s (p .whole)) (p .form);
+      here = p .here;
+      header-cas = p .header-cas;
+      force = x .force;
+      regenerate = x .regenerate;
+      skip = x .skip;
+    }
+
+pub all-asked : (m : Mode) (v : ℕ) (cs : List Call) → All (Merging m v) cs → All (λ c. abstract.Merging m v (meta c) c) (map asked cs)
+all-asked m v [] p = tt
+all-asked m v (c ∷ cs) p = (merging-asked m v c (p .0), all-asked m v cs (p .1))
