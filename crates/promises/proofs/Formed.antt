@@ -1,16 +1,16 @@
 -- A frame that the reader's rules let pass, save a value over 1,024 bytes, asks for a command whose form is right.
-use Prim.Native.Nat.{ℕ, _+_, _-_, _^_, _≤_, _<_}
-use mathlib.Core.Path.{_≡_, refl, sym, ap, _∙_}
-use mathlib.Core.Bool.{Bool, true, false, cond, not, _&&_, _||_}
+use Prim.Native.Nat.{ℕ, _+_, _-_, _≤_}
+use mathlib.Core.Path.{_≡_, refl, ap, _∙_}
+use mathlib.Core.Bool.{Bool, true, false, cond, _&&_}
 use mathlib.Core.Logic.{⊎-elim}
 use mathlib.Core.List.{List, [], _∷_}
 use native.Mathlib.Omega.{arith}
-use lib.ListN.{length, drop, take}
-use lib.Dec.{ltb, leb, eqb}
-use borrow.Author.Tests.{eqb-true, leb-true, not-false, not-true}
+use lib.ListN.{length}
+use lib.Dec.{leb, eqb}
+use borrow.Author.Tests.{eqb-true, leb-true}
 use Rattle.octets.specs.Parts.{Bytes, part}
 use Rattle.octets.specs.BigEndian.{be, beFrom, num}
-use Rattle.octets.proofs.Choices.{cases, cond-elim, both, either as one-of}
+use Rattle.octets.proofs.Choices.{cases, both, either as one-of}
 use Rattle.octets.proofs.Lists.{bytes-part}
 use Rattle.octets.proofs.Numbers.{num-below}
 use Rattle.shape.specs.declared.Shape.{Shape}
@@ -18,7 +18,6 @@ use Rattle.shape.specs.Shapes.{Command as Listed, commands, bare, unbuilt, look
 use Rattle.header.specs.declared.Header.{Header}
 use Rattle.rules.specs.declared.WithMeta.{WithMeta}
 use Rattle.rules.specs.WithMeta.{withMeta, numbersOf}
-use Rattle.rules.specs.Section.{sectionOk}
 use Rattle.rules.specs.Rules.{formOk, extrasOk, keyOk, numbersOk, bodyOk, withMetaOk, fieldRulesOk, judged, status}
 use Rattle.rules.proofs.RuleLaws.{formed}
 use Rattle.request.specs.Reading.{extrasSpan, valueSpan, bytesIn, frameStatus}
@@ -27,7 +26,7 @@ use Rattle.commands.specs.declared.Kind.the-variants.{Set, Add, Replace, Delete
 use Rattle.commands.specs.declared.Command.{Command}
 use Rattle.commands.specs.declared.Command.the-variants.{Get, Write, Count, Noop, Version, WithMeta as Metas}
 use Rattle.commands.specs.Rules.{isDelete}
-use Rattle.commands.specs.Claims.{Fits, BareDelete, Formed}
+use Rattle.commands.specs.Claims.{Formed}
 use Rattle.asks.specs.Asks.{either, plainOf, counterOf, metaOf, plainCommand, commandOf, requestOf}
 use Rattle.serving.specs.Serve.{goesOn}
 

@@ -1,16 +1,15 @@
 -- The table stays sound under serving, whatever the bytes, the clock and the room.
 use Prim.Native.Nat.{ℕ}
 use mathlib.Core.Path.{_≡_, refl, sym, ap, _∙_}
-use mathlib.Core.Bool.{true, false, cond, not}
+use mathlib.Core.Bool.{true, cond, not}
 use mathlib.Core.List.{List}
 use lib.Dec.{ltb}
 use Rattle.octets.specs.Parts.{Bytes}
-use Rattle.octets.proofs.Choices.{cases}
 use Rattle.header.specs.declared.Header.{Header}
 use Rattle.request.specs.declared.Gate.{Gate}
 use Rattle.request.specs.declared.Gate.the-variants.{Stop, Whole}
 use Rattle.request.specs.Reading.{gateOf}
-use Rattle.table.specs.Table.{tableOf, tableBytes}
+use Rattle.table.specs.Table.{tableOf}
 use Rattle.table.specs.Damage.{sound}
 use Rattle.table.proofs.TableLaws.{sound-good, good-sound}
 use Rattle.serving.specs.Serve.{gateAll, frameTable, tableBy, servedTable}

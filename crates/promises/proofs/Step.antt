@@ -2,7 +2,7 @@
 use native.Mathlib.Omega.{arith}
 use Prim.Native.Nat.{ℕ, _+_, _≤_, _<_}
 use mathlib.Core.Path.{_≡_, refl, sym, ap, _∙_, subst}
-use mathlib.Core.Bool.{Bool, true, false, cond}
+use mathlib.Core.Bool.{true, false}
 use mathlib.Core.List.{List}
 use mathlib.Core.Option.{Option, none, some}
 use lib.ListN.{length}
@@ -10,21 +10,19 @@ use lib.Dec.{ltb}
 use borrow.Author.Tests.{ltb-true}
 use Rattle.octets.specs.Parts.{Bytes}
 use Rattle.octets.proofs.Choices.{cases}
-use Rattle.octets.proofs.Lists.{part-length, part-most}
+use Rattle.octets.proofs.Lists.{part-length}
 use Rattle.header.specs.declared.Header.{Header}
 use Rattle.rules.proofs.RuleLaws.{key-most}
-use Rattle.request.specs.declared.Gate.the-variants.{Whole}
-use Rattle.request.specs.Reading.{gateOf, frameStatus, bytesIn, extrasSpan, keySpan, valueSpan}
-use Rattle.engine.specs.declared.Head.{Head}
+use Rattle.request.specs.Reading.{frameStatus, bytesIn, extrasSpan, keySpan, valueSpan}
 use Rattle.engine.specs.Documents.{Key, Doc, Entry}
 use Rattle.engine.specs.Head.{marked}
-use Rattle.commands.specs.Decide.{Request, Answer, decide}
+use Rattle.commands.specs.Decide.{Answer, decide}
 use Rattle.commands.specs.Claims.{StoredSound}
 use Rattle.commands.proofs.Stores.{stores-with-room, stores-sound}
 use Rattle.asks.specs.Asks.{requestOf}
 use Rattle.table.specs.declared.Found.{Found}
 use Rattle.table.specs.declared.Found.the-variants.{At, Nothing}
-use Rattle.table.specs.Table.{Table, tableOf, tableBytes, withMark}
+use Rattle.table.specs.Table.{Table, tableBytes, withMark}
 use Rattle.table.specs.Lookup.{placeIn}
 use Rattle.table.specs.Plain.{plain, findRow, freeRows}
 use Rattle.table.specs.Claims.{EntryGood, Good, withEntry}
@@ -34,7 +32,7 @@ use Rattle.table.proofs.TableLaws.{good-sound}
 use Rattle.table.proofs.ChangeLaws.{store-good}
 use Rattle.merge.specs.Merge.{storeRow}
 use Rattle.serving.specs.Change.{storedAt}
-use Rattle.serving.specs.Serve.{goesOn, refusal, decisionOn, answerOn, frameTable}
+use Rattle.serving.specs.Serve.{goesOn, decisionOn, answerOn, frameTable}
 use Rattle.promises.specs.Step.{stepTable, Steps, StepGood}
 use Rattle.promises.proofs.Formed.{form, command-right}
 use Rattle.promises.proofs.Keeps.{decide-keeps, fits-found, whole-inside}
