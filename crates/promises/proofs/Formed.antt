@@ -1,14 +1,14 @@
 -- A frame that the reader's rules let pass, save a value over 1,024 bytes, asks for a command whose form is right.
-use Prim.Native.Nat.{ℕ, _+_, _-_, _^_, _≤_, _<_}
-use mathlib.Core.Path.{_≡_, refl, sym, ap, _∙_}
-use mathlib.Core.Bool.{Bool, true, false, cond, not, _&&_, _||_}
+use Prim.Native.Nat.{ℕ, _+_, _-_, _≤_}
+use mathlib.Core.Path.{_≡_, refl, ap, _∙_}
+use mathlib.Core.Bool.{Bool, true, false, cond, _&&_}
 use mathlib.Core.Logic.{⊎-elim}
 use mathlib.Core.List.{List, [], _∷_}
 use native.Mathlib.Omega.{arith}
-use lib.ListN.{length, drop, take}
-use lib.Dec.{ltb, leb, eqb}
-use borrow.Author.Tests.{eqb-true, leb-true, not-false, not-true, eq-eqb}
-use Rattle.octets.specs.Parts.{Bytes}
+use lib.ListN.{length}
+use lib.Dec.{leb, eqb}
+use borrow.Author.Tests.{eqb-true, leb-true}
+use Rattle.octets.specs.Parts.{Bytes, part}
 use Rattle.octets.specs.BigEndian.{be, beFrom, num}
 use Rattle.octets.proofs.Choices.{cases, both, either as one-of}
 use Rattle.octets.proofs.Lists.{bytes-part}
@@ -18,13 +18,15 @@ use Rattle.shape.specs.Shapes.{Command as Listed, commands, bare, unbuilt, look
 use Rattle.header.specs.declared.Header.{Header}
 use Rattle.rules.specs.declared.WithMeta.{WithMeta}
 use Rattle.rules.specs.WithMeta.{withMeta, numbersOf}
-use Rattle.rules.specs.Section.{sectionOk}
-use Rattle.rules.specs.Rules.{formOk, extrasOk, keyOk, numbersOk, bodyOk, withMetaOk, fieldRulesOk, metaSize, judged, status}
+use Rattle.rules.specs.Rules.{formOk, extrasOk, keyOk, numbersOk, bodyOk, withMetaOk, fieldRulesOk, judged, status}
+use Rattle.rules.proofs.RuleLaws.{formed}
 use Rattle.request.specs.Reading.{extrasSpan, valueSpan, bytesIn, frameStatus}
 use Rattle.commands.specs.declared.Kind.{Kind}
 use Rattle.commands.specs.declared.Kind.the-variants.{Set, Add, Replace, Delete}
 use Rattle.commands.specs.declared.Command.{Command}
-use Rattle.commands.specs.Claims.{Fits, BareDelete, Formed}
+use Rattle.commands.specs.declared.Command.the-variants.{Get, Write, Count, Noop, Version, WithMeta as Metas}
+use Rattle.commands.specs.Rules.{isDelete}
+use Rattle.commands.specs.Claims.{Formed}
 use Rattle.asks.specs.Asks.{either, plainOf, counterOf, metaOf, plainCommand, commandOf, requestOf}
 use Rattle.serving.specs.Serve.{goesOn}
 
@@ -35,6 +37,15 @@ no e = absurd (let y : _≡_ {A = ℕ} 0 1 = cc in omega arith)
 pub by-cond {ℓ ℓ′} : {A : Type ℓ} (P : A → Type ℓ′) (b : Bool) (x y : A) → (b ≡ true → P x) → (b ≡ false → P y) → P (cond b x y)
 by-cond P true x y f g = f refl
 by-cond P false x y f g = g refl
+
+-- a command that writes has a key, of n bytes
+abbrev pub Named : ℕ → Command → Type 0
+Named n (Get k) = Unit {0}
+Named n (Write p) = 1 ≤ n
+Named n (Count k) = 1 ≤ n
+Named n Noop = Unit {0}
+Named n Version = Unit {0}
+Named n (Metas w) = 1 ≤ n
 
 -- ---- an opcode whose status lets the frame go on is built
 abbrev Built : Shape → Type 0
@@ -50,3 +61,148 @@ built-in op (c ∷ cs) other p =
 built : (op : ℕ) → Built (shapeOf op)
 unfolding shapeOf
 built op = built-in op commands _ (by-cond Built (among op bare) _ _ (λ t e. refl) (λ t. by-cond Built (among op unbuilt) _ _ (λ u e. no e) (λ u e. no e)))
+
+judged-built : (s : Shape) (h : Header) (extras value : List ℕ) → Built s → goesOn (judged s h extras value) ≡ true → s .status ≡ 0
+unfolding judged
+judged-built s h extras value b e = cases (eqb (s .status) 0) (λ t. eqb-true (s .status) 0 t) (λ t. b (rw t at e))
+
+-- ---- a frame that goes on breaks no field rule
+judged-fields : (s : Shape) (h : Header) (extras value : List ℕ) → formOk s h ≡ true → s .status ≡ 0 → goesOn (judged s h extras value) ≡ true → fieldRulesOk s extras value ≡ true
+unfolding judged
+judged-fields s h extras value f z e =
+    cases (fieldRulesOk s extras value) (λ t. t) (λ t. no (rw (z, f, t) at e))
+
+-- ---- what the rules say, by parts
+key-least : (key n : ℕ) → key ≡ 1 → keyOk key n ≡ true → 1 ≤ n
+key-least key n p e = leb-true 1 n (both (leb 1 n) (leb n 250) (rw p at e) .0)
+
+no-extras : (size n : ℕ) → size ≡ 0 → extrasOk size n ≡ true → n ≡ 0
+no-extras size n p e = ⊎-elim (λ z. eqb-true n 0 z) (λ z. no z) (one-of (eqb n 0) false (rw p at e))
+
+meta-ok : (s : Shape) (extras value : List ℕ) (m : ℕ) → s .meta ≡ m → eqb m 0 ≡ false → fieldRulesOk s extras value ≡ true → withMetaOk m (withMeta extras) value ≡ true
+unfolding fieldRulesOk
+meta-ok s extras value m p z e = rw (p, z) at e
+
+cas-least : (m : ℕ) (w : WithMeta) (value : List ℕ) → withMetaOk m w value ≡ true → 1 ≤ w .numbers .cas .0
+unfolding withMetaOk numbersOk
+cas-least m w value e =
+    let a = both (leb (w .section) (length value)) _ e .1 in
+    let b = both (numbersOk w) _ a .0 in
+    leb-true 1 (w .numbers .cas .0) (both (leb 1 (w .numbers .cas .0)) _ b .0)
+
+bare-delete : (w : WithMeta) (value : List ℕ) → withMetaOk 2 w value ≡ true → (w .numbers .flags ≡ 0) × (w .numbers .expiry ≡ 0)
+unfolding withMetaOk bodyOk
+bare-delete w value e =
+    let a = both (leb (w .section) (length value)) _ e .1 in
+    let b = both (numbersOk w) _ a .1 in
+    let n = length value - w .section in
+    let c = both (bodyOk 2 w n) _ b .0 in
+    let d = both (eqb n 0) (eqb (w .numbers .flags) 0 && eqb (w .numbers .expiry) 0) c .1 in
+    let f = both (eqb (w .numbers .flags) 0) (eqb (w .numbers .expiry) 0) d in
+    (eqb-true (w .numbers .flags) 0 (f .0), eqb-true (w .numbers .expiry) 0 (f .1))
+
+-- a field of the shape of an opcode that is one of two
+two : (f : Shape → ℕ) (op a b n : ℕ) → either op a b ≡ true → f (shapeOf a) ≡ n → f (shapeOf b) ≡ n → f (shapeOf op) ≡ n
+two f op a b n e p q =
+    ⊎-elim
+    (λ z. ap (λ (x : ℕ). f (shapeOf x)) (eqb-true op a z) ∙ p)
+    (λ z. ap (λ (x : ℕ). f (shapeOf x)) (eqb-true op b z) ∙ q)
+    (one-of (eqb op a) (eqb op b) e)
+
+-- the parts of a right form
+pub record Form (s : Shape) (h : Header) : Type 0 where
+  pub inside : h .extlen + h .keylen ≤ h .body
+  pub extras : extrasOk (s .extras) (h .extlen) ≡ true
+  pub key : keyOk (s .key) (h .keylen) ≡ true
+
+form-parts : (s : Shape) (h : Header) → formOk s h ≡ true → Form s h
+unfolding formOk
+form-parts s h e =
+    let a = both (eqb (h .datatype) 0) _ e in
+    let b = both (leb (h .extlen + h .keylen) (h .body)) _ (a .1) in
+    let c = both (extrasOk (s .extras) (h .extlen)) _ (b .1) in
+    let d = both (keyOk (s .key) (h .keylen)) _ (c .1) in
+    record { inside = leb-true (h .extlen + h .keylen) (h .body) (b .0); extras = c .0; key = d .0 }
+
+module _ (s : List ℕ) (y : Bytes s) (h : Header) (g : goesOn (frameStatus s h) ≡ true) where
+  abbrev extras : List ℕ
+  extras = bytesIn s (extrasSpan h)
+
+  abbrev value : List ℕ
+  value = bytesIn s (valueSpan h)
+
+  abbrev op : ℕ
+  op = h .opcode
+
+  form-ok : formOk (shapeOf op) h ≡ true
+  unfolding frameStatus
+  form-ok = formed h extras value g
+
+  pub form : Form (shapeOf op) h
+  form = form-parts (shapeOf op) h form-ok
+
+  fields : fieldRulesOk (shapeOf op) extras value ≡ true
+  unfolding frameStatus status
+  fields = judged-fields (shapeOf op) h extras value form-ok (judged-built (shapeOf op) h extras value (built op) g) g
+
+  bytes : Bytes extras
+  unfolding extrasSpan
+  bytes = bytes-part s 24 (h .extlen) y
+
+  abbrev Right : Command → Type 0
+  Right c = Formed c × Named (h .keylen) c
+
+  named : (a b : ℕ) → either op a b ≡ true → shapeOf a .key ≡ 1 → shapeOf b .key ≡ 1 → 1 ≤ h .keylen
+  named a b e p q = key-least (shapeOf op .key) (h .keylen) (two (λ (x : Shape). x .key) op a b 1 e p q) (form .key)
+
+  meta-right : (k : Kind) (m a b : ℕ) → either op a b ≡ true → shapeOf a .key ≡ 1 → shapeOf b .key ≡ 1 → shapeOf a .meta ≡ m → shapeOf b .meta ≡ m
+      → eqb m 0 ≡ false → (isDelete k ≡ true → m ≡ 2) → Right (metaOf k (withMeta extras))
+  unfolding metaOf withMeta numbersOf
+  meta-right k m a b e p q v w z d =
+      let r = meta-ok (shapeOf op) extras value m (two (λ (x : Shape). x .meta) op a b m e v w) z fields in (
+        (
+          record { flags = num-below extras 0 4 bytes; expiry = num-below extras 4 4 bytes; revision = num-below extras 8 8 bytes; cas = num-below extras 16 8 bytes },
+          cas-least m (withMeta extras) value r,
+          λ t. bare-delete (withMeta extras) value (rw (d t) at r),
+        ),
+        named a b e p q,
+      )
+
+  plain-right : (k : Kind) (a b : ℕ) → either op a b ≡ true → shapeOf a .key ≡ 1 → shapeOf b .key ≡ 1
+      → (isDelete k ≡ true → (shapeOf a .extras ≡ 0) × (shapeOf b .extras ≡ 0)) → Right (plainOf k extras)
+  unfolding plainOf extrasSpan be beFrom
+  plain-right k a b e p q d = (
+    (
+      num-below extras 0 4 bytes,
+      num-below extras 4 4 bytes,
+      λ t.
+          let z = no-extras (shapeOf op .extras) (h .extlen) (two (λ (x : Shape). x .extras) op a b 0 e (d t .0) (d t .1)) (form .extras) in
+          (ap (λ (n : ℕ). num (part s 24 n) 0 4) z, ap (λ (n : ℕ). num (part s 24 n) 4 4) z),
+    ),
+    named a b e p q,
+  )
+
+  count-right : (up : Bool) (a b : ℕ) → either op a b ≡ true → shapeOf a .key ≡ 1 → shapeOf b .key ≡ 1 → Right (counterOf up extras)
+  unfolding counterOf
+  count-right up a b e p q = (num-below extras 16 4 bytes, named a b e p q)
+
+  plain-command : Right (plainCommand op extras)
+  unfolding plainCommand shapeOf lookUp among commands bare unbuilt
+  plain-command =
+      by-cond Right (either op 0x00 0x09) _ _ (λ t. (tt, tt)) (λ _.
+      by-cond Right (either op 0x0c 0x0d) _ _ (λ t. (tt, tt)) (λ _.
+      by-cond Right (either op 0x01 0x11) _ _ (λ t. plain-right Set 0x01 0x11 t refl refl (λ e. no e)) (λ _.
+      by-cond Right (either op 0x02 0x12) _ _ (λ t. plain-right Add 0x02 0x12 t refl refl (λ e. no e)) (λ _.
+      by-cond Right (either op 0x03 0x13) _ _ (λ t. plain-right Replace 0x03 0x13 t refl refl (λ e. no e)) (λ _.
+      by-cond Right (either op 0x04 0x14) _ _ (λ t. plain-right Delete 0x04 0x14 t refl refl (λ e. (refl, refl))) (λ _.
+      by-cond Right (either op 0x05 0x15) _ _ (λ t. count-right true 0x05 0x15 t refl refl) (λ _.
+      by-cond Right (either op 0x06 0x16) _ _ (λ t. count-right false 0x06 0x16 t refl refl) (λ _.
+      by-cond Right (eqb op 0x0b) _ _ (λ t. (tt, tt)) (λ _. (tt, tt))))))))))
+
+  pub command-right : Formed (requestOf s h .command) × Named (h .keylen) (requestOf s h .command)
+  unfolding requestOf commandOf shapeOf lookUp among commands bare unbuilt
+  command-right =
+      by-cond Right (either op 0xa2 0xa3) _ _ (λ t. meta-right Set 1 0xa2 0xa3 t refl refl refl refl refl (λ e. no e)) (λ _.
+      by-cond Right (either op 0xa4 0xa5) _ _ (λ t. meta-right Add 1 0xa4 0xa5 t refl refl refl refl refl (λ e. no e)) (λ _.
+      by-cond Right (either op 0xa8 0xa9) _ _ (λ t. meta-right Delete 2 0xa8 0xa9 t refl refl refl refl refl (λ e. refl)) (λ _.
+      plain-command)))

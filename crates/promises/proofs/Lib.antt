@@ -1,3 +1,6 @@
 pub mod Formed
 pub mod MergingCall
 pub mod Demand3
+pub mod Keeps
+pub mod Step
+pub mod Sound

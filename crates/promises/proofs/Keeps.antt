@@ -1,0 +1,89 @@
+-- What a decision stores, and for which key: nothing stored keeps the head, and only a command with a key stores.
+use native.Mathlib.Omega.{arith}
+use Prim.Native.Nat.{ℕ, _+_, _^_, _≤_, _<_}
+use mathlib.Core.Path.{_≡_, refl, sym}
+use mathlib.Core.Bool.{Bool, not}
+use mathlib.Core.List.{List, [], _∷_}
+use mathlib.Core.Option.{Option, none, some}
+use lib.ListN.{length}
+use lib.Dec.{eqb, ltb}
+use borrow.Author.Tests.{ltb-false}
+use Rattle.octets.specs.Compare.{same}
+use Rattle.octets.proofs.Choices.{cases, cond-elim}
+use Rattle.digits.specs.declared.Number.{Number}
+use Rattle.digits.specs.Decimal.{numberOf}
+use Rattle.numbers.specs.Order.{modeOf}
+use Rattle.engine.specs.declared.Head.{Head}
+use Rattle.engine.specs.declared.Stored.{Stored}
+use Rattle.engine.specs.Documents.{Key, Doc}
+use Rattle.engine.specs.Stored.{live, numbersOf, storedOf}
+use Rattle.header.specs.declared.Header.{Header}
+use Rattle.header.specs.Header.{headerOf}
+use Rattle.request.specs.declared.Gate.the-variants.{Stop, Whole}
+use Rattle.request.specs.Reading.{gateOf}
+use Rattle.commands.specs.declared.Done.{Done}
+use Rattle.commands.specs.declared.Command.{Command}
+use Rattle.commands.specs.declared.Command.the-variants.{Get, Write, Count, Noop, Version, WithMeta}
+use Rattle.commands.specs.declared.Reply.the-variants.{Bare}
+use Rattle.commands.specs.Rules.{ruleOf, testsOf, statusOf}
+use Rattle.commands.specs.Done.{decision, doneOf, nothing}
+use Rattle.commands.specs.Decide.{Request, decide, valueOf, askOf, docFrom, bytesFrom}
+use Rattle.commands.specs.Claims.{Fits}
+use Rattle.table.specs.Row.{Row}
+use Rattle.table.specs.Plain.{findRow}
+use Rattle.table.specs.Claims.{AllGood}
+use Rattle.table.proofs.PlainLaws.{none-some}
+use Rattle.promises.proofs.Formed.{by-cond, Named}
+
+module _ (h : Head) (frame old : List ℕ) (n : ℕ) where
+  abbrev stores : Done → Option Doc
+  stores x = docFrom (x .store) (bytesFrom (x .source) frame old)
+
+  abbrev Keeps : Done → Type 0
+  Keeps x = (stores x ≡ none → x .head ≡ h) × ((d : Doc) → stores x ≡ some d → 1 ≤ n)
+
+  done-keeps : (s : Stored) (clock : ℕ) (v : Number) (c : Command) → Named n c → Keeps (doneOf h s clock v c)
+  unfolding doneOf
+  done-keeps s clock v (Get k) p = (λ e. refl, λ d e. none-some d e)
+  done-keeps s clock v (Write w) p = (λ e. none-some _ (sym e), λ d e. p)
+  done-keeps s clock v (Count k) p = by-cond Keeps (live s clock) _ _ (λ t. (λ e. none-some _ (sym e), λ d e. p)) (λ t. (λ e. none-some _ (sym e), λ d e. p))
+  done-keeps s clock v Noop p = (λ e. refl, λ d e. none-some d e)
+  done-keeps s clock v Version p = (λ e. refl, λ d e. none-some d e)
+  done-keeps s clock v (WithMeta w) p = (λ e. none-some _ (sym e), λ d e. p)
+
+pub decide-keeps : (h : Head) (row : Option Doc) (free : Bool) (clock : ℕ) (q : Request) (n : ℕ) → Named n (q .command)
+    → (decide h row free clock q .effect .store ≡ none → decide h row free clock q .effect .head ≡ h)
+    × ((d : Doc) → decide h row free clock q .effect .store ≡ some d → 1 ≤ n)
+unfolding decide decision
+decide-keeps h row free clock q n p =
+    let s = storedOf row in
+    let v = numberOf (valueOf row) in
+    by-cond (Keeps h (q .value) (valueOf row) n) (eqb (statusOf (testsOf h s free clock v (askOf q) (ruleOf (modeOf (h .mode)) s clock (q .command)))) 0)
+    (doneOf h s clock v (q .command)) (nothing h Bare (record { 0 = 0 }))
+    (λ t. done-keeps h (q .value) (valueOf row) n s clock v (q .command) p)
+    (λ t. (λ e. refl, λ d e. none-some d e))
+
+-- the numbers of a key's row fit
+pub fits-found : (mark : ℕ) (ws : List Row) (k : Key) → mark < 2 ^ 64 → AllGood mark ws → Fits (numbersOf (storedOf (findRow ws k)))
+fits-found mark [] k m g = record { flags = omega arith; expiry = omega arith; revision = omega arith; cas = omega arith }
+fits-found mark (none ∷ ws) k m g = fits-found mark ws k m g
+fits-found mark (some x ∷ ws) k m g =
+    cases (same (x .key) k)
+    (λ s. rw s (record { flags = g .0 .flags; expiry = g .0 .expiry; revision = g .0 .revision; cas = omega (arith, g .0 .cas-most) }))
+    (λ s. rw s (fits-found mark ws k m (g .1)))
+
+-- a whole frame stands in the bytes
+stopped {ℓ} : {X : Type ℓ} (n need : ℕ) (h : Header) → Stop n need ≡ Whole h → X
+stopped n need h e = absurd (let y : _≡_ {A = ℕ} 0 1 = cc in omega arith)
+
+pub whole-inside : (s : List ℕ) (h : Header) → gateOf s ≡ Whole h → 24 + h .body ≤ length s
+unfolding gateOf
+whole-inside s h e =
+    cond-elim (ltb (length s) 24) _ _ _ e (λ t z. stopped _ _ h z)
+    (λ t e. cond-elim (not (eqb (headerOf s .magic) 0x80)) _ _ _ e (λ t z. stopped _ _ h z)
+    (λ t e. cond-elim (ltb 1400 (headerOf s .body)) _ _ _ e (λ t z. stopped _ _ h z)
+    (λ t e. cond-elim (ltb (length s) (24 + headerOf s .body)) _ _ _ e (λ t z. stopped _ _ h z)
+    (λ t z.
+    let l = ltb-false (length s) (24 + headerOf s .body) t in
+    let y : headerOf s ≡ h = cc in
+    rw y at l))))
