@@ -1,6 +1,6 @@
 pub mod Formed
-pub mod MergingCall
-pub mod Demand3
-pub mod Keeps
+pub mod Kept
 pub mod Step
 pub mod Sound
+pub mod MergingCall
+pub mod Demand3

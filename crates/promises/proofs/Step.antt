@@ -35,7 +35,7 @@ use Rattle.serving.specs.Change.{storedAt}
 use Rattle.serving.specs.Serve.{goesOn, decisionOn, answerOn, frameTable}
 use Rattle.promises.specs.Step.{stepTable, Steps, StepGood}
 use Rattle.promises.proofs.Formed.{form, command-right}
-use Rattle.promises.proofs.Keeps.{decide-keeps, fits-found, whole-inside}
+use Rattle.promises.proofs.Kept.{decide-keeps, fits-found, whole-inside}
 
 stored-none : (b : List ℕ) (f : Found) (key : Key) (mark : ℕ) → storedAt b f key none mark ≡ b
 stored-none b (At i) key mark = refl
