@@ -1,3 +1,4 @@
 pub mod Formed
 pub mod Keeps
 pub mod Dead
+pub mod Judged
