@@ -2,8 +2,6 @@
 use Prim.Native.Nat.{ℕ}
 use mathlib.Core.Path.{_≡_, refl}
 use mathlib.Core.Bool.{Bool, true, false}
-use mathlib.Core.List.{List}
-use mathlib.Core.Option.{Option, none, some}
 use Rattle.digits.specs.declared.Number.{Number}
 use Rattle.digits.specs.Decimal.{numberOf}
 use Rattle.numbers.specs.declared.Numbers.{Numbers}
@@ -12,16 +10,15 @@ use Rattle.numbers.specs.Expiry.{expired}
 use Rattle.numbers.specs.Order.{modeOf}
 use Rattle.engine.specs.declared.Head.{Head}
 use Rattle.engine.specs.declared.Stored.{Stored}
-use Rattle.engine.specs.declared.Stored.the-variants.{Nothing, Used}
-use Rattle.engine.specs.Documents.{Doc}
+use Rattle.engine.specs.declared.Stored.the-variants.{Used}
 use Rattle.engine.specs.Stored.{live, accepted}
 use Rattle.commands.specs.declared.Ask.{Ask}
 use Rattle.commands.specs.declared.Rule.{Rule}
 use Rattle.commands.specs.declared.Command.{Command}
 use Rattle.commands.specs.declared.Command.the-variants.{Get, Write, Count, Noop, Version, WithMeta}
-use Rattle.commands.specs.Rules.{ruleOf, testsOf, statusOf}
+use Rattle.commands.specs.Rules.{ruleOf, testsOf}
 use Rattle.commands.specs.Done.{decision, doneOf}
-use Rattle.commands.specs.Decide.{Request, decide, askOf}
+use Rattle.commands.specs.Decide.{decide, askOf}
 use Rattle.promises.specs.Expiry.{ExpiredIsDead}
 
 -- a row with these numbers, a tombstone or not

@@ -1,9 +1,8 @@
 -- A call that is refused, or answers with another status than 0, changes no byte of the table.
 use Prim.Native.Nat.{ℕ}
 use mathlib.Core.Path.{_≡_, refl, sym, _∙_}
-use mathlib.Core.Bool.{Bool, true, false, cond}
 use mathlib.Core.List.{List}
-use mathlib.Core.Option.{Option, none, some}
+use mathlib.Core.Option.{Option, none}
 use native.Mathlib.Omega.{arith}
 use lib.ListN.{length}
 use lib.Dec.{ltb}
@@ -21,7 +20,6 @@ use Rattle.table.specs.declared.Found.the-variants.{At, Nothing}
 use Rattle.table.specs.Table.{Table, tableOf}
 use Rattle.table.specs.Lookup.{placeIn}
 use Rattle.table.specs.Plain.{findRow, freeRows}
-use Rattle.serving.specs.declared.Served.{Served}
 use Rattle.serving.specs.declared.Served.the-variants.{Refused, Done}
 use Rattle.serving.specs.Change.{storedAt}
 use Rattle.serving.specs.Serve.{goesOn, decisionOn, answerOn, frameTable, answerBy, tableBy, replyBy, served, servedTable, servedReply, gateAll}
