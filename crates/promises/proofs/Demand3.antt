@@ -25,6 +25,7 @@ use Rattle.merge.specs.Merge.{All, changed, effectOn, tableOn, tableAfter, stat
 use Rattle.merge.specs.Merge as abstract
 use Rattle.merge.proofs.Demand3 as abstractly
 use Rattle.serving.specs.Serve.{served, servedTable, gateAll, decisionOn, answerOn}
+use Rattle.promises.proofs.Step.{step-good}
 use Rattle.promises.specs.Calls.{Call, servedBy, tableBy, bytesAfter, answers, statusOf}
 use Rattle.promises.specs.Step.{stepTable, StepGood}
 use Rattle.promises.specs.Merge.{Merging, modeAt, docAt, writes, Premises, Merged, Demand3}
@@ -157,5 +158,9 @@ module _ (step : StepGood) (b : List ℕ) (cs : List Call) (p : Premises b cs) w
     undamaged = rw ends (good-sound (steppedAll (tableOf b) cs) (run .good) .0);
   }
 
-pub demand-3 : StepGood → Demand3
+demand-3 : StepGood → Demand3
 demand-3 step b cs p = on-bytes step b cs p
+
+-- demand 3 of document 01
+pub merge-on-bytes : Demand3
+merge-on-bytes = demand-3 step-good

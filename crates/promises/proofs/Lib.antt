@@ -4,3 +4,6 @@ pub mod Step
 pub mod Sound
 pub mod MergingCall
 pub mod Demand3
+pub mod Keeps
+pub mod Dead
+pub mod Judged

@@ -3,3 +3,4 @@ pub mod Step
 pub mod Merge
 pub mod Table
 pub mod Expiry
+pub mod Judged

@@ -1,0 +1,68 @@
+-- An expired document is answered as a tombstone with the same numbers: every test and every number that is stored sees of the row only its numbers and whether it is live.
+use Prim.Native.Nat.{ℕ}
+use mathlib.Core.Path.{_≡_, refl}
+use mathlib.Core.Bool.{Bool, true, false}
+use Rattle.digits.specs.declared.Number.{Number}
+use Rattle.digits.specs.Decimal.{numberOf}
+use Rattle.numbers.specs.declared.Numbers.{Numbers}
+use Rattle.numbers.specs.declared.Mode.{Mode}
+use Rattle.numbers.specs.Expiry.{expired}
+use Rattle.numbers.specs.Order.{modeOf}
+use Rattle.engine.specs.declared.Head.{Head}
+use Rattle.engine.specs.declared.Stored.{Stored}
+use Rattle.engine.specs.declared.Stored.the-variants.{Used}
+use Rattle.engine.specs.Stored.{live, accepted}
+use Rattle.commands.specs.declared.Ask.{Ask}
+use Rattle.commands.specs.declared.Rule.{Rule}
+use Rattle.commands.specs.declared.Command.{Command}
+use Rattle.commands.specs.declared.Command.the-variants.{Get, Write, Count, Noop, Version, WithMeta}
+use Rattle.commands.specs.Rules.{ruleOf, testsOf}
+use Rattle.commands.specs.Done.{decision, doneOf}
+use Rattle.commands.specs.Decide.{decide, askOf}
+use Rattle.promises.specs.Expiry.{ExpiredIsDead}
+
+-- a row with these numbers, a tombstone or not
+abbrev row : Bool → Numbers → Stored
+row tomb r = Used (record { tomb = tomb; numbers = r })
+
+module _ (r : Numbers) (clock : ℕ) (past : expired (r .expiry) clock ≡ true) where
+  dead : (tomb : Bool) → live (row tomb r) clock ≡ false
+  unfolding live
+  dead true = refl
+  dead false = rw past
+
+  same-rule : (m : Mode) (c : Command) → ruleOf m (row false r) clock c ≡ ruleOf m (row true r) clock c
+  unfolding ruleOf accepted
+  same-rule m (Get k) = refl
+  same-rule m (Write p) = refl
+  same-rule m (Count k) = refl
+  same-rule m Noop = refl
+  same-rule m Version = refl
+  same-rule m (WithMeta w) = refl
+
+  same-tests : (h : Head) (free : Bool) (n : Number) (q : Ask) (t : Rule)
+      → testsOf h (row false r) free clock n q t ≡ testsOf h (row true r) free clock n q t
+  unfolding testsOf
+  same-tests h free n q t = rw (dead false, dead true)
+
+  same-done : (h : Head) (n : Number) (c : Command) → doneOf h (row false r) clock n c ≡ doneOf h (row true r) clock n c
+  unfolding doneOf
+  same-done h n (Get k) = refl
+  same-done h n (Write p) = refl
+  same-done h n (Count k) = rw (dead false, dead true)
+  same-done h n Noop = refl
+  same-done h n Version = refl
+  same-done h n (WithMeta w) = refl
+
+  same-decision : (h : Head) (free : Bool) (n : Number) (q : Ask) → decision h (row false r) free clock n q ≡ decision h (row true r) free clock n q
+  unfolding decision
+  same-decision h free n q =
+      rw (
+        same-rule (modeOf (h .mode)) (q .command),
+        same-tests h free n q (ruleOf (modeOf (h .mode)) (row true r) clock (q .command)),
+        same-done h n (q .command),
+      )
+
+pub expired-is-dead : ExpiredIsDead
+unfolding decide
+expired-is-dead h d free clock q held past = rw (held, same-decision (d .numbers) clock past h free (numberOf (d .value)) (askOf q))
