@@ -99,5 +99,4 @@ unfolding decide decision ruleOf testsOf statusOf firstFailure doneOf
 decide-merging h row anyFree w c active p room =
     rw (p .with-meta)
     (simp (p .mode, same-beq (isLast (h .mode)), le-ltb 1024 (length (c .ask .value)) (p .short), p .vbucket, eq-eqb (h .vbucket) (h .vbucket) refl, p .headerCas, active, p .force, p .regenerate, p .skip, not-add (w .kind) (p .kind), room)
-      (cases (accepted (h .mode) (storedOf row) (w .numbers)) (λ t. rw t (rw (source-old (w .kind)))) (λ t. rw t)))
-
+    (cases (accepted (h .mode) (storedOf row) (w .numbers)) (λ t. rw t (rw (source-old (w .kind)))) (λ t. rw t)))

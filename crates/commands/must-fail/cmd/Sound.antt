@@ -117,19 +117,25 @@ pub done-sound : (h : Head) (s : Stored) (clock : ℕ) (n : Number) (c : Command
     → Formed c → Fits (numbersOf s) → length v ≤ 1024 → StoresSound (doneOf h s clock n c) v old
 unfolding doneOf
 done-sound h s clock n (Get k) v old p r l = of-nothing (doneOf h s clock n (Get k)) v old refl
-done-sound h s clock n (Write p) v old (f, e, b) r l = of-kept h (record { tomb = isDelete (p .kind); numbers = plainNumbers h s (p .flags) (absolute (p .expiry) clock) }) (sourceOf (p .kind)) Bare v old (record
-    { fits = plain-fits h s (p .flags) (absolute (p .expiry) clock) f (absolute-fits (p .expiry) clock e); one = omega arith; marked = omega arith
-    ; short = kind-short (p .kind) v old l
-    ; tomb = λ t. (kind-empty (p .kind) v old t, b t .0, absolute-zero (p .expiry) clock (b t .1)) })
+done-sound h s clock n (Write p) v old (f, e, b) r l = of-kept h (record { tomb = isDelete (p .kind); numbers = plainNumbers h s (p .flags) (absolute (p .expiry) clock) }) (sourceOf (p .kind)) Bare v old (record {
+  fits = plain-fits h s (p .flags) (absolute (p .expiry) clock) f (absolute-fits (p .expiry) clock e);
+  one = omega arith;
+  marked = omega arith;
+  short = kind-short (p .kind) v old l;
+  tomb = λ t. (kind-empty (p .kind) v old t, b t .0, absolute-zero (p .expiry) clock (b t .1));
+})
 done-sound h s clock n (Count k) v old p r l = cases (live s clock)
     (λ t. rw t (count-sound h s (numbersOf s .flags) (numbersOf s .expiry) (sum n k) v old (r .flags) (r .expiry)))
     (λ t. rw t (count-sound h s 0 (absolute (k .expiry) clock) (k .initial) v old (omega arith) (absolute-fits (k .expiry) clock p)))
 done-sound h s clock n Noop v old p r l = of-nothing (doneOf h s clock n Noop) v old refl
 done-sound h s clock n Version v old p r l = of-nothing (doneOf h s clock n Version) v old refl
-done-sound h s clock n (WithMeta w) v old (f, o, b) r l = of-kept h (record { tomb = isDelete (w .kind); numbers = metaNumbers h w }) (sourceOf (w .kind)) Bare v old (record
-    { fits = meta-fits h w f o .0; one = meta-fits h w f o .1; marked = omega arith
-    ; short = kind-short (w .kind) v old l
-    ; tomb = λ t. (kind-empty (w .kind) v old t, meta-bare h w .0 ∙ b t .0, meta-bare h w .1 ∙ b t .1) })
+done-sound h s clock n (WithMeta w) v old (f, o, b) r l = of-kept h (record { tomb = isDelete (w .kind); numbers = metaNumbers h w }) (sourceOf (w .kind)) Bare v old (record {
+  fits = meta-fits h w f o .0;
+  one = meta-fits h w f o .1;
+  marked = omega arith;
+  short = kind-short (w .kind) v old l;
+  tomb = λ t. (kind-empty (w .kind) v old t, meta-bare h w .0 ∙ b t .0, meta-bare h w .1 ∙ b t .1);
+})
 
 -- a request whose form is right stores a sound row only
 pub decide-sound : (h : Head) (row : Option Doc) (anyFree : Bool) (clock : ℕ) (a : Ask) (d : Doc) → Formed (a .command) → Fits (numbersOf (storedOf row))
