@@ -1,7 +1,8 @@
 -- An expired document is answered as a tombstone with the same numbers: every test and every number that is stored sees of the row only its numbers and whether it is live.
 use Prim.Native.Nat.{ℕ}
-use mathlib.Core.Path.{_≡_, refl}
+use mathlib.Core.Path.{_≡_, refl, sym, subst}
 use mathlib.Core.Bool.{Bool, true, false}
+use lib.Dec.{eqb, ltb}
 use Rattle.digits.specs.declared.Number.{Number}
 use Rattle.digits.specs.Decimal.{numberOf}
 use Rattle.numbers.specs.declared.Numbers.{Numbers}
@@ -10,16 +11,21 @@ use Rattle.numbers.specs.Expiry.{expired}
 use Rattle.numbers.specs.Order.{modeOf}
 use Rattle.engine.specs.declared.Head.{Head}
 use Rattle.engine.specs.declared.Stored.{Stored}
-use Rattle.engine.specs.declared.Stored.the-variants.{Used}
-use Rattle.engine.specs.Stored.{live, accepted}
+use Rattle.engine.specs.declared.Stored.the-variants.{Used, Nothing}
+use Rattle.engine.specs.Stored.{storedOf, live, accepted}
 use Rattle.commands.specs.declared.Ask.{Ask}
+use Rattle.commands.specs.declared.Done.{Done}
 use Rattle.commands.specs.declared.Rule.{Rule}
 use Rattle.commands.specs.declared.Command.{Command}
 use Rattle.commands.specs.declared.Command.the-variants.{Get, Write, Count, Noop, Version, WithMeta}
-use Rattle.commands.specs.Rules.{ruleOf, testsOf}
+use Rattle.commands.specs.Rules.{ruleOf, testsOf, statusOf}
 use Rattle.commands.specs.Done.{decision, doneOf}
-use Rattle.commands.specs.Decide.{decide, askOf}
-use Rattle.promises.specs.Expiry.{ExpiredIsDead}
+use Rattle.commands.specs.Decide.{decide, askOf, valueOf}
+use Rattle.asks.specs.Asks.{requestOf}
+use Rattle.table.specs.Plain.{freeRows}
+use Rattle.serving.specs.Serve.{decisionOn, answerOn}
+use Rattle.promises.proofs.Formed.{by-cond}
+use Rattle.promises.specs.Expiry.{ExpiredIsDead, ExpiredServed, GetKeeps}
 
 -- a row with these numbers, a tombstone or not
 abbrev row : Bool → Numbers → Stored
@@ -66,3 +72,30 @@ module _ (r : Numbers) (clock : ℕ) (past : expired (r .expiry) clock ≡ true)
 pub expired-is-dead : ExpiredIsDead
 unfolding decide
 expired-is-dead h d free clock q held past = rw (held, same-decision (d .numbers) clock past h free (numberOf (d .value)) (askOf q))
+
+pub expired-served : ExpiredServed
+unfolding decisionOn answerOn
+expired-served t u clock s h d heads frees found buried-there held past =
+    let same = same-decision (d .numbers) clock past (u .head) (ltb 0 (freeRows (u .rows))) (numberOf (d .value)) (askOf (requestOf s h)) in
+    (rw (heads, frees, found, buried-there, held, same), rw (heads, frees, found, buried-there, held, same))
+
+-- of a Get, found or not, nothing is stored
+module _ (h : Head) where
+  abbrev Kept : Done → Type 0
+  Kept x = (x .store ≡ Nothing) × (x .head ≡ h)
+
+  got : (s : Stored) (clock : ℕ) (n : Number) (keyed : Bool) → Kept (doneOf h s clock n (Get keyed))
+  unfolding doneOf
+  got s clock n keyed = (refl, refl)
+
+  get-kept : (s : Stored) (free : Bool) (clock : ℕ) (n : Number) (q : Ask) (keyed : Bool) → q .command ≡ Get keyed → Kept (decision h s free clock n q .done)
+  unfolding decision
+  get-kept s free clock n q keyed e =
+      by-cond Kept (eqb (statusOf (testsOf h s free clock n q (ruleOf (modeOf (h .mode)) s clock (q .command)))) 0) _ _
+      (λ t. subst (λ (c : Command). Kept (doneOf h s clock n c)) (sym e) (got s clock n keyed)) (λ t. (refl, refl))
+
+pub get-keeps : GetKeeps
+unfolding decide
+get-keeps h row free clock q keyed e =
+    let k = get-kept h (storedOf row) free clock (numberOf (valueOf row)) (askOf q) keyed e in
+    (rw (k .0) refl, k .1)
