@@ -41,3 +41,10 @@ pub fn counted(t: Tally, r: Served) -> Tally
         Served::Refused(_, _) => t,
     }
 }
+
+// Counts one answer.
+pub fn count(t: &mut Tally, r: Served)
+    ensures { λ _. ⌜ now (t .exit) ≡ countedOf (now (t .entry)) r ⌝ }
+{
+    *t = counted(*t, r);
+}
