@@ -7,3 +7,4 @@ pub mod Demand3
 pub mod Keeps
 pub mod Dead
 pub mod Judged
+pub mod Worked

@@ -37,10 +37,10 @@ pub record Example : Type 0 where
   pub wanted : Outcome
 
 -- ---- frames and replies
-abbrev at : ℕ → List ℕ → Call
+abbrev pub at : ℕ → List ℕ → Call
 at clock s = record { clock = clock; received = s; reply = replicate 1302 0 }
 
-abbrev mykey : Key
+abbrev pub mykey : Key
 mykey = 0x6d ∷ 0x79 ∷ 0x6b ∷ 0x65 ∷ 0x79 ∷ []
 
 abbrev myvalue : List ℕ
@@ -57,14 +57,14 @@ m1 flags =
 abbrev m1Reply : List ℕ
 m1Reply = 0x81 ∷ 0xa2 ∷ 0 ∷ 0 ∷ 0 ∷ 0 ∷ 0 ∷ 0 ∷ 0 ∷ 0 ∷ 0 ∷ 0 ∷ 0 ∷ 0 ∷ 0 ∷ 0 ∷ 0 ∷ 0 ∷ 0 ∷ 0 ∷ 0 ∷ 0 ∷ 0 ∷ 0x1e ∷ []
 
-abbrev hello : Key
+abbrev pub hello : Key
 hello = 0x48 ∷ 0x65 ∷ 0x6c ∷ 0x6c ∷ 0x6f ∷ []
 
 abbrev world : List ℕ
 world = 0x57 ∷ 0x6f ∷ 0x72 ∷ 0x6c ∷ 0x64 ∷ []
 
--- a request on `Hello` with this opcode, so many bytes of extras, and these bytes of extras, key and value; vbucket 0
-abbrev ask : ℕ → ℕ → List ℕ → List ℕ
+-- a request with this opcode, so many bytes of extras, and these bytes of extras, key and value; a key of 5 bytes, vbucket 0
+abbrev pub ask : ℕ → ℕ → List ℕ → List ℕ
 ask op extras body = 0x80 ∷ op ∷ 0 ∷ 5 ∷ extras ∷ 0 ∷ 0 ∷ 0 ∷ 0 ∷ 0 ∷ 0 ∷ length body ∷ 0 ∷ 0 ∷ 0 ∷ 0 ∷ 0 ∷ 0 ∷ 0 ∷ 0 ∷ 0 ∷ 0 ∷ 0 ∷ 0 ∷ body
 
 -- document 000's Add of `Hello` and `World`: flags 0xdeadbeef, expiry 0x0e10

@@ -4,3 +4,4 @@ pub mod Merge
 pub mod Table
 pub mod Expiry
 pub mod Judged
+pub mod Worked

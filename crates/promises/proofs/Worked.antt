@@ -1,0 +1,200 @@
+-- The worked list meets the premises and gives what specs/Worked.antt says.
+use Prim.Native.Nat.{ℕ}
+use mathlib.Core.Path.{_≡_, refl, sym, ap, _∙_}
+use mathlib.Core.Logic.{⊎-elim}
+use mathlib.Core.Bool.{Bool, true, cond, _&&_, _||_}
+use mathlib.Core.List.{List, [], _∷_, _++_, map}
+use mathlib.Core.Option.{Option, none, some}
+use lib.ListN.{length}
+use lib.Dec.{eqb, leb, ltb}
+use native.Mathlib.Omega.{arith}
+use borrow.Author.Tests.{leb-true, ltb-true}
+use Rattle.octets.specs.Parts.{Bytes, written}
+use Rattle.octets.specs.BigEndian.{be, bytesOf}
+use Rattle.octets.specs.Compare.{zeros, same}
+use Rattle.octets.proofs.Choices.{cases, both}
+use Rattle.octets.proofs.Lists.{bytes-cons}
+use Rattle.numbers.specs.declared.Mode.{Mode}
+use Rattle.numbers.specs.declared.Numbers.{Numbers}
+use Rattle.numbers.specs.Order.{greater}
+use Rattle.engine.specs.Documents.{Key, Doc, Entry}
+use Rattle.engine.specs.Engine.{isSome}
+use Rattle.engine.specs.Stored.{accepted}
+use Rattle.shape.specs.Shapes.{shapeOf}
+use Rattle.header.specs.Header.{headerOf}
+use Rattle.rules.specs.WithMeta.{withMeta}
+use Rattle.rules.specs.Section.{sectionOk}
+use Rattle.rules.specs.Rules.{status}
+use Rattle.request.specs.declared.Gate.{Gate}
+use Rattle.request.specs.declared.Gate.the-variants.{Whole}
+use Rattle.request.specs.Reading.{gateOf, extrasSpan, keySpan, frameStatus, bytesIn}
+use Rattle.commands.specs.Rules.{ruleOf, testsOf, statusOf, firstFailure}
+use Rattle.commands.specs.Done.{decision, doneOf}
+use Rattle.asks.specs.Asks.{either, requestOf}
+use Rattle.table.specs.Row.{Row, slotOf, rowOf, rowBytes}
+use Rattle.table.specs.Table.{tableOf, tableBytes}
+use Rattle.table.specs.Plain.{findRow, freeRows}
+use Rattle.table.specs.Damage.{sizeOk, headOk, usedOk, rowSound, sound}
+use Rattle.table.specs.Store.{stored}
+use Rattle.table.proofs.PlainLaws.{none-some}
+use Rattle.serving.specs.Serve.{gateAll, decisionOn, answerOn, frameTable, served, servedTable}
+use Rattle.merge.specs.Writes.{_∈_, held, for, newKeys}
+use Rattle.merge.specs.Merge.{All}
+use Rattle.promises.specs.Calls.{Call}
+use Rattle.promises.specs.Merge.{Merging, Premises, candidates, docAt, writes, optionsFor, modeAt}
+use Rattle.promises.specs.Worked.{table, calls, Worked}
+use Rattle.promises.proofs.Demand3.{merge-on-bytes}
+
+-- ---- what is computed of a call, and what a merging one says
+abbrev below : List ℕ → Bool
+below [] = true
+below (x ∷ xs) = ltb x 256 && below xs
+
+below-bytes : (xs : List ℕ) → below xs ≡ true → Bytes xs
+below-bytes [] e = λ k. omega arith
+below-bytes (x ∷ xs) e = let p = both (ltb x 256) (below xs) e in bytes-cons x xs (ltb-true x 256 (p .0)) (below-bytes xs (p .1))
+
+record Facts : Type 0 where
+  bytes : Bool
+  room : Bool
+  gate : Gate
+  opcode : Bool
+  form : ℕ
+  options : ℕ
+  vbucket : ℕ
+  cas : ℕ
+
+abbrev facts : Call → Facts
+facts c =
+    let h = headerOf (c .received) in
+    record {
+      bytes = below (c .received);
+      room = leb 1302 (length (c .reply));
+      gate = gateOf (c .received);
+      opcode = either (h .opcode) 0xa2 0xa3 || either (h .opcode) 0xa8 0xa9;
+      form = frameStatus (c .received) h;
+      options = withMeta (bytesIn (c .received) (extrasSpan h)) .options;
+      vbucket = h .vbucket;
+      cas = h .cas .0;
+    }
+
+abbrev right : Mode → ℕ → Call → Facts
+right m v c = record { bytes = true; room = true; gate = Whole (headerOf (c .received)); opcode = true; form = 0; options = optionsFor m; vbucket = v; cas = 0 }
+
+right-merging : (m : Mode) (v : ℕ) (c : Call) → facts c ≡ right m v c → Merging m v c
+right-merging m v c e = record {
+  bytes = below-bytes (c .received) (ap (λ (x : Facts). x .bytes) e);
+  room = leb-true 1302 (length (c .reply)) (ap (λ (x : Facts). x .room) e);
+  whole = ap (λ (x : Facts). x .gate) e;
+  opcode = ap (λ (x : Facts). x .opcode) e;
+  form = ap (λ (x : Facts). x .form) e;
+  options = ap (λ (x : Facts). x .options) e;
+  here = ap (λ (x : Facts). x .vbucket) e;
+  header-cas = ap (λ (x : Facts). x .cas) e;
+}
+
+all-merging : (m : Mode) (v : ℕ) (cs : List Call) → map facts cs ≡ map (right m v) cs → All (Merging m v) cs
+all-merging m v [] e = tt
+all-merging m v (c ∷ cs) e =
+    let p : facts c ≡ right m v c = cc in
+    let q : map facts cs ≡ map (right m v) cs = cc in
+    (right-merging m v c p, all-merging m v cs q)
+
+-- ---- what holds of every row and of every write holds of every candidate
+module _ (P : Doc → Type 0) where
+  abbrev Holds : Row → Type 0
+  Holds none = Unit {0}
+  Holds (some e) = P (e .doc)
+
+  found-all : (rows : List Row) (k : Key) (d : Doc) → All Holds rows → findRow rows k ≡ some d → P d
+  found-all [] k d p e = none-some d e
+  found-all (none ∷ rows) k d p e = found-all rows k d (p .1) e
+  found-all (some x ∷ rows) k d p e =
+      cases (same (x .key) k)
+      (λ s. let e′ = rw s at e in let z : x .doc ≡ d = cc in rw (← z) (p .0))
+      (λ s. found-all rows k d (p .1) (rw s at e))
+
+  for-all : (ws : List Entry) (k : Key) (d : Doc) → All (λ w. P (w .doc)) ws → d ∈ for k ws → P d
+  for-all [] k d p h = absurd h
+  for-all (w ∷ ws) k d p h =
+      cases (same (w .key) k)
+      (λ s. ⊎-elim (λ e. rw e (p .0)) (λ r. for-all ws k d (p .1) r) (rw s at h))
+      (λ s. for-all ws k d (p .1) (rw s at h))
+
+  candidates-all : (o : Option Doc) (ds : List Doc) (d : Doc) → ((e : Doc) → o ≡ some e → P e) → (d ∈ ds → P d) → d ∈ (held o ++ ds) → P d
+  candidates-all none ds d p q h = q h
+  candidates-all (some e) ds d p q h = ⊎-elim (λ z. rw z (p e refl)) q h
+
+-- here the numbers say the rest: CAS 41 and 61 are the tombstones
+abbrev buried : ℕ → Bool
+buried cas = eqb cas 41 || eqb cas 61
+
+abbrev told : Numbers → Doc
+told n = record { tomb = buried (n .cas .0); value = cond (buried (n .cas .0)) [] (n .cas .0 ∷ []); numbers = n }
+
+abbrev Told : Doc → Type 0
+Told d = d ≡ told (d .numbers)
+
+module _ (b : List ℕ) (cs : List Call) where
+  -- the premises, as far as they are computed
+  record Computed : Type 0 where
+    bytes : below b ≡ true
+    undamaged : sound b ≡ true
+    active : tableOf b .head .state ≡ 1
+    merging : map facts cs ≡ map (right (modeAt b) (tableOf b .head .vbucket)) cs
+    room : leb (newKeys (λ k. isSome (docAt b k)) (writes cs)) (freeRows (tableOf b .rows)) ≡ true
+    rows : All (Holds Told) (tableOf b .rows)
+    sent : All (λ w. Told (w .doc)) (writes cs)
+
+  module _ (c : Computed) where
+    all-told : (k : Key) (d : Doc) → d ∈ candidates b cs k → Told d
+    all-told k d h =
+        candidates-all Told (docAt b k) (for k (writes cs)) d
+        (λ e s. found-all Told (tableOf b .rows) k e (c .rows) s)
+        (λ r. for-all Told (writes cs) k d (c .sent) r)
+        h
+
+    premises : Premises b cs
+    premises = record {
+      bytes = below-bytes b (c .bytes);
+      undamaged = c .undamaged;
+      active = c .active;
+      merging = all-merging (modeAt b) (tableOf b .head .vbucket) cs (c .merging);
+      room = leb-true (newKeys (λ k. isSome (docAt b k)) (writes cs)) (freeRows (tableOf b .rows)) (c .room);
+      unique = λ k x y p q e. all-told k x p ∙ ap told e ∙ sym (all-told k y q);
+    }
+
+-- ---- computed from bytes to bytes
+worked-computed : Computed (table 1) (calls 1) × Computed (table 2) (calls 2)
+unfolding be bytesOf zeros same shapeOf headerOf withMeta sectionOk status gateOf keySpan frameStatus requestOf slotOf rowOf rowBytes tableOf tableBytes sizeOk headOk usedOk rowSound sound
+worked-computed = (
+  record { bytes = refl; undamaged = refl; active = refl; merging = refl; room = refl; rows = search; sent = search },
+  record { bytes = refl; undamaged = refl; active = refl; merging = refl; room = refl; rows = search; sent = search },
+)
+
+pub by-revision-premises : Premises (table 1) (calls 1)
+by-revision-premises = premises (table 1) (calls 1) (worked-computed .0)
+
+pub last-write-premises : Premises (table 2) (calls 2)
+last-write-premises = premises (table 2) (calls 2) (worked-computed .1)
+
+pub worked : Worked
+unfolding written be bytesOf zeros same greater accepted shapeOf headerOf withMeta sectionOk status gateOf keySpan frameStatus ruleOf testsOf statusOf firstFailure decision doneOf requestOf slotOf rowOf rowBytes tableOf tableBytes sizeOk headOk usedOk rowSound sound stored gateAll decisionOn answerOn frameTable served servedTable
+worked = record {
+  by-revision = record {
+    premises = by-revision-premises;
+    merged = merge-on-bytes (table 1) (calls 1) by-revision-premises;
+    statuses = refl;
+    after = refl;
+    hello-ends = refl;
+    mykey-ends = refl;
+  };
+  last-write = record {
+    premises = last-write-premises;
+    merged = merge-on-bytes (table 2) (calls 2) last-write-premises;
+    statuses = refl;
+    after = refl;
+    hello-ends = refl;
+    mykey-ends = refl;
+  };
+}
