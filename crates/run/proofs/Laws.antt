@@ -35,7 +35,7 @@ whole-inside s h e =
     let y : headerOf s ≡ h = cc in
     rw y at l))))
 
-gate-inside : (b s : List ℕ) (room : ℕ) (h : Header) → gateAll b room s ≡ Whole h → 24 + h .body ≤ length s
+pub gate-inside : (b s : List ℕ) (room : ℕ) (h : Header) → gateAll b room s ≡ Whole h → 24 + h .body ≤ length s
 unfolding gateAll
 gate-inside b s room h e =
     cond-elim (not (sound b)) _ _ _ e (λ t z. stopped _ _ h z)

@@ -1,8 +1,8 @@
 use Rattle.run.proofs.Laws.{used-fits, moved-eq}
 use mathlib.Core.Path.{ap}
 use native.Mathlib.Omega.{arith}
-use lib.ListN.{length, drop, length-drop}
-use Prim.Native.Nat.{ℕ, _+_, _-_, _≤_}
+use lib.ListN.{length, length-drop}
+use Prim.Native.Nat.{_≤_}
 use borrow.Author.Needs.{needs}
 use Rattle.run.proofs.Cursor.serve.Statement.{statement}
 use Rattle.run.proofs.Cursor.serve.Tie as tie
