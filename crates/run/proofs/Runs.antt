@@ -1,0 +1,179 @@
+-- Serving a run: a call that is not refused takes a header at least and leaves its reply inside the room, so the calls come to an end.
+use native.Mathlib.Omega.{arith}
+use Prim.Native.Nat.{ℕ, zero, suc, _+_, _-_, _≤_}
+use mathlib.Core.Path.{_≡_, refl, sym, ap, _∙_}
+use mathlib.Core.Bool.{true}
+use mathlib.Core.List.{List, _++_, append-nil}
+use lib.ListN.{length, take, drop, length-append, length-drop, drop-of-length-le, take-append-drop}
+use lib.Seq.{take-all}
+use borrow.Rule.Slice.PartMut.{midOf, putMid}
+use Rattle.octets.specs.Parts.{Bytes}
+use Rattle.octets.proofs.Choices.{cases}
+use Rattle.header.specs.declared.Header.{Header}
+use Rattle.header.specs.Header.{headerBytes}
+use Rattle.header.proofs.HeaderLaws.{length-header}
+use Rattle.request.specs.declared.Gate.{Gate}
+use Rattle.request.specs.declared.Gate.the-variants.{Stop, Whole}
+use Rattle.request.specs.Reading.{frameStatus, bytesIn, keySpan}
+use Rattle.commands.specs.declared.Decision.{Decision}
+use Rattle.table.specs.Table.{tableOf, headOf}
+use Rattle.table.specs.Damage.{sound}
+use Rattle.table.specs.Lookup.{findIn}
+use Rattle.tally.specs.declared.Tally.{Tally}
+use Rattle.tally.specs.Counts.{countedOf}
+use Rattle.serving.specs.declared.Served.{Served}
+use Rattle.serving.specs.declared.Served.the-variants.{Refused, Done}
+use Rattle.serving.specs.Reply.{replyBytes, bodyOf, replyHeader}
+use Rattle.serving.specs.Serve.{gateAll, goesOn, decisionOn, frameReply, answerBy, served, servedTable, servedReply}
+use Rattle.serve.proofs.Replies.{body-most}
+use Rattle.serve.proofs.Lookups.{key-short, value-short, value-found}
+use Rattle.serve.proofs.Joint.{refused-reply, refusal-length, gate-whole}
+use Rattle.run.specs.Run.{Stand, calledOn, further, onDone, standAfter, runEnd, ranOf}
+use Rattle.run.specs.declared.Ran.{Ran}
+use Rattle.run.proofs.Laws.{gate-inside}
+
+-- ---- a reply is at most 1,302 bytes long
+bytes-most : (op opaque : ℕ) (d : Decision) (key old : List ℕ) → length key ≤ 250 → length old ≤ 1024 → length (replyBytes op opaque d key old) ≤ 1302
+unfolding replyBytes
+bytes-most op opaque d key old h k =
+    cases (d .silent)
+    (λ t. rw t (omega arith))
+    (λ f. rw f (omega (arith, length-append (headerBytes (replyHeader op opaque d key old)) (bodyOf (d .done .reply) key old), length-header (replyHeader op opaque d key old), body-most (d .done .reply) key old h k)))
+
+reply-most : (b : List ℕ) (clock : ℕ) (s : List ℕ) (h : Header) → Bytes b → sound b ≡ true → length (frameReply b clock s h) ≤ 1302
+unfolding frameReply
+reply-most b clock s h y k =
+    cases (goesOn (frameStatus s h))
+    (λ t. bytes-most (h .opcode) (h .opaque) (decisionOn (tableOf b) clock s h) (bytesIn s (keySpan h)) _ (key-short s h t) (omega (arith, ap length (value-found b (bytesIn s (keySpan h))), value-short b y k (findIn (bytesIn s (keySpan h)) 0 (tableOf b .rows)))))
+    (λ f. omega (arith, ap length (refused-reply b s clock h f), refusal-length (h .opcode) (h .opaque) (headOf b) (frameStatus s h)))
+
+-- ---- what a call that was not refused did
+pub record Told (b s : List ℕ) (room used len : ℕ) : Type 0 where
+  pub least : 24 ≤ used
+  pub inside : used ≤ length s
+  pub fits : Bytes b → len ≤ room
+
+done-by : (b s : List ℕ) (clock room st used len : ℕ) (g : Gate) → gateAll b room s ≡ g → answerBy b clock s g ≡ Done st used len → Told b s room used len
+done-by b s clock room st used len (Stop k need) q e = absurd (let y : _≡_ {A = ℕ} 0 1 = cc in omega arith)
+done-by b s clock room st used len (Whole h) q e =
+    let u : 24 + h .body ≡ used = cc in
+    let l : length (frameReply b clock s h) ≡ len = cc in
+    let w = gate-whole b s room h q in
+    record {
+      least = omega arith;
+      inside = omega (arith, gate-inside b s room h q);
+      fits = λ y. omega (arith, reply-most b clock s h y (w .0), w .1);
+    }
+
+done-told : (b s : List ℕ) (clock room st used len : ℕ) → served b clock s room ≡ Done st used len → Told b s room used len
+unfolding served
+done-told b s clock room st used len e = done-by b s clock room st used len (gateAll b room s) refl e
+
+-- ---- a refused call changes nothing
+kept-by : (b s out : List ℕ) (clock n need : ℕ) (g : Gate) → gateAll b (length out) s ≡ g → answerBy b clock s g ≡ Refused n need
+    → (servedTable b clock s (length out) ≡ b) × (servedReply b clock s out ≡ out)
+unfolding servedTable servedReply
+kept-by b s out clock n need (Stop k need′) q e = rw q (refl, refl)
+kept-by b s out clock n need (Whole h) q e = absurd (let y : _≡_ {A = ℕ} 0 1 = cc in omega arith)
+
+refused-keeps : (b s out : List ℕ) (clock n need : ℕ) → served b clock s (length out) ≡ Refused n need
+    → (servedTable b clock s (length out) ≡ b) × (servedReply b clock s out ≡ out)
+unfolding served
+refused-keeps b s out clock n need e = kept-by b s out clock n need (gateAll b (length out) s) refl e
+
+-- ---- the calls of a run
+by-served {ℓ} : {X : Type ℓ} (r : Served) → ((n need : ℕ) → r ≡ Refused n need → X) → ((st used len : ℕ) → r ≡ Done st used len → X) → X
+by-served (Refused n need) f g = f n need refl
+by-served (Done st used len) f g = g st used len refl
+
+module _ (clock : ℕ) (run : List ℕ) where
+  abbrev on : ℕ → Stand → Served → Stand
+  on n x r = onDone r x (λ st used len. standAfter n clock run (further clock run x st used len))
+
+  stops : (n k need : ℕ) (x : Stand) → calledOn clock run x ≡ Refused k need → standAfter n clock run x ≡ x
+  unfolding standAfter
+  stops zero k need x e = refl
+  stops (suc n) k need x e = ap (on n x) e
+
+  goes : (n st used len : ℕ) (x : Stand) → calledOn clock run x ≡ Done st used len → standAfter (suc n) clock run x ≡ standAfter n clock run (further clock run x st used len)
+  unfolding standAfter
+  goes n st used len x e = ap (on n x) e
+
+  told : (x : Stand) (st used len : ℕ) → calledOn clock run x ≡ Done st used len → Told (x .table) (drop (x .at) run) (length (x .reply) - x .filled) used len
+  told x st used len e = done-told (x .table) (drop (x .at) run) clock (length (x .reply) - x .filled) st used len e
+
+  -- no more calls than bytes are left
+  enough : (n : ℕ) (x : Stand) → length run - x .at ≤ n → standAfter (suc n) clock run x ≡ standAfter n clock run x
+  enough zero x h =
+      by-served (calledOn clock run x)
+      (λ k need e. stops 1 k need x e ∙ sym (stops 0 k need x e))
+      (λ st used len e. let t = told x st used len e in absurd (omega (arith, t .least, t .inside, length-drop (x .at) run)))
+  enough (suc n) x h =
+      by-served (calledOn clock run x)
+      (λ k need e. stops (suc (suc n)) k need x e ∙ sym (stops (suc n) k need x e))
+      (λ st used len e.
+      let t = told x st used len e in
+      goes (suc n) st used len x e ∙ (enough n (further clock run x st used len) (omega (arith, t .least, t .inside, length-drop (x .at) run)) ∙ sym (goes n st used len x e)))
+
+  run-on : (x : Stand) (st used len : ℕ) → calledOn clock run x ≡ Done st used len → runEnd clock run x ≡ runEnd clock run (further clock run x st used len)
+  unfolding runEnd
+  run-on x st used len e = sym (enough (length run) x (omega arith)) ∙ goes (length run) st used len x e
+
+  run-ends : (x : Stand) (k need : ℕ) → calledOn clock run x ≡ Refused k need → runEnd clock run x ≡ x
+  unfolding runEnd
+  run-ends x k need e = stops (length run) k need x e
+
+-- ---- one turn of the loop: the part of the reply area past the replies is lent to the call
+module _ (clock : ℕ) (run b out : List ℕ) (t : Tally) (at filled : ℕ) (f : filled ≤ length out) (s : List ℕ) (es : s ≡ drop at run) (r : Served) (b′ ys : List ℕ)
+    (q : (r ≡ served b clock s (length (midOf filled (length out - filled) out)))
+    × ((b′ ≡ servedTable b clock s (length (midOf filled (length out - filled) out))) × (ys ≡ servedReply b clock s (midOf filled (length out - filled) out)))) where
+  abbrev now : Stand
+  now = record { table = b; reply = out; tally = t; at = at; filled = filled }
+
+  room : length (drop filled out) ≡ length out - filled
+  room = length-drop filled out
+
+  mid : midOf filled (length out - filled) out ≡ drop filled out
+  mid = take-all (length out - filled) (drop filled out) (omega (arith, room))
+
+  put : putMid filled (length out - filled) out ys ≡ take filled out ++ ys
+  put = ap (λ (zs : List ℕ). take filled out ++ zs) (ap (λ (zs : List ℕ). ys ++ zs) (drop-of-length-le (drop filled out) {i = length out - filled} (omega (arith, room))) ∙ append-nil ys)
+
+  answer : r ≡ served b clock (drop at run) (length (drop filled out))
+  answer = q .0 ∙ (λ i. served b clock (es i) (length (mid i)))
+
+  left : b′ ≡ servedTable b clock (drop at run) (length (drop filled out))
+  left = q .1 .0 ∙ (λ i. servedTable b clock (es i) (length (mid i)))
+
+  reply : ys ≡ servedReply b clock (drop at run) (drop filled out)
+  reply = q .1 .1 ∙ (λ i. servedReply b clock (es i) (mid i))
+
+  called : r ≡ calledOn clock run now
+  called = answer ∙ ap (served b clock (drop at run)) room
+
+  pub turn-told : (st used len : ℕ) → r ≡ Done st used len → Told b (drop at run) (length out - filled) used len
+  turn-told st used len e = told clock run now st used len (sym called ∙ e)
+
+  pub turn-on : (st used len : ℕ) → r ≡ Done st used len → (t′ : Tally) → t′ ≡ countedOf t (Done st used len)
+      → runEnd clock run now ≡ runEnd clock run (record { table = b′; reply = putMid filled (length out - filled) out ys; tally = t′; at = at + used; filled = filled + len })
+  turn-on st used len e t′ et =
+      let y = left ∙ ap (servedTable b clock (drop at run)) room in
+      let z = put ∙ ap (λ (zs : List ℕ). take filled out ++ zs) reply in
+      run-on clock run now st used len (sym called ∙ e)
+      ∙ sym (λ i. runEnd clock run (record { table = y i; reply = z i; tally = et i; at = at + used; filled = filled + len }))
+
+  pub turn-ends : (n need : ℕ) → r ≡ Refused n need → (y : Stand) → runEnd clock run now ≡ runEnd clock run y
+      → (_≡_ {A = Ran} (record { cursor = record { at = at }; filled = filled; tally = t; stop = r }) (ranOf clock run (runEnd clock run y)))
+      × ((b′ ≡ runEnd clock run y .table) × (putMid filled (length out - filled) out ys ≡ runEnd clock run y .reply))
+  unfolding ranOf
+  turn-ends n need e y p =
+      let x : now ≡ runEnd clock run y = sym (run-ends clock run now n need (sym called ∙ e)) ∙ p in
+      let k = refused-keeps b (drop at run) (drop filled out) clock n need (sym answer ∙ e) in
+      let a : _≡_ {A = Ran} (record { cursor = record { at = at }; filled = filled; tally = t; stop = r }) (ranOf clock run now) =
+      λ i. record { cursor = record { at = at }; filled = filled; tally = t; stop = called i } in (
+        a ∙ ap (ranOf clock run) x,
+        (
+          (left ∙ k .0) ∙ ap (λ (z : Stand). z .table) x,
+          (put ∙ (ap (λ (zs : List ℕ). take filled out ++ zs) (reply ∙ k .1) ∙ take-append-drop filled out)) ∙ ap (λ (z : Stand). z .reply) x,
+        ),
+      )

@@ -1,0 +1,61 @@
+-- "A cursor over a run of received frames is handed back advanced by what was consumed. One past the end sees no bytes."
+use Prim.Native.Nat.{ℕ, zero, suc, _+_, _-_}
+use mathlib.Core.List.{List, [], _∷_, _++_}
+use lib.ListN.{length, take, drop}
+use Rattle.serving.specs.declared.Served.{Served}
+use Rattle.serving.specs.declared.Served.the-variants.{Refused, Done}
+use Rattle.serving.specs.Serve.{served, servedTable, servedReply}
+use Rattle.tally.specs.declared.Tally.{Tally}
+use Rattle.tally.specs.Counts.{countedOf}
+use Rattle.run.specs.declared.Cursor.{Cursor}
+use Rattle.run.specs.declared.Moved.{Moved}
+use Rattle.run.specs.declared.Ran.{Ran}
+
+abbrev pub usedOf : Served → ℕ
+usedOf (Refused n need) = 0
+usedOf (Done status used len) = used
+
+unfoldable pub movedBy : ℕ → Served → Moved
+movedBy at r = record { cursor = record { at = at + usedOf r }; served = r }
+
+-- ---- a run: one frame after another at the cursor, each reply after those before it, until a call is refused
+-- what stands between two calls
+pub record Stand : Type 0 where
+  pub table : List ℕ
+  pub reply : List ℕ
+  pub tally : Tally
+  pub at : ℕ
+  pub filled : ℕ
+
+abbrev pub calledOn : ℕ → List ℕ → Stand → Served
+calledOn clock run x = served (x .table) clock (drop (x .at) run) (length (x .reply) - x .filled)
+
+-- after one more call that was not refused
+abbrev pub further : ℕ → List ℕ → Stand → ℕ → ℕ → ℕ → Stand
+further clock run x status used len = record {
+  table = servedTable (x .table) clock (drop (x .at) run) (length (x .reply) - x .filled);
+  reply = take (x .filled) (x .reply) ++ servedReply (x .table) clock (drop (x .at) run) (drop (x .filled) (x .reply));
+  tally = countedOf (x .tally) (Done status used len);
+  at = x .at + used;
+  filled = x .filled + len;
+}
+
+abbrev pub onDone : Served → Stand → (ℕ → ℕ → ℕ → Stand) → Stand
+onDone (Refused n need) x go = x
+onDone (Done status used len) x go = go status used len
+
+-- after at most n calls that were not refused
+unfoldable pub standAfter : ℕ → ℕ → List ℕ → Stand → Stand
+standAfter zero clock run x = x
+standAfter (suc n) clock run x = onDone (calledOn clock run x) x (λ status used len. standAfter n clock run (further clock run x status used len))
+
+-- a frame takes 24 bytes at least, so a run has no more frames than bytes, and the call after the last of them is refused
+unfoldable pub runEnd : ℕ → List ℕ → Stand → Stand
+unfolding standAfter
+runEnd clock run x = standAfter (length run) clock run x
+
+abbrev pub begun : List ℕ → List ℕ → Tally → Stand
+begun b out t = record { table = b; reply = out; tally = t; at = 0; filled = 0 }
+
+unfoldable pub ranOf : ℕ → List ℕ → Stand → Ran
+ranOf clock run x = record { cursor = record { at = x .at }; filled = x .filled; tally = x .tally; stop = calledOn clock run x }

@@ -1,0 +1,79 @@
+// A cursor over a run of received frames, and a call that serves a whole run by it.
+ghost use mathlib.Core.Path.{_≡_};
+ghost use lib.ListN.{length, drop};
+ghost use Rattle.run.specs.Run.{usedOf, movedBy, begun, runEnd, ranOf};
+ghost use Rattle.serving.specs.Serve.{served, servedTable, servedReply};
+use serving::Served;
+use tally::Tally;
+
+pub struct Cursor {
+    pub at: usize,
+}
+
+pub struct Moved {
+    pub cursor: Cursor,
+    pub served: Served,
+}
+
+// cursor: past the last frame served; filled: the bytes of all replies; stop: why no further frame was served.
+pub struct Ran {
+    pub cursor: Cursor,
+    pub filled: usize,
+    pub tally: Tally,
+    pub stop: Served,
+}
+
+fn used_of(r: Served) -> usize
+    ensures { λ n. ⌜ n ≡ usedOf r ⌝ }
+{
+    match r {
+        Served::Done(_, used, _) => used,
+        Served::Refused(_, _) => 0,
+    }
+}
+
+impl Cursor {
+    // Serves the frame at the cursor, which is handed back past it.
+    pub fn serve(self, b: &mut [u8], clock: u32, run: &[u8], out: &mut [u8]) -> Moved
+        ensures { λ r. ⌜ (r ≡ movedBy (self .at) (served (now (b .entry)) clock (drop (self .at) (now (run .entry))) (length (now (out .entry)))))
+            × ((now (b .exit) ≡ servedTable (now (b .entry)) clock (drop (self .at) (now (run .entry))) (length (now (out .entry))))
+            × (now (out .exit) ≡ servedReply (now (b .entry)) clock (drop (self .at) (now (run .entry))) (now (out .entry)))) ⌝ }
+    {
+        let at = self.at;
+        let r = serve::serve_one(b, clock, octets::rest(run, at), out);
+        let used = used_of(r);
+        Moved {
+            cursor: Cursor { at: at + used },
+            served: r,
+        }
+    }
+}
+
+// Serves the frames of a run one after another, each reply after those before it, until a call is refused.
+pub fn serve_run(b: &mut [u8], clock: u32, run: &[u8], out: &mut [u8], t: Tally) -> Ran
+    ensures { λ r. ⌜ (r ≡ ranOf clock (now (run .entry)) (runEnd clock (now (run .entry)) (begun (now (b .entry)) (now (out .entry)) t)))
+        × ((now (b .exit) ≡ runEnd clock (now (run .entry)) (begun (now (b .entry)) (now (out .entry)) t) .table)
+        × (now (out .exit) ≡ runEnd clock (now (run .entry)) (begun (now (b .entry)) (now (out .entry)) t) .reply)) ⌝ }
+{
+    let mut at: usize = 0;
+    let mut filled: usize = 0;
+    let mut tally = t;
+    loop {
+        let r = serve::serve_one(b, clock, octets::rest(run, at), &mut out[filled..]);
+        match r {
+            Served::Done(_, used, len) => {
+                at = at + used;
+                filled = filled + len;
+                tally = tally::counted(tally, r);
+            }
+            Served::Refused(_, _) => {
+                return Ran {
+                    cursor: Cursor { at },
+                    filled,
+                    tally,
+                    stop: r,
+                };
+            }
+        }
+    }
+}
