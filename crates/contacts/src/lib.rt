@@ -1,11 +1,134 @@
-// The calls for C and Rust: numbers and byte slices, each with the contract of the call that it passes on.
+// The calls for C and Rust: numbers and byte slices in, a struct of numbers out, each with the contract of the call that
+// it passes on. include/contacts.h documents them.
 ghost use mathlib.Core.Path.{_≡_};
+ghost use lib.ListN.{length};
 ghost use Rattle.table.specs.Damage.{sound};
+ghost use Rattle.owner.specs.Owner.{sizeOf, makeOutcome, made, readOf, purgeOf, purgedBytes};
+ghost use Rattle.request.specs.Reading.{reading};
+ghost use Rattle.request.specs.Writing.{writing, frameBytes, outputOf};
+ghost use Rattle.serving.specs.Serve.{served, servedTable, servedReply};
+ghost use Rattle.tally.specs.Counts.{countedOf};
+ghost use Rattle.run.specs.Run.{begun, runEnd, ranOf};
+ghost use Rattle.contacts.specs.Answers.{servedAnswer, ranAnswer, documentAnswer, purgedAnswer, requestAnswer, fieldsFor, writtenAnswer};
+use answers::DocumentAnswer;
+use answers::PurgedAnswer;
+use answers::RanAnswer;
+use answers::RequestAnswer;
+use answers::ServedAnswer;
+use answers::WrittenAnswer;
+use numbers::Cas;
+use request::Fields;
+use tally::Tally;
+
+pub mod answers;
+
+// The bytes that a table of so many rows needs, 0 where no table has so many.
+#[no_mangle]
+pub extern "C" fn contacts_size(rows: usize) -> usize
+    ensures { λ r. ⌜ r ≡ sizeOf rows ⌝ }
+{
+    owner::size(rows)
+}
+
+// Makes a fresh table: 0, or 5 where it is refused and the memory is unchanged.
+#[no_mangle]
+pub extern "C" fn contacts_make(b: &mut [u8], rows: usize, state: u8, mode: u8, vbucket: u16) -> u8
+    ensures { λ r. ⌜ (r ≡ makeOutcome (length (now (b .entry))) rows state mode) × (now (b .exit) ≡ made (now (b .entry)) rows state mode vbucket) ⌝ }
+{
+    owner::make(b, rows, state, mode, vbucket)
+}
 
 // Whether the memory is a table that is not damaged.
 #[no_mangle]
-pub extern "C" fn contacts_sound(s: &[u8]) -> bool
-    ensures { λ r. ⌜ r ≡ sound (now (s .entry)) ⌝ }
+pub extern "C" fn contacts_sound(b: &[u8]) -> bool
+    ensures { λ r. ⌜ r ≡ sound (now (b .entry)) ⌝ }
 {
-    table::damage::is_sound(s)
+    table::damage::is_sound(b)
+}
+
+// Serves the request at the start of the received bytes, and counts it.
+#[no_mangle]
+pub extern "C" fn contacts_serve(
+    b: &mut [u8],
+    clock: u32,
+    s: &[u8],
+    out: &mut [u8],
+    t: &mut Tally,
+) -> ServedAnswer
+    ensures { λ r. ⌜ (r ≡ servedAnswer (served (now (b .entry)) clock (now (s .entry)) (length (now (out .entry)))))
+        × ((now (b .exit) ≡ servedTable (now (b .entry)) clock (now (s .entry)) (length (now (out .entry))))
+        × ((now (out .exit) ≡ servedReply (now (b .entry)) clock (now (s .entry)) (now (out .entry)))
+        × (now (t .exit) ≡ countedOf (now (t .entry)) (served (now (b .entry)) clock (now (s .entry)) (length (now (out .entry))))))) ⌝ }
+{
+    answers::served_answer(store::serve(b, clock, s, out, t))
+}
+
+// Serves the frames of a run one after another, each reply after those before it, until a call is refused.
+#[no_mangle]
+pub extern "C" fn contacts_serve_run(
+    b: &mut [u8],
+    clock: u32,
+    run: &[u8],
+    out: &mut [u8],
+    t: &mut Tally,
+) -> RanAnswer
+    ensures { λ r. ⌜ (r ≡ ranAnswer (ranOf clock (now (run .entry)) (runEnd clock (now (run .entry)) (begun (now (b .entry)) (now (out .entry)) (now (t .entry))))))
+        × ((now (b .exit) ≡ runEnd clock (now (run .entry)) (begun (now (b .entry)) (now (out .entry)) (now (t .entry))) .table)
+        × ((now (out .exit) ≡ runEnd clock (now (run .entry)) (begun (now (b .entry)) (now (out .entry)) (now (t .entry))) .reply)
+        × (now (t .exit) ≡ runEnd clock (now (run .entry)) (begun (now (b .entry)) (now (out .entry)) (now (t .entry))) .tally))) ⌝ }
+{
+    let r = run::serve_run(b, clock, run, out, *t);
+    *t = answers::ran_tally(r);
+    answers::ran_answer(r)
+}
+
+// Reads a key's live document. Nothing changes.
+#[no_mangle]
+pub extern "C" fn contacts_read(b: &[u8], clock: u32, key: &[u8]) -> DocumentAnswer
+    ensures { λ r. ⌜ r ≡ documentAnswer (readOf (now (b .entry)) clock (now (key .entry))) ⌝ }
+{
+    answers::document_answer(owner::read(b, clock, key))
+}
+
+// Frees the tombstones and expired documents with CAS at or below the bound, and says how many.
+#[no_mangle]
+pub extern "C" fn contacts_purge(b: &mut [u8], clock: u32, bound: u64) -> PurgedAnswer
+    ensures { λ r. ⌜ (r ≡ purgedAnswer (purgeOf (now (b .entry)) clock bound)) × (now (b .exit) ≡ purgedBytes (now (b .entry)) clock bound) ⌝ }
+{
+    answers::purged_answer(owner::purge(b, clock, Cas(bound)))
+}
+
+// Reads the request at the start of the received bytes.
+#[no_mangle]
+pub extern "C" fn contacts_read_request(s: &[u8]) -> RequestAnswer
+    ensures { λ r. ⌜ r ≡ requestAnswer (reading (now (s .entry))) ⌝ }
+{
+    answers::request_answer(request::read(s))
+}
+
+// Writes a request's frame at the start of out, where reading it would not refuse and it fits; else out is unchanged.
+#[no_mangle]
+pub extern "C" fn contacts_write_request(
+    opcode: u8,
+    datatype: u8,
+    vbucket: u16,
+    opaque: u32,
+    cas: u64,
+    extras: &[u8],
+    key: &[u8],
+    value: &[u8],
+    out: &mut [u8],
+) -> WrittenAnswer
+    ensures { λ r. ⌜ (r ≡ writtenAnswer (writing (fieldsFor opcode datatype vbucket opaque cas) (now (extras .entry)) (now (key .entry)) (now (value .entry)) (length (now (out .entry)))))
+        × (now (out .exit) ≡ outputOf (writing (fieldsFor opcode datatype vbucket opaque cas) (now (extras .entry)) (now (key .entry)) (now (value .entry)) (length (now (out .entry))))
+        (frameBytes (fieldsFor opcode datatype vbucket opaque cas) (now (extras .entry)) (now (key .entry)) (now (value .entry))) (now (out .entry))) ⌝ }
+{
+    let f = Fields {
+        opcode,
+        datatype,
+        vbucket,
+        opaque,
+        cas: Cas(cas),
+    };
+    answers::written_answer(request::write(f, extras, key, value, out))
 }

@@ -1,0 +1,24 @@
+use borrow.Author.Needs.{needs}
+use Rattle.contacts.proofs.answers.purged_answer.Statement.{statement}
+use Rattle.contacts.proofs.answers.purged_answer.Tie as tie
+use Rattle.contacts.proofs.answers.purged_answer.Reads as reads
+use Rattle.contacts.proofs.answers.purged_answer.Lts as lts
+
+-- src/answers.rt:170:28
+enum-told : tie.Need-enum-told
+enum-told c = search needs
+
+-- src/answers.rt:171:23
+enum-known-p : tie.Need-enum-known-p
+enum-known-p c = search needs
+
+-- src/answers.rt:166:1
+returns : tie.Need-returns
+returns c = rw (c .enum-told .given .1)
+
+-- src/answers.rt:166:1
+returns-2 : tie.Need-returns-2
+returns-2 c = rw (c .before .p .given .1)
+
+pub purged-answer-spec : {M : Type 1} → statement M
+purged-answer-spec = tie.close (tie.spec enum-told enum-known-p returns returns-2)
