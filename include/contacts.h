@@ -2,11 +2,11 @@
  * contacts.h: a store of sonar contacts in lent memory that speaks Couchbase's binary protocol.
  *
  * Link with libcontacts.a, which is for x86-64 Linux. A table is plain memory of yours: the library makes it, serves
- * requests on it, reads and purges it, and keeps nothing between calls. It allocates nothing, does no input or output
- * and takes less than 4 KiB of stack.
+ * requests on it, reads and purges it, and keeps nothing between calls. It allocates nothing, does no input or output,
+ * and takes less than 4 KiB of stack (measured).
  *
- * Every call is proved: whatever numbers and bytes you pass, it returns, gives the answer that is written here, and
- * changes no byte but those that are written here. docs/LAYOUT.md has the layout of tables, frames and answers.
+ * Every call is proved to return and to meet a contract that fixes its answer and every lent byte, whatever numbers and
+ * bytes you pass. This header says the contracts in words. docs/LAYOUT.md has the layout of tables, frames and answers.
  *
  * What you owe, in every call:
  *
@@ -206,18 +206,19 @@ size_t contacts_size(size_t rows);
  *   mode      CONTACTS_MODE_REVISION or CONTACTS_MODE_LAST_WRITE_WINS, how with-meta writes are compared
  *   vbucket   any
  *
- * Returns 0, or 5 with the memory unchanged, exactly if rows, state or mode is out of range or table_len isn't
- * contacts_size(rows).
+ * Returns 0; or CONTACTS_OUTCOME_DAMAGED, with the memory unchanged, exactly if rows, state or mode is out of range or
+ * table_len isn't contacts_size(rows).
  */
 uint8_t contacts_make(uint8_t *table, size_t table_len, size_t rows, uint8_t state, uint8_t mode, uint16_t vbucket);
 
 /*
  * Whether the memory is a sound table: of the size of 1 to 256 rows, and as docs/LAYOUT.md says in every byte. All else
- * is damaged. Every other call on a table tests this itself.
+ * is damaged. Reading, purging and serving test this themselves.
  */
 bool contacts_sound(const uint8_t *table, size_t table_len);
 
-/* A live document: not expired at the clock that was given. */
+/* A live document: one that isn't expired at the clock given. It is expired where its expiry isn't 0 and the clock is
+ * at or past it; its row then stays until it is purged or written. */
 typedef struct contacts_document {
     uint8_t outcome;
     uint8_t status;
@@ -262,9 +263,10 @@ contacts_purged contacts_purge(uint8_t *table, size_t table_len, uint32_t clock,
  *
  *   0x83, 0x81   the opcode isn't among those above: 0x83 for 07, 08, 0e, 0f, 10 and 17 to 1a
  *   0x04         the datatype isn't 0; extras and key are longer than the body; extras, key or value aren't what the
- *                command carries; the key is over 250 bytes; the clock and a relative expiry pass 2^32 - 1; with meta,
- *                also: CAS or revision out of range; other option bits; 0x04 without 0x08; option 0x02 missing in
- *                last-write-wins or set in revision mode; flags or expiry of a Delete not 0; broken extended meta
+ *                command carries; the key is over 250 bytes; the clock and a relative expiry pass 2^32 - 1, even where
+ *                the expiry goes unused; with meta, also: CAS or revision out of range; option bits other than 0x0f;
+ *                option 0x04 without 0x08; option 0x02 missing in last-write-wins or set in revision mode; flags or
+ *                expiry of a Delete not 0; broken extended meta
  *   0x03         the value is over 1,024 bytes, extended meta not counted
  *   0x07         another vbucket, or a state that isn't active, save with option 0x01 in states 2 and 3. Noop and
  *                Version never have it
@@ -277,7 +279,7 @@ contacts_purged contacts_purge(uint8_t *table, size_t table_len, uint32_t clock,
  *   0x82         the key has no row and no row is free
  *   0x00         otherwise
  *
- * A status that isn't 0 changes no byte of the table, and its reply is a header with CAS 0. With status 0
+ * A status that isn't 0 changes no byte of the table, and its reply, if any, is a header with CAS 0. With status 0
  *
  *   Get        replies the flags as 4 extras, for GetK the key, the value and the CAS
  *   Set        stores value, flags and expiry, as Add and Replace do

@@ -1,4 +1,5 @@
-//! Links `libcontacts.a` from the directory in `CONTACTS_LIB_DIR`, or from where `rt staticlib contacts` writes it.
+//! Links `libcontacts.a` from the directory in `CONTACTS_LIB_DIR`, or from where `rt staticlib contacts` writes it. A
+//! relative directory counts from this crate's.
 
 use std::path::{Path, PathBuf};
 use std::{env, process};

@@ -2,11 +2,11 @@
 
 use crate::{raw, Damaged};
 
-/// A document's CAS, which the store's mark never falls below.
+/// The number of a key's last change. No key's is above the table's mark.
 #[derive(Clone, Copy, Debug, Default, PartialEq, Eq, PartialOrd, Ord, Hash)]
 pub struct Cas(pub u64);
 
-/// A document's revision, which counts its changes.
+/// The count of a key's changes.
 #[derive(Clone, Copy, Debug, Default, PartialEq, Eq, PartialOrd, Ord, Hash)]
 pub struct Revision(pub u64);
 
@@ -48,16 +48,16 @@ impl Mode {
     }
 }
 
-/// A live document: not expired at the clock that was given.
+/// A live document: one whose expiry is 0 or after the clock that was given.
 #[derive(Clone, Copy, Debug, PartialEq, Eq, Hash)]
 pub struct Document<'t> {
     /// Flags, the client's own.
     pub flags: u32,
     /// Seconds since 1970, 0 never.
     pub expiry: u32,
-    /// How often the key was changed.
+    /// The count of the key's changes, as its last write gave it.
     pub revision: Revision,
-    /// The number of its last change.
+    /// The number of the key's last change.
     pub cas: Cas,
     /// The value, in the table's memory.
     pub value: &'t [u8],
@@ -75,7 +75,7 @@ pub fn size(rows: usize) -> Option<usize> {
 ///
 /// # Errors
 ///
-/// Refuses exactly if there are no 1 to 256 rows, or the memory isn't [`size`] bytes for them. It is then unchanged.
+/// [`Damaged`] exactly if the rows aren't 1 to 256 or the memory isn't of their [`size`]. It is then unchanged.
 pub fn make(table: &mut [u8], rows: usize, state: State, mode: Mode, vbucket: u16) -> Result<(), Damaged> {
     match raw::make(table, rows, state.number(), mode.number(), vbucket) {
         0 => Ok(()),
@@ -83,7 +83,7 @@ pub fn make(table: &mut [u8], rows: usize, state: State, mode: Mode, vbucket: u1
     }
 }
 
-/// Whether the memory is a sound table. Every other call on a table tests this itself.
+/// Whether the memory is a sound table. Reading, purging and serving test this themselves.
 pub fn sound(table: &[u8]) -> bool {
     raw::sound(table)
 }
