@@ -1,0 +1,59 @@
+//! A store of sonar contacts in lent memory that speaks Couchbase's binary protocol.
+//!
+//! A table is plain bytes of yours. [`make`] makes one, [`serve`] and [`serve_run`] serve requests on it, [`read`] and
+//! [`purge`] are its owner's; [`read_request`] and [`write_request`] are for frames. The code behind these calls is
+//! proved: whatever the bytes, each call answers and changes exactly what it says, and a refused one changes nothing.
+//!
+//! `include/contacts.h` says what every command does, `docs/LAYOUT.md` how tables and frames are laid out.
+//!
+//! ```
+//! use contacts::{opcode, Fields, Mode, State, Status, Tally};
+//!
+//! let rows = 4;
+//! let mut table = vec![0; contacts::size(rows).unwrap()];
+//! contacts::make(&mut table, rows, State::Active, Mode::Revision, 3)?;
+//!
+//! let set = Fields { opcode: opcode::SET, vbucket: 3, ..Fields::default() };
+//! let mut frame = [0; contacts::FRAME_MAX];
+//! let len = contacts::write_request(&set, &[0; 8], b"sonar:17", b"bearing 143", &mut frame)?;
+//!
+//! let clock = 1_000_000;
+//! let mut reply = [0; contacts::REPLY_ROOM];
+//! let served = contacts::serve(&mut table, clock, &frame[..len], &mut reply, &mut Tally::default())?;
+//! assert_eq!(served.status, Status::Success);
+//!
+//! let document = contacts::read(&table, clock, b"sonar:17")?.unwrap();
+//! assert_eq!(document.value, b"bearing 143");
+//! # Ok::<(), Box<dyn std::error::Error>>(())
+//! ```
+
+#![deny(missing_docs, unsafe_code)]
+
+mod answers;
+pub mod opcode;
+pub mod option;
+mod raw;
+mod request;
+mod serve;
+mod table;
+
+pub use answers::{Damaged, Outcome, Refusal, Status, Stop, WriteRefusal};
+pub use raw::Tally;
+pub use request::{read_request, write_request, Fields, Request};
+pub use serve::{serve, serve_run, Ran, Served};
+pub use table::{make, purge, read, size, sound, Cas, Document, Mode, Revision, State};
+
+/// The most rows of a table.
+pub const ROWS_MAX: usize = 256;
+/// The longest key.
+pub const KEY_MAX: usize = 250;
+/// The longest value.
+pub const VALUE_MAX: usize = 1024;
+/// The header that opens a frame.
+pub const FRAME_HEADER: usize = 24;
+/// The longest body of a request: extras, key, value and extended meta.
+pub const BODY_MAX: usize = 1400;
+/// The longest request: header and body.
+pub const FRAME_MAX: usize = 1424;
+/// The room that serving a frame asks for, whatever the request: header, flags, key and value of the longest reply.
+pub const REPLY_ROOM: usize = 1302;

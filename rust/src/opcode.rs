@@ -1,0 +1,51 @@
+//! The commands that the store serves. A name with Q is quiet: a get that finds nothing and a write that succeeds have
+//! no reply.
+
+/// Key.
+pub const GET: u8 = 0x00;
+/// 8 extras (flags, expiry), key, a value of 0 bytes or more.
+pub const SET: u8 = 0x01;
+/// As [`SET`], where the key isn't live.
+pub const ADD: u8 = 0x02;
+/// As [`SET`], where the key is live.
+pub const REPLACE: u8 = 0x03;
+/// Key.
+pub const DELETE: u8 = 0x04;
+/// 20 extras (delta, initial, expiry), key.
+pub const INCREMENT: u8 = 0x05;
+/// As [`INCREMENT`], down to 0.
+pub const DECREMENT: u8 = 0x06;
+/// Quiet [`GET`].
+pub const GETQ: u8 = 0x09;
+/// Nothing after the header.
+pub const NOOP: u8 = 0x0a;
+/// Nothing after the header.
+pub const VERSION: u8 = 0x0b;
+/// As [`GET`], with the key in the reply.
+pub const GETK: u8 = 0x0c;
+/// Quiet [`GETK`].
+pub const GETKQ: u8 = 0x0d;
+/// Quiet [`SET`].
+pub const SETQ: u8 = 0x11;
+/// Quiet [`ADD`].
+pub const ADDQ: u8 = 0x12;
+/// Quiet [`REPLACE`].
+pub const REPLACEQ: u8 = 0x13;
+/// Quiet [`DELETE`].
+pub const DELETEQ: u8 = 0x14;
+/// Quiet [`INCREMENT`].
+pub const INCREMENTQ: u8 = 0x15;
+/// Quiet [`DECREMENT`].
+pub const DECREMENTQ: u8 = 0x16;
+/// 24, 26, 28 or 30 extras, key, a value of 1 byte or more, extended meta.
+pub const SET_WITH_META: u8 = 0xa2;
+/// Quiet [`SET_WITH_META`].
+pub const SETQ_WITH_META: u8 = 0xa3;
+/// As [`SET_WITH_META`], where the key isn't live.
+pub const ADD_WITH_META: u8 = 0xa4;
+/// Quiet [`ADD_WITH_META`].
+pub const ADDQ_WITH_META: u8 = 0xa5;
+/// 24, 26, 28 or 30 extras, key, extended meta.
+pub const DELETE_WITH_META: u8 = 0xa8;
+/// Quiet [`DELETE_WITH_META`].
+pub const DELETEQ_WITH_META: u8 = 0xa9;

@@ -1,0 +1,228 @@
+//! The calls of `libcontacts.a` as `include/contacts.h` declares them, over slices. All unsafe code of the crate is here.
+//!
+//! Every call is safe for the same reason: what the library asks of its caller is what a reference has. A slice is that
+//! many bytes with values, its pointer isn't null, its length is under 2^63, `&mut` overlaps nothing else that is lent,
+//! and nobody else writes any of it before the call returns. The calls ask for nothing more, whatever the bytes.
+
+#![allow(unsafe_code)]
+
+/// Bytes of a table or a frame: a place counted from its first byte, and a length.
+#[repr(C)]
+pub struct Part {
+    at: usize,
+    len: usize,
+}
+
+impl Part {
+    pub fn of<'a>(&self, bytes: &'a [u8]) -> &'a [u8] {
+        &bytes[self.at..self.at + self.len]
+    }
+}
+
+/// Counts of frames served. A count at 2^64 - 1 stays there.
+#[repr(C)]
+#[derive(Clone, Copy, Debug, Default, PartialEq, Eq, Hash)]
+pub struct Tally {
+    /// Frames with status 0.
+    pub served: u64,
+    /// Frames with another status.
+    pub refused: u64,
+    /// Frames without reply bytes, which are counted above too.
+    pub silent: u64,
+}
+
+#[repr(C)]
+pub struct ServedAnswer {
+    pub outcome: u8,
+    pub status: u8,
+    pub used: usize,
+    pub reply: usize,
+    pub needed: usize,
+}
+
+#[repr(C)]
+pub struct RanAnswer {
+    pub outcome: u8,
+    pub used: usize,
+    pub reply: usize,
+    pub needed: usize,
+}
+
+#[repr(C)]
+pub struct DocumentAnswer {
+    pub outcome: u8,
+    pub status: u8,
+    pub flags: u32,
+    pub expiry: u32,
+    pub revision: u64,
+    pub cas: u64,
+    pub value: Part,
+}
+
+#[repr(C)]
+pub struct PurgedAnswer {
+    pub outcome: u8,
+    pub freed: usize,
+}
+
+#[repr(C)]
+pub struct RequestAnswer {
+    pub outcome: u8,
+    pub status: u8,
+    pub opcode: u8,
+    pub datatype: u8,
+    pub vbucket: u16,
+    pub opaque: u32,
+    pub cas: u64,
+    pub extras: Part,
+    pub key: Part,
+    pub value: Part,
+    pub meta: usize,
+}
+
+#[repr(C)]
+pub struct WrittenAnswer {
+    pub outcome: u8,
+    pub status: u8,
+    pub len: usize,
+}
+
+extern "C" {
+    fn contacts_size(rows: usize) -> usize;
+    fn contacts_make(table: *mut u8, table_len: usize, rows: usize, state: u8, mode: u8, vbucket: u16) -> u8;
+    fn contacts_sound(table: *const u8, table_len: usize) -> bool;
+    fn contacts_read(table: *const u8, table_len: usize, clock: u32, key: *const u8, key_len: usize) -> DocumentAnswer;
+    fn contacts_purge(table: *mut u8, table_len: usize, clock: u32, bound: u64) -> PurgedAnswer;
+    fn contacts_serve(
+        table: *mut u8,
+        table_len: usize,
+        clock: u32,
+        received: *const u8,
+        received_len: usize,
+        reply: *mut u8,
+        reply_len: usize,
+        tally: *mut Tally,
+    ) -> ServedAnswer;
+    fn contacts_serve_run(
+        table: *mut u8,
+        table_len: usize,
+        clock: u32,
+        received: *const u8,
+        received_len: usize,
+        reply: *mut u8,
+        reply_len: usize,
+        tally: *mut Tally,
+    ) -> RanAnswer;
+    fn contacts_read_request(received: *const u8, received_len: usize) -> RequestAnswer;
+    fn contacts_write_request(
+        opcode: u8,
+        datatype: u8,
+        vbucket: u16,
+        opaque: u32,
+        cas: u64,
+        extras: *const u8,
+        extras_len: usize,
+        key: *const u8,
+        key_len: usize,
+        value: *const u8,
+        value_len: usize,
+        out: *mut u8,
+        out_len: usize,
+    ) -> WrittenAnswer;
+}
+
+pub fn size(rows: usize) -> usize {
+    unsafe { contacts_size(rows) }
+}
+
+pub fn make(table: &mut [u8], rows: usize, state: u8, mode: u8, vbucket: u16) -> u8 {
+    unsafe { contacts_make(table.as_mut_ptr(), table.len(), rows, state, mode, vbucket) }
+}
+
+pub fn sound(table: &[u8]) -> bool {
+    unsafe { contacts_sound(table.as_ptr(), table.len()) }
+}
+
+pub fn read(table: &[u8], clock: u32, key: &[u8]) -> DocumentAnswer {
+    unsafe { contacts_read(table.as_ptr(), table.len(), clock, key.as_ptr(), key.len()) }
+}
+
+pub fn purge(table: &mut [u8], clock: u32, bound: u64) -> PurgedAnswer {
+    unsafe { contacts_purge(table.as_mut_ptr(), table.len(), clock, bound) }
+}
+
+pub fn serve(table: &mut [u8], clock: u32, received: &[u8], reply: &mut [u8], tally: &mut Tally) -> ServedAnswer {
+    unsafe {
+        contacts_serve(
+            table.as_mut_ptr(),
+            table.len(),
+            clock,
+            received.as_ptr(),
+            received.len(),
+            reply.as_mut_ptr(),
+            reply.len(),
+            tally,
+        )
+    }
+}
+
+pub fn serve_run(table: &mut [u8], clock: u32, received: &[u8], reply: &mut [u8], tally: &mut Tally) -> RanAnswer {
+    unsafe {
+        contacts_serve_run(
+            table.as_mut_ptr(),
+            table.len(),
+            clock,
+            received.as_ptr(),
+            received.len(),
+            reply.as_mut_ptr(),
+            reply.len(),
+            tally,
+        )
+    }
+}
+
+pub fn read_request(received: &[u8]) -> RequestAnswer {
+    unsafe { contacts_read_request(received.as_ptr(), received.len()) }
+}
+
+pub fn write_request(fields: &crate::Fields, extras: &[u8], key: &[u8], value: &[u8], out: &mut [u8]) -> WrittenAnswer {
+    unsafe {
+        contacts_write_request(
+            fields.opcode,
+            fields.datatype,
+            fields.vbucket,
+            fields.opaque,
+            fields.cas.0,
+            extras.as_ptr(),
+            extras.len(),
+            key.as_ptr(),
+            key.len(),
+            value.as_ptr(),
+            value.len(),
+            out.as_mut_ptr(),
+            out.len(),
+        )
+    }
+}
+
+#[cfg(test)]
+mod tests {
+    use super::*;
+    use std::mem::{align_of, offset_of, size_of};
+
+    /// The sizes and offsets that docs/LAYOUT.md gives for C.
+    #[test]
+    fn structs_are_laid_out_as_in_c() {
+        assert_eq!((size_of::<Part>(), offset_of!(Part, len)), (16, 8));
+        assert_eq!((size_of::<Tally>(), align_of::<Tally>()), (24, 8));
+        assert_eq!((offset_of!(Tally, refused), offset_of!(Tally, silent)), (8, 16));
+        assert_eq!((size_of::<ServedAnswer>(), offset_of!(ServedAnswer, used)), (32, 8));
+        assert_eq!((size_of::<RanAnswer>(), offset_of!(RanAnswer, used)), (32, 8));
+        assert_eq!((size_of::<PurgedAnswer>(), offset_of!(PurgedAnswer, freed)), (16, 8));
+        assert_eq!((size_of::<WrittenAnswer>(), offset_of!(WrittenAnswer, len)), (16, 8));
+        assert_eq!((size_of::<DocumentAnswer>(), offset_of!(DocumentAnswer, value)), (48, 32));
+        assert_eq!((offset_of!(DocumentAnswer, flags), offset_of!(DocumentAnswer, revision)), (4, 16));
+        assert_eq!((size_of::<RequestAnswer>(), offset_of!(RequestAnswer, meta)), (80, 72));
+        assert_eq!((offset_of!(RequestAnswer, opaque), offset_of!(RequestAnswer, extras)), (8, 24));
+    }
+}

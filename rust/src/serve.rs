@@ -1,0 +1,65 @@
+//! Serving requests on a table.
+
+use crate::raw::{self, Tally};
+use crate::{Outcome, Status, Stop};
+
+/// One frame served.
+#[derive(Clone, Copy, Debug, PartialEq, Eq, Hash)]
+pub struct Served<'r> {
+    /// What the request was answered.
+    pub status: Status,
+    /// The bytes of the received that the frame took.
+    pub used: usize,
+    /// The reply, empty for a silent frame.
+    pub reply: &'r [u8],
+}
+
+/// The frames of a run served until a call was refused.
+#[derive(Clone, Copy, Debug, PartialEq, Eq, Hash)]
+pub struct Ran<'r> {
+    /// The bytes of the received that all frames took.
+    pub used: usize,
+    /// The replies, one after another.
+    pub replies: &'r [u8],
+    /// Why it stopped. [`Outcome::Short`] with 24 needed is the end of the run, and [`Outcome::Room`] asks for another
+    /// call once the replies are sent, where `used` isn't all.
+    pub stop: Stop,
+}
+
+/// Serves the request at the start of the received bytes, writes its reply at the start of the reply area and counts it.
+/// The clock is in seconds since 1970. Bytes after the frame are left for the next call.
+///
+/// The reply area has [`REPLY_ROOM`](crate::REPLY_ROOM) bytes or more; those past the reply are unchanged. A status other
+/// than [`Status::Success`] changes no byte of the table.
+///
+/// # Errors
+///
+/// In this order: [`Outcome::Damaged`]; [`Outcome::Room`]; [`Outcome::Short`] with 24 needed; [`Outcome::Magic`];
+/// [`Outcome::Length`]; [`Outcome::Short`] with 24 and the body needed. Table, reply area and tally are then unchanged.
+pub fn serve<'r>(
+    table: &mut [u8],
+    clock: u32,
+    received: &[u8],
+    reply: &'r mut [u8],
+    tally: &mut Tally,
+) -> Result<Served<'r>, Stop> {
+    let answer = raw::serve(table, clock, received, reply, tally);
+    match Outcome::from_number(answer.outcome) {
+        Some(outcome) => Err(Stop { outcome, needed: answer.needed }),
+        None => Ok(Served { status: Status::known(answer.status), used: answer.used, reply: &reply[..answer.reply] }),
+    }
+}
+
+/// Serves the received frames one after another, each as [`serve`] does, until a call is refused. Each frame needs
+/// [`REPLY_ROOM`](crate::REPLY_ROOM) bytes of the reply area after the replies before it.
+pub fn serve_run<'r>(table: &mut [u8], clock: u32, received: &[u8], reply: &'r mut [u8], tally: &mut Tally) -> Ran<'r> {
+    let answer = raw::serve_run(table, clock, received, reply, tally);
+    Ran {
+        used: answer.used,
+        replies: &reply[..answer.reply],
+        stop: Stop {
+            outcome: Outcome::from_number(answer.outcome).expect("a run ends at a refused call"),
+            needed: answer.needed,
+        },
+    }
+}

@@ -1,0 +1,119 @@
+//! The owner's calls.
+
+mod common;
+
+use common::*;
+use contacts::{make, opcode, purge, read, size, sound, Cas, Damaged, Document, Mode, Revision, State};
+
+const HOUR: u32 = 3600;
+
+/// A Set that expires an hour after `NOW`.
+fn set_for_an_hour(key: &[u8]) -> Vec<u8> {
+    frame_of(&fields(opcode::SET), &[[0; 4], HOUR.to_be_bytes()].concat(), key, b"old")
+}
+
+#[test]
+fn a_table_of_1_to_256_rows_has_a_size() {
+    assert_eq!(size(1), Some(16 + 1312));
+    assert_eq!(size(256), Some(16 + 256 * 1312));
+    for rows in [0, 257, usize::MAX] {
+        assert_eq!(size(rows), None);
+    }
+}
+
+#[test]
+fn a_fresh_table_is_a_header_and_free_rows() {
+    let mut memory = vec![0xee; size(2).unwrap()];
+    assert_eq!(make(&mut memory, 2, State::Pending, Mode::LastWriteWins, 0x1234), Ok(()));
+    assert_eq!(memory[..16], [3, 2, 0x12, 0x34, 0, 0, 0, 0, 0, 0, 0, 0, 0, 0, 0, 0]);
+    assert!(memory[16..].iter().all(|&b| b == 0));
+    assert!(sound(&memory));
+}
+
+#[test]
+fn making_refuses_another_size_and_row_count_and_changes_nothing() {
+    let two = size(2).unwrap();
+    for (len, rows) in [(two - 1, 2), (two + 1, 2), (two, 1), (0, 1), (0, 0), (16, 0), (16 + 257 * 1312, 257)] {
+        let mut memory = vec![0xee; len];
+        assert_eq!(make(&mut memory, rows, State::Active, Mode::Revision, VBUCKET), Err(Damaged));
+        assert!(memory.iter().all(|&b| b == 0xee));
+    }
+}
+
+#[test]
+fn memory_that_is_no_table_is_not_sound() {
+    assert!(!sound(&[]));
+    assert!(!sound(&damaged()));
+    assert!(!sound(&table(1)[..1000]));
+    for (at, byte) in [(0, 5), (1, 0), (4, 1), (16, 1), (1327, 1)] {
+        let mut memory = table(1);
+        memory[at] = byte;
+        assert!(!sound(&memory), "byte {at}");
+    }
+}
+
+#[test]
+fn reading_shows_the_live_document_in_the_tables_memory() {
+    let mut table = table(2);
+    done(&mut table, &set(b"a", b"one"));
+    done(&mut table, &set(b"b", b"two"));
+    done(&mut table, &set(b"b", b"three"));
+    let found = read(&table, NOW, b"b").unwrap().unwrap();
+    assert_eq!(found, Document { flags: 7, expiry: 0, revision: Revision(2), cas: Cas(3), value: b"three" });
+    assert_eq!(found.value.as_ptr(), table[ROW + 1312 + 32 + 1..].as_ptr());
+}
+
+#[test]
+fn reading_shows_an_empty_value() {
+    let mut table = table(1);
+    done(&mut table, &set(b"k", b""));
+    assert_eq!(read(&table, NOW, b"k").unwrap().unwrap().value, b"");
+}
+
+#[test]
+fn reading_finds_no_other_key_and_no_dead_document() {
+    let mut table = table(2);
+    done(&mut table, &set_for_an_hour(b"k"));
+    for key in [b"other".as_slice(), b"", &[b'k'; 251]] {
+        assert_eq!(read(&table, NOW, key), Ok(None));
+    }
+    assert!(read(&table, NOW + HOUR - 1, b"k").unwrap().is_some());
+    assert_eq!(read(&table, NOW + HOUR, b"k"), Ok(None));
+    done(&mut table, &delete(b"k"));
+    assert_eq!(read(&table, NOW, b"k"), Ok(None));
+}
+
+#[test]
+fn reading_refuses_a_damaged_table() {
+    for memory in [damaged(), vec![]] {
+        assert_eq!(read(&memory, NOW, b"k"), Err(Damaged));
+        assert_eq!(read(&memory, NOW, b""), Err(Damaged));
+    }
+}
+
+#[test]
+fn purging_frees_tombstones_and_expired_documents_up_to_the_bound() {
+    let mut table = table(3);
+    done(&mut table, &set_for_an_hour(b"expired"));
+    done(&mut table, &set(b"live", b"v"));
+    done(&mut table, &set(b"deleted", b"v"));
+    done(&mut table, &delete(b"deleted"));
+
+    let before = table.clone();
+    assert_eq!(purge(&mut table, NOW + HOUR, Cas(0)), Ok(0));
+    assert_eq!(table, before);
+    assert_eq!(purge(&mut table, NOW + HOUR, Cas(3)), Ok(1));
+    assert_eq!(purge(&mut table, NOW + HOUR, Cas(u64::MAX)), Ok(1));
+    assert_eq!(read(&table, NOW + HOUR, b"live").unwrap().unwrap().value, b"v");
+    assert_eq!(table[MARK..16], 4u64.to_be_bytes());
+    assert!(table[ROW..ROW + 1312].iter().all(|&b| b == 0));
+}
+
+#[test]
+fn purging_refuses_a_damaged_table_and_changes_nothing() {
+    for memory in [damaged(), vec![]] {
+        let mut purged = memory.clone();
+        assert_eq!(purge(&mut purged, NOW, Cas(u64::MAX)), Err(Damaged));
+        assert_eq!(purged, memory);
+    }
+}
