@@ -1,0 +1,92 @@
+// What the program's arguments ask for.
+ghost use Prim.Native.Nat.{_≤_};
+ghost use Rattle.contact_box.specs.Arguments.{Allowed};
+use digits::Number;
+use libc::STDERR_FILENO;
+
+// The argument that is none of those that may stand there, or that there are not three.
+pub(crate) enum Fault {
+    Count,
+    Rows,
+    Vbucket,
+    Mode,
+}
+
+pub(crate) enum Asked {
+    Table { rows: usize, vbucket: u16, mode: u8 },
+    Wrong(Fault),
+}
+
+// The number that an argument spells.
+fn number_at(i: usize) -> Number {
+    let mut word = [0u8; 32];
+    let n = os::arg(i, &mut word);
+    digits::parse(&word[..n])
+}
+
+// The mode that an argument names, or 0.
+fn mode_at(i: usize) -> u8
+    ensures { λ r. ⌜ r ≤ 2 ⌝ }
+{
+    let mut word = [0u8; 32];
+    let n = os::arg(i, &mut word);
+    if octets::same(&word[..n], b"revision") {
+        return 1;
+    }
+    if octets::same(&word[..n], b"last-write-wins") {
+        return 2;
+    }
+    0
+}
+
+fn asked_of(rows: Number, vbucket: Number, mode: u8) -> Asked
+    requires { ⌜ mode ≤ 2 ⌝ }
+    ensures { λ r. ⌜ Allowed r ⌝ }
+{
+    let Number::Value(r) = rows else {
+        return Asked::Wrong(Fault::Rows);
+    };
+    if r < 1 {
+        return Asked::Wrong(Fault::Rows);
+    }
+    if 256 < r {
+        return Asked::Wrong(Fault::Rows);
+    }
+    let Number::Value(v) = vbucket else {
+        return Asked::Wrong(Fault::Vbucket);
+    };
+    if 65535 < v {
+        return Asked::Wrong(Fault::Vbucket);
+    }
+    if mode < 1 {
+        return Asked::Wrong(Fault::Mode);
+    }
+    Asked::Table {
+        rows: r as usize,
+        vbucket: v as u16,
+        mode,
+    }
+}
+
+pub(crate) fn read() -> Asked
+    ensures { λ r. ⌜ Allowed r ⌝ }
+{
+    if os::arg_count() != 4 {
+        return Asked::Wrong(Fault::Count);
+    }
+    asked_of(number_at(1), number_at(2), mode_at(3))
+}
+
+pub(crate) fn complain(f: Fault) {
+    match f {
+        Fault::Count => say(b"contact_box: three arguments are wanted"),
+        Fault::Rows => say(b"contact_box: ROWS is 1 to 256"),
+        Fault::Vbucket => say(b"contact_box: VBUCKET is 0 to 65535"),
+        Fault::Mode => say(b"contact_box: MODE is revision or last-write-wins"),
+    }
+}
+
+fn say(wrong: &[u8]) {
+    io::write_all(STDERR_FILENO, wrong);
+    io::write_all(STDERR_FILENO, b"; usage: contact_box ROWS VBUCKET MODE\n");
+}

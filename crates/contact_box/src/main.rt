@@ -1,0 +1,82 @@
+// The box: serves the frames that come on standard input on a fresh, active table, by the system's clock, and writes the replies to
+// standard output.
+//
+//     contact_box ROWS VBUCKET MODE
+//
+//     ROWS        1 to 256
+//     VBUCKET     0 to 65535
+//     MODE        revision or last-write-wins
+//
+// It ends where the input ends, where a frame has outcome 2 or 3, which ask the caller to close, and where reading or writing fails; the
+// counts of its tally are its last line on standard error. Other arguments serve nothing and get a line there. The exit status is 0 in
+// every case: a Rattle program has no other.
+mod arguments;
+mod clock;
+mod session;
+
+ghost use mathlib.Core.Path.{_≡_};
+ghost use lib.ListN.{length};
+ghost use Rattle.table.specs.Table.{tableBytes, fresh};
+ghost use Rattle.owner.specs.Owner.{sizeOf};
+ghost use Rattle.contact_box.specs.Arguments.{Makes};
+use arguments::Asked;
+use libc::STDERR_FILENO;
+use tally::Tally;
+
+const ACTIVE: u8 = 1;
+
+fn say_count(name: &[u8], n: u64) {
+    io::write_all(STDERR_FILENO, name);
+    io::print_decimal(STDERR_FILENO, n);
+}
+
+fn say_tally(t: Tally) {
+    say_count(b"contact_box: served ", t.served);
+    say_count(b", refused ", t.refused);
+    say_count(b", silent ", t.silent);
+    io::write_all(STDERR_FILENO, b"\n");
+}
+
+// Room for a table of 256 rows. Of this and of an area the contract gives only the length, which lending them needs.
+fn memory() -> [u8; 335888]
+    ensures { λ r. ⌜ 335888 ≡ length r ⌝ }
+{
+    [0; 335888]
+}
+
+// Room for received bytes, or for replies. It is larger than any frame, so it never fills with a frame that is cut.
+fn area() -> [u8; 16384]
+    ensures { λ r. ⌜ 16384 ≡ length r ⌝ }
+{
+    [0; 16384]
+}
+
+fn make_table(table: &mut [u8], rows: usize, vbucket: u16, mode: u8)
+    requires { ⌜ (length (now table) ≡ sizeOf rows) × Makes rows mode ⌝ }
+    ensures { λ _. ⌜ now (table .exit) ≡ tableBytes (fresh rows 1 mode vbucket) ⌝ }
+{
+    owner::make(table, rows, ACTIVE, mode, vbucket);
+}
+
+fn serve(rows: usize, vbucket: u16, mode: u8)
+    requires { ⌜ Makes rows mode ⌝ }
+{
+    let mut memory = memory();
+    let mut received = area();
+    let mut replies = area();
+    let size = owner::size(rows);
+    let table = &mut memory[..size];
+    make_table(table, rows, vbucket, mode);
+    say_tally(session::serve_input(table, &mut received, &mut replies));
+}
+
+fn main() {
+    match arguments::read() {
+        Asked::Table {
+            rows,
+            vbucket,
+            mode,
+        } => serve(rows, vbucket, mode),
+        Asked::Wrong(why) => arguments::complain(why),
+    }
+}
