@@ -1,8 +1,8 @@
 // What the program's arguments ask for.
 ghost use Prim.Native.Nat.{_≤_};
 ghost use Rattle.contact_box.specs.Arguments.{Allowed};
+use crate::report;
 use digits::Number;
-use libc::STDERR_FILENO;
 
 // The argument that is none of those that may stand there, or that there are not three.
 pub(crate) enum Fault {
@@ -79,14 +79,9 @@ pub(crate) fn read() -> Asked
 
 pub(crate) fn complain(f: Fault) {
     match f {
-        Fault::Count => say(b"contact_box: three arguments are wanted"),
-        Fault::Rows => say(b"contact_box: ROWS is 1 to 256"),
-        Fault::Vbucket => say(b"contact_box: VBUCKET is 0 to 65535"),
-        Fault::Mode => say(b"contact_box: MODE is revision or last-write-wins"),
+        Fault::Count => report::wrong(b"three arguments are wanted"),
+        Fault::Rows => report::wrong(b"ROWS is 1 to 256"),
+        Fault::Vbucket => report::wrong(b"VBUCKET is 0 to 65535"),
+        Fault::Mode => report::wrong(b"MODE is revision or last-write-wins"),
     }
-}
-
-fn say(wrong: &[u8]) {
-    io::write_all(STDERR_FILENO, wrong);
-    io::write_all(STDERR_FILENO, b"; usage: contact_box ROWS VBUCKET MODE\n");
 }

@@ -12,6 +12,7 @@
 // every case: a Rattle program has no other.
 mod arguments;
 mod clock;
+mod report;
 mod session;
 
 ghost use mathlib.Core.Path.{_≡_};
@@ -20,22 +21,8 @@ ghost use Rattle.table.specs.Table.{tableBytes, fresh};
 ghost use Rattle.owner.specs.Owner.{sizeOf};
 ghost use Rattle.contact_box.specs.Arguments.{Makes};
 use arguments::Asked;
-use libc::STDERR_FILENO;
-use tally::Tally;
 
 const ACTIVE: u8 = 1;
-
-fn say_count(name: &[u8], n: u64) {
-    io::write_all(STDERR_FILENO, name);
-    io::print_decimal(STDERR_FILENO, n);
-}
-
-fn say_tally(t: Tally) {
-    say_count(b"contact_box: served ", t.served);
-    say_count(b", refused ", t.refused);
-    say_count(b", silent ", t.silent);
-    io::write_all(STDERR_FILENO, b"\n");
-}
 
 // Room for a table of 256 rows. Of this and of an area the contract gives only the length, which lending them needs.
 fn memory() -> [u8; 335888]
@@ -67,7 +54,7 @@ fn serve(rows: usize, vbucket: u16, mode: u8)
     let size = owner::size(rows);
     let table = &mut memory[..size];
     make_table(table, rows, vbucket, mode);
-    say_tally(session::serve_input(table, &mut received, &mut replies));
+    report::tally(session::serve_input(table, &mut received, &mut replies));
 }
 
 fn main() {

@@ -50,8 +50,8 @@ slice-aggregate-serve-input-2 c = search needs
 serve-input-requires : tie.Need-serve-input-requires
 serve-input-requires c κs = search needs
 
-say-tally-requires : tie.Need-say-tally-requires
-say-tally-requires c κs = search needs
+tally-requires : tie.Need-tally-requires
+tally-requires c κs = search needs
 
 returns : tie.Need-returns
 returns c = search needs
@@ -70,5 +70,5 @@ serve-spec =
     slice-aggregate-serve-input
     slice-aggregate-serve-input-2
     serve-input-requires
-    say-tally-requires
+    tally-requires
     returns)
