@@ -4,7 +4,11 @@ ghost use Rattle.contact_box.specs.Arguments.{Allowed};
 use crate::report;
 use digits::Number;
 
-// The argument that is none of those that may stand there, or that there are not three.
+const REVISION: u8 = 1;
+
+const LAST_WRITE_WINS: u8 = 2;
+
+// What is wrong: that the arguments are not three, or one of them.
 pub(crate) enum Fault {
     Count,
     Rows,
@@ -31,10 +35,10 @@ fn mode_at(i: usize) -> u8
     let mut word = [0u8; 32];
     let n = os::arg(i, &mut word);
     if octets::same(&word[..n], b"revision") {
-        return 1;
+        return REVISION;
     }
     if octets::same(&word[..n], b"last-write-wins") {
-        return 2;
+        return LAST_WRITE_WINS;
     }
     0
 }

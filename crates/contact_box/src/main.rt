@@ -7,9 +7,9 @@
 //     VBUCKET     0 to 65535
 //     MODE        revision or last-write-wins
 //
-// It ends where the input ends, where a frame has outcome 2 or 3, which ask the caller to close, and where reading or writing fails; the
-// counts of its tally are its last line on standard error. Other arguments serve nothing and get a line there. The exit status is 0 in
-// every case: a Rattle program has no other.
+// It ends where the input ends, at a frame with outcome 2 or 3, which have the caller close, and where reading or writing fails. Then it
+// says its tally on standard error. Arguments that it can't serve by get a line there and nothing else. The exit status is 0 in every
+// case, since a Rattle program has no other.
 mod arguments;
 mod clock;
 mod report;
@@ -24,14 +24,14 @@ use arguments::Asked;
 
 const ACTIVE: u8 = 1;
 
-// Room for a table of 256 rows. Of this and of an area the contract gives only the length, which lending them needs.
+// Room for a table of 256 rows. The contract gives only the length, which lending a part needs.
 fn memory() -> [u8; 335888]
     ensures { λ r. ⌜ 335888 ≡ length r ⌝ }
 {
     [0; 335888]
 }
 
-// Room for received bytes, or for replies. It is larger than any frame, so it never fills with a frame that is cut.
+// Room for received bytes, or for replies.
 fn area() -> [u8; 16384]
     ensures { λ r. ⌜ 16384 ≡ length r ⌝ }
 {

@@ -1,9 +1,10 @@
 // Serving what comes on standard input, in pieces of any size.
 ghost use mathlib.Core.Path.{_≡_};
-ghost use Prim.Native.Nat.{_+_, _-_, _≤_};
+ghost use mathlib.Core.Bool.{cond};
+ghost use Prim.Native.Nat.{_+_, _-_, _≤_, _<_};
 ghost use lib.ListN.{length, take, drop};
 ghost use Rattle.run.specs.Run.{begun, runEnd};
-ghost use Rattle.contact_box.specs.Session.{Goes};
+ghost use Rattle.contact_box.specs.Session.{nextOf, Waits, Goes};
 use crate::clock;
 use libc::STDIN_FILENO;
 use libc::STDOUT_FILENO;
@@ -49,8 +50,10 @@ fn keep(received: &mut [u8], at: usize, held: usize) -> usize
     n
 }
 
-// A frame that is cut wants more bytes, and a full reply area is written out; every other outcome asks the caller to close.
-fn next_after(stop: Served, written: bool) -> Next {
+// What is next where a run stopped and its replies were written or not.
+fn next_after(stop: Served, written: bool) -> Next
+    ensures { λ r. ⌜ r ≡ cond written (nextOf stop) Next.Close ⌝ }
+{
     if !written {
         return Next::Close;
     }
@@ -90,16 +93,17 @@ fn serve_held(
     }
 }
 
-fn turn(table: &mut [u8], received: &mut [u8], replies: &mut [u8], s: Session) -> Session
-    requires { ⌜ s .held ≤ length (now received) ⌝ }
-    ensures { λ r. ⌜ r .held ≤ length (now (received .entry)) ⌝ }
+// Reads on, and serves what is held then. There is room for more, so where nothing comes the input has ended or can't be read.
+fn receive_on(
+    table: &mut [u8],
+    received: &mut [u8],
+    replies: &mut [u8],
+    held: usize,
+    tally: Tally,
+) -> Session
+    requires { ⌜ (held < 1424) × (1424 ≤ length (now received)) ⌝ }
+    ensures { λ r. ⌜ (r .held ≤ length (now (received .entry))) × Waits (r .next) (r .held) ⌝ }
 {
-    let held = s.held;
-    let tally = s.tally;
-    let next = s.next;
-    if let Next::Serve = next {
-        return serve_held(table, clock::now(), received, held, replies, tally);
-    }
     let came = receive(received, held);
     if came == 0 {
         return Session {
@@ -109,6 +113,20 @@ fn turn(table: &mut [u8], received: &mut [u8], replies: &mut [u8], s: Session) -
         };
     }
     serve_held(table, clock::now(), received, held + came, replies, tally)
+}
+
+fn turn(table: &mut [u8], received: &mut [u8], replies: &mut [u8], s: Session) -> Session
+    requires { ⌜ (s .held ≤ length (now received)) × ((1424 ≤ length (now received)) × Waits (s .next) (s .held)) ⌝ }
+    ensures { λ r. ⌜ (r .held ≤ length (now (received .entry))) × Waits (r .next) (r .held) ⌝ }
+{
+    let held = s.held;
+    let tally = s.tally;
+    let next = s.next;
+    match next {
+        Next::Receive => receive_on(table, received, replies, held, tally),
+        Next::Serve => serve_held(table, clock::now(), received, held, replies, tally),
+        Next::Close => s,
+    }
 }
 
 fn is_open(s: Session) -> bool {
@@ -122,7 +140,9 @@ fn is_open(s: Session) -> bool {
 
 // Serves the input to its end. A proved loop has to end, and nothing says that an input does, so the turns are counted down from a number
 // that no input uses up.
-pub(crate) fn serve_input(table: &mut [u8], received: &mut [u8], replies: &mut [u8]) -> Tally {
+pub(crate) fn serve_input(table: &mut [u8], received: &mut [u8], replies: &mut [u8]) -> Tally
+    requires { ⌜ 1424 ≤ length (now received) ⌝ }
+{
     let mut s = Session {
         held: 0,
         tally: Tally {
