@@ -5,4 +5,5 @@ pub mod TableLaws
 pub mod ChangeLaws
 pub mod PurgeBytes
 pub mod Rows
+pub mod Prints
 pub mod Writes

@@ -9,7 +9,7 @@ use native.Mathlib.Numerals.{add-one}
 use lib.Dec.{eqb, leb}
 use lib.ListN.{length, drop, getD}
 use lib.Seq.{drop-drop}
-use borrow.Author.Tests.{eqb-true, eqb-false, ne-eqb}
+use borrow.Author.Tests.{leb-true, eqb-true, eqb-false, ne-eqb}
 use Rattle.octets.specs.Parts.{part}
 use Rattle.octets.specs.BigEndian.{num, be, beFrom}
 use Rattle.octets.specs.Compare.{same, zeros}
@@ -81,7 +81,7 @@ module _ (r : List ℕ) where
 
 -- the first of a run of rows, compared with those after it
 module _ (s : List ℕ) (at later : ℕ) where
-  first-row : rowsOf (later + 1) (drop at s) ≡ rowOf (part s at 1312) ∷ rowsOf later (drop (at + 1312) s)
+  pub first-row : rowsOf (later + 1) (drop at s) ≡ rowOf (part s at 1312) ∷ rowsOf later (drop (at + 1312) s)
   first-row = rw (add-one, drop-drop 1312 at s)
 
   pub distinct-free : num (part s at 1312) 0 2 ≡ 0 → distinct (rowsOf later (drop (at + 1312) s)) ≡ distinct (rowsOf (later + 1) (drop at s))
@@ -121,6 +121,10 @@ pub sound-is : (b : List ℕ) (n : ℕ) (h : Head) → n ≡ rowCount b → h �
     → sound b ≡ (sizeOk (length b) n && (headOk h && (allSound (h .mark .0) (chunks n (drop 16 b)) && distinct (rowsOf n (drop 16 b)))))
 unfolding sound
 sound-is b n h e f = sym (λ i. sizeOk (length b) (e i) && (headOk (f i) && (allSound (f i .mark .0) (chunks (e i) (drop 16 b)) && distinct (rowsOf (e i) (drop 16 b)))))
+
+pub size-most : (len n : ℕ) → sizeOk len n ≡ true → n ≤ 256
+unfolding sizeOk
+size-most len n e = leb-true n 256 (both (leb n 256) (eqb len (16 + n * 1312)) (both (leb 1 n) (leb n 256 && eqb len (16 + n * 1312)) e .1) .0)
 
 pub size-is : (len n : ℕ) → sizeOk len n ≡ true → len ≡ 16 + n * 1312
 unfolding sizeOk

@@ -6,3 +6,4 @@ pub mod Store
 pub mod Plain
 pub mod Claims
 pub mod Purge
+pub mod Print

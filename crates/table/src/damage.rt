@@ -1,9 +1,14 @@
-// The damage test. It reads each byte at most once, apart from the key comparisons, and its zero checks vectorise.
+// The damage test. It reads each byte once, and keys once more for their fingerprints; its zero checks and the search for a
+// fingerprint vectorise.
 ghost use mathlib.Core.Path.{_≡_};
 ghost use mathlib.Core.Bool.{_&&_};
+ghost use mathlib.Core.List.{map};
 ghost use Prim.Native.Nat.{_+_, _*_, _≤_};
 ghost use lib.ListN.{length, drop};
+ghost use Rattle.octets.specs.Parts.{part};
+ghost use Rattle.table.specs.Row.{rowOf};
 ghost use Rattle.table.specs.Table.{chunks, rowCount, rowsOf};
+ghost use Rattle.table.specs.Print.{rowPrint};
 ghost use Rattle.table.specs.Lookup.{missing};
 ghost use Rattle.table.specs.Damage.{sizeOk, headOk, usedOk, rowSound, allSound, distinct, sound};
 use crate::Found;
@@ -57,33 +62,52 @@ fn is_missing(f: Found) -> bool
     }
 }
 
-// Whether the first of the rows from at is free, or none of the later ones has its key: what distinct asks of it.
-fn first_distinct(s: &[u8], at: usize, later: usize) -> bool
+// The fingerprint of a row's key, 0 where the row is free.
+fn row_print(r: &[u8]) -> u32
+    ensures { λ p. ⌜ p ≡ rowPrint (rowOf (now (r .entry))) ⌝ }
+{
+    if octets::be16(r, 0) == 0 {
+        return 0;
+    }
+    fingerprint::of_key(octets::part(r, 32, octets::be16(r, 2) as usize))
+}
+
+// Whether the first of the rows from at is free, or none of the later ones has its key: what distinct asks of it. Keys are
+// compared only where a later row has the first one's fingerprint.
+fn first_distinct(s: &[u8], at: usize, later: usize, p: u32, prints: &[u32]) -> bool
     requires { ⌜ at + (later + 1) * 1312 ≤ length (now s) ⌝ }
+    requires { ⌜ (p ≡ rowPrint (rowOf (part (now s) at 1312))) × (now prints ≡ map rowPrint (rowsOf later (drop (at + 1312) (now s)))) ⌝ }
     ensures { λ r. ⌜ (r && distinct (rowsOf later (drop (at + 1312) (now (s .entry))))) ≡ distinct (rowsOf (later + 1) (drop at (now (s .entry)))) ⌝ }
 {
     let r = octets::part(s, at, 1312);
     if octets::be16(r, 0) == 0 {
         return true;
     }
+    if !fingerprint::among(p, prints) {
+        return true;
+    }
     let key = octets::part(r, 32, octets::be16(r, 2) as usize);
     is_missing(crate::lookup::find_from(s, key, at + 1312, later, 0))
 }
 
+// From the last row to the first; the fingerprints of the rows seen stand at the end of prints.
 fn rows_distinct(s: &[u8], n: usize) -> bool
-    requires { ⌜ 16 + n * 1312 ≤ length (now s) ⌝ }
+    requires { ⌜ (16 + n * 1312 ≤ length (now s)) × (n ≤ 256) ⌝ }
     ensures { λ r. ⌜ r ≡ distinct (rowsOf n (drop 16 (now (s .entry)))) ⌝ }
 {
-    let mut at: usize = 16;
-    let mut rows = n;
-    while 0 < rows {
-        if !first_distinct(s, at, rows - 1) {
-            return false;
-        }
-        at += 1312;
-        rows -= 1;
+    let mut prints = [0u32; 256];
+    let mut at: usize = 16 + n * 1312;
+    let mut later: usize = 0;
+    let mut apart = true;
+    while later < n {
+        at -= 1312;
+        let p = row_print(octets::part(s, at, 1312));
+        let from = 256 - later;
+        apart = apart & first_distinct(s, at, later, p, &prints[from..]);
+        later += 1;
+        prints[from - 1] = p;
     }
-    true
+    apart
 }
 
 pub fn head_ok(h: Head) -> bool

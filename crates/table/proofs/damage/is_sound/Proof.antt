@@ -1,5 +1,5 @@
 use mathlib.Core.Path.{refl, sym, _∙_}
-use Rattle.table.proofs.Rows.{sound-is, size-is}
+use Rattle.table.proofs.Rows.{sound-is, size-is, size-most}
 use Rattle.table.specs.Table.{headOf}
 use borrow.Author.Tests.{not-true, not-false}
 use native.Mathlib.Omega.{arith}
@@ -44,7 +44,9 @@ returns-3 c =
     sym (sound-is s _ _ (c .before .before .before .before .before .before .before .rows-in .ensures) (c .before .before .before .before .head-of .ensures) ∙ rw (f1, f2, f3))
 
 rows-distinct-requires : tie.Need-rows-distinct-requires
-rows-distinct-requires c κs = let e = size-is _ _ (sym (c .before .before .before .before .before .before .size-ok .ensures) ∙ not-false _ (c .before .before .before .before .before .if1 .left)) in omega arith
+rows-distinct-requires c κs =
+    let k = sym (c .before .before .before .before .before .before .size-ok .ensures) ∙ not-false _ (c .before .before .before .before .before .if1 .left) in
+    omega (arith, size-is _ _ k, size-most _ _ k)
 
 returns-4 : tie.Need-returns-4
 returns-4 c =

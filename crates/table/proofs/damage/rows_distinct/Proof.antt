@@ -1,59 +1,124 @@
-use mathlib.Core.Bool.{Bool, _&&_}
-use Rattle.table.proofs.Rows.{none-left}
+use Prim.Native.Nat.{ℕ, _+_, _-_, _*_, _≤_, _<_}
+use mathlib.Core.Path.{_≡_, refl, sym, ap, _∙_}
+use mathlib.Core.List.{List, map}
+use native.Mathlib.Omega.{arith}
+use lib.ListN.{length, drop, length-drop, length-set}
+use lib.Seq.{take-all}
+use Rattle.table.specs.Row.{rowOf}
 use Rattle.table.specs.Damage.{distinct}
 use Rattle.table.specs.Table.{rowsOf}
-use borrow.Author.Tests.{not-true, not-false}
-use lib.ListN.{drop}
-use Prim.Native.Nat.{ℕ, _+_, _-_, _*_}
+use Rattle.table.specs.Print.{rowPrint}
+use Rattle.table.proofs.Prints.{prints-next, apart-next}
 use borrow.Author.Needs.{needs}
-use native.Mathlib.Omega.{arith}
-use mathlib.Core.Path.{_≡_, sym, ap, _∙_}
 use Rattle.table.proofs.damage.rows_distinct.Statement.{statement}
 use Rattle.table.proofs.damage.rows_distinct.Tie as tie
+use Rattle.table.proofs.damage.rows_distinct.Reads as reads
+use Rattle.table.proofs.damage.rows_distinct.Lts as lts
+use Rattle.octets.proofs.part.Reads as part-reads
+use Rattle.table.proofs.damage.first_distinct.Reads as first-distinct-reads
+use Rattle.table.proofs.damage.row_print.Reads as row-print-reads
 
 abbrev Inv-loop : tie.InvT-loop
-Inv-loop s n at₀ rows₀ at rows = (at + rows * 1312 ≡ 16 + n * 1312) × (distinct (rowsOf n (drop 16 s)) ≡ distinct (rowsOf rows (drop at s)))
+Inv-loop s n prints₀ at₀ later₀ apart₀ prints at later apart =
+    ((later ≤ n) × (at + later * 1312 ≡ 16 + n * 1312))
+    × ((length prints ≡ 256) × ((drop (256 - later) prints ≡ map rowPrint (rowsOf later (drop at s))) × (apart ≡ distinct (rowsOf later (drop at s)))))
 
 abbrev μ-loop : tie.MeasureT-loop
-μ-loop s n at₀ rows₀ at rows = rows
+μ-loop s n prints₀ at₀ later₀ apart₀ prints at later apart = n - later
 
-loop-holds : tie.Need-loop-holds Inv-loop μ-loop
-loop-holds c = search needs
-
-sub-first-distinct : tie.Need-sub-first-distinct Inv-loop μ-loop
-sub-first-distinct c = search needs
-
-first-distinct-requires : tie.Need-first-distinct-requires Inv-loop μ-loop
-first-distinct-requires c κs = search needs
-
-returns : tie.Need-returns Inv-loop μ-loop
-returns c =
-    let s = c .before .before .before .before .before .args .s .now in
-    let p = c .before .before .before .loop in
-    let e : p .rows - 1 + 1 ≡ p .rows = omega arith in
-    sym (p .inv .1 ∙ sym (c .before .first-distinct .ensures ∙ ap (λ (m : ℕ). distinct (rowsOf m (drop (p .at) s))) e) ∙ ap (λ (t : Bool). t && distinct (rowsOf (p .rows - 1) (drop (p .at + 1312) s))) (not-true (c .before .first-distinct .result) (c .if1 .taken)))
+mul-at : tie.Need-mul-at Inv-loop μ-loop
+mul-at c = search needs
 
 add-at : tie.Need-add-at Inv-loop μ-loop
 add-at c = search needs
 
-sub-rows : tie.Need-sub-rows Inv-loop μ-loop
-sub-rows c = search needs
+loop-holds : tie.Need-loop-holds Inv-loop μ-loop
+loop-holds c = ((omega arith, omega arith), (refl, (refl, refl)))
+
+sub-at : tie.Need-sub-at Inv-loop μ-loop
+sub-at c = search needs
+
+part-requires : tie.Need-part-requires Inv-loop μ-loop
+part-requires c κs = search needs
+
+row-print-requires : tie.Need-row-print-requires Inv-loop μ-loop
+row-print-requires c κs = search needs
+
+sub-from : tie.Need-sub-from Inv-loop μ-loop
+sub-from c = search needs
+
+mul-first-distinct : tie.Need-mul-first-distinct Inv-loop μ-loop
+mul-first-distinct c = search needs
+
+sub-first-distinct : tie.Need-sub-first-distinct Inv-loop μ-loop
+sub-first-distinct c = search needs
+
+part-first-distinct-start : tie.Need-part-first-distinct-start Inv-loop μ-loop
+part-first-distinct-start c = search needs
+
+part-first-distinct-end : tie.Need-part-first-distinct-end Inv-loop μ-loop
+part-first-distinct-end c = search needs
+
+first-distinct-requires : tie.Need-first-distinct-requires Inv-loop μ-loop
+first-distinct-requires c κs =
+    let q = c .before .before .before .before .before in
+    let l = q .loop in
+    let s = q .before .before .args .s .now in
+    let inv = l .inv in
+    let there = q .before .before .pre in
+    let a : l .at - 1312 + 1312 ≡ l .at = omega (arith, inv .0 .1) in (
+      omega (arith, inv .0 .1, there .0),
+      (
+        c .before .before .row-print .ensures ∙ ap (λ (r : List ℕ). rowPrint (rowOf r)) (c .before .before .before .part .ensures),
+        take-all (256 - (256 - l .later)) (drop (256 - l .later) (l .prints)) (omega (arith, length-drop (256 - l .later) (l .prints), inv .1 .0))
+            ∙ inv .1 .1 .0 ∙ sym (ap (λ (m : ℕ). map rowPrint (rowsOf (l .later) (drop m s))) a),
+      ),
+    )
+
+add-later : tie.Need-add-later Inv-loop μ-loop
+add-later c = search needs
+
+sub-prints : tie.Need-sub-prints Inv-loop μ-loop
+sub-prints c = search needs
+
+mul-prints : tie.Need-mul-prints Inv-loop μ-loop
+mul-prints c = search needs
+
+array-write-prints : tie.Need-array-write-prints Inv-loop μ-loop
+array-write-prints c = search needs
 
 loop-less : tie.Need-loop-less Inv-loop μ-loop
 loop-less c = search needs
 
 loop-again : tie.Need-loop-again Inv-loop μ-loop
 loop-again c =
-    let s = c .before .before .before .before .before .args .s .now in
-    let p = c .before .before .before .loop in
-    let e : p .rows - 1 + 1 ≡ p .rows = omega arith in
-    (omega arith, p .inv .1 ∙ sym (c .before .first-distinct .ensures ∙ ap (λ (m : ℕ). distinct (rowsOf m (drop (p .at) s))) e) ∙ ap (λ (t : Bool). t && distinct (rowsOf (p .rows - 1) (drop (p .at + 1312) s))) (not-false (c .before .first-distinct .result) (c .if1 .left)))
+    let q = c .before .before .before .before .before .before in
+    let l = q .loop in
+    let s = q .before .before .args .s .now in
+    let inv = l .inv in
+    let there = q .before .before .pre in
+    let low : 1312 ≤ l .at = omega (arith, inv .0 .1) in
+    let few : l .later < 256 = omega (arith, there .1) in
+    let p = c .before .before .before .row-print .ensures ∙ ap (λ (r : List ℕ). rowPrint (rowOf r)) (c .before .before .before .before .part .ensures) in (
+      (omega arith, omega (arith, inv .0 .1)),
+      (
+        length-set (l .prints) (256 - l .later - 1) (c .before .before .before .row-print .result) ∙ inv .1 .0,
+        (
+          prints-next s (l .at) (l .later) low (l .prints) (c .before .before .before .row-print .result) (inv .1 .0) few p (inv .1 .1 .0),
+          apart-next s (l .at) (l .later) low (l .apart) (c .first-distinct .result) (inv .1 .1 .1) (c .first-distinct .ensures),
+        ),
+      ),
+    )
 
-returns-2 : tie.Need-returns-2 Inv-loop μ-loop
-returns-2 c =
+returns : tie.Need-returns Inv-loop μ-loop
+returns c =
+    let l = c .before .loop in
     let s = c .before .before .before .args .s .now in
-    let p = c .before .loop in
-    sym (p .inv .1 ∙ rw (none-left (p .rows) (drop (p .at) s) (omega arith)))
+    let n = c .before .before .before .args .n in
+    let inv = l .inv in
+    let e : l .later ≡ n = omega (arith, inv .0 .0) in
+    let a : l .at ≡ 16 = omega (arith, inv .0 .1) in
+    inv .1 .1 .1 ∙ (λ i. distinct (rowsOf (e i) (drop (a i) s)))
 
 pub rows-distinct-spec : {M : Type 1} → statement M
 rows-distinct-spec =
@@ -61,12 +126,22 @@ rows-distinct-spec =
     (tie.spec
     Inv-loop
     μ-loop
-    loop-holds
-    sub-first-distinct
-    first-distinct-requires
-    returns
+    mul-at
     add-at
-    sub-rows
+    loop-holds
+    sub-at
+    part-requires
+    row-print-requires
+    sub-from
+    mul-first-distinct
+    sub-first-distinct
+    part-first-distinct-start
+    part-first-distinct-end
+    first-distinct-requires
+    add-later
+    sub-prints
+    mul-prints
+    array-write-prints
     loop-less
     loop-again
-    returns-2)
+    returns)

@@ -1,0 +1,85 @@
+-- Fingerprints of rows: a row's own, what it means that a key's is not among those of some rows, and one more row seen.
+use Prim.Native.Nat.{ℕ, zero, suc, _+_, _-_, _≤_, _<_}
+use mathlib.Core.Path.{_≡_, refl, sym, ap, _∙_}
+use mathlib.Core.Bool.{Bool, true, false, _&&_, _||_, and-comm}
+use mathlib.Core.List.{List, [], _∷_, map}
+use mathlib.Core.Option.{none, some}
+use native.Mathlib.Omega.{arith}
+use native.Mathlib.Numerals.{add-one}
+use lib.Dec.{eqb}
+use lib.ListN.{length, drop, set}
+use borrow.Author.Tests.{eq-eqb}
+use Rattle.octets.specs.Parts.{part}
+use Rattle.octets.specs.BigEndian.{num}
+use Rattle.octets.specs.Compare.{same}
+use Rattle.octets.proofs.Choices.{cases}
+use Rattle.octets.proofs.Tests.{same-true}
+use Rattle.fingerprint.specs.Fingerprint.{fingerprint, among}
+use Rattle.table.specs.Row.{Row, rowOf, keyOf, slotOf}
+use Rattle.table.specs.Table.{rowsOf}
+use Rattle.table.specs.Lookup.{findIn, missing}
+use Rattle.table.specs.Damage.{distinct}
+use Rattle.table.specs.Print.{rowPrint}
+use Rattle.table.proofs.Rows.{row-free, row-used, first-row, distinct-used}
+
+module _ (r : List ℕ) where
+  pub print-free : num r 0 2 ≡ 0 → rowPrint (rowOf r) ≡ 0
+  print-free e = rw (row-free r e)
+
+  pub print-used : (num r 0 2 ≡ 0 → ⊥) → rowPrint (rowOf r) ≡ fingerprint (part r 32 (num r 2 2))
+  unfolding keyOf slotOf
+  print-used e = rw (row-used r e)
+
+-- neither of two tests that are false together
+neither : (a b : Bool) → (a || b) ≡ false → (a ≡ false) × (b ≡ false)
+neither true b e = absurd (let z : _≡_ {A = ℕ} 0 1 = cc in omega arith)
+neither false b e = (refl, e)
+
+-- a key whose fingerprint no row has is no row's
+pub not-among : (key : List ℕ) (i : ℕ) (ws : List Row) → among (fingerprint key) (map rowPrint ws) ≡ false → missing (findIn key i ws) ≡ true
+unfolding among
+not-among key i [] e = refl
+not-among key i (none ∷ ws) e = not-among key (i + 1) ws (neither (eqb 0 (fingerprint key)) _ e .1)
+not-among key i (some x ∷ ws) e =
+    let n = neither (eqb (fingerprint (x .key)) (fingerprint key)) _ e in
+    cases (same (x .key) key)
+    (λ t.
+    let z = eq-eqb (fingerprint (x .key)) (fingerprint key) (ap fingerprint (same-true (x .key) key t)) in
+    let f : false ≡ true = sym (n .0) ∙ z in
+    absurd (let y : _≡_ {A = ℕ} 0 1 = cc in omega arith))
+    (λ t. rw t (not-among key (i + 1) ws (n .1)))
+
+pub distinct-unprinted : (s : List ℕ) (at later : ℕ) → (num (part s at 1312) 0 2 ≡ 0 → ⊥)
+    → among (rowPrint (rowOf (part s at 1312))) (map rowPrint (rowsOf later (drop (at + 1312) s))) ≡ false
+    → distinct (rowsOf later (drop (at + 1312) s)) ≡ distinct (rowsOf (later + 1) (drop at s))
+distinct-unprinted s at later u e =
+    let r = part s at 1312 in
+    let k = part r 32 (num r 2 2) in
+    let m = not-among k 0 (rowsOf later (drop (at + 1312) s)) (ap (λ (p : ℕ). among p (map rowPrint (rowsOf later (drop (at + 1312) s)))) (sym (print-used r u)) ∙ e) in
+    sym (ap (λ (t : Bool). t && distinct (rowsOf later (drop (at + 1312) s))) m) ∙ distinct-used s at later u
+
+-- ---- one more row seen
+drop-set : (xs : List ℕ) (i v : ℕ) → i < length xs → drop i (set xs i v) ≡ v ∷ drop (suc i) xs
+drop-set [] i v h = absurd (let z : ⊥ = omega arith in z)
+drop-set (x ∷ xs) zero v h = refl
+drop-set (x ∷ xs) (suc i) v h = drop-set xs i v (omega arith)
+
+module _ (s : List ℕ) (at later : ℕ) (h : 1312 ≤ at) where
+  one-more : rowsOf (later + 1) (drop (at - 1312) s) ≡ rowOf (part s (at - 1312) 1312) ∷ rowsOf later (drop at s)
+  one-more = let e : at - 1312 + 1312 ≡ at = omega arith in first-row s (at - 1312) later ∙ ap (λ (a : ℕ). rowOf (part s (at - 1312) 1312) ∷ rowsOf later (drop a s)) e
+
+  pub prints-next : (prints : List ℕ) (p : ℕ) → length prints ≡ 256 → later < 256 → p ≡ rowPrint (rowOf (part s (at - 1312) 1312))
+      → drop (256 - later) prints ≡ map rowPrint (rowsOf later (drop at s))
+      → drop (256 - (later + 1)) (set prints (256 - later - 1) p) ≡ map rowPrint (rowsOf (later + 1) (drop (at - 1312) s))
+  prints-next prints p l k e f =
+      let a : 256 - (later + 1) ≡ 256 - later - 1 = omega arith in
+      let b : suc (256 - later - 1) ≡ 256 - later = omega arith in
+      ap (λ (i : ℕ). drop i (set prints (256 - later - 1) p)) a ∙ drop-set prints (256 - later - 1) p (omega arith) ∙ ap (λ (i : ℕ). p ∷ drop i prints) b
+      ∙ (λ i. e i ∷ f i) ∙ sym (ap (map rowPrint) one-more)
+
+  pub apart-next : (apart r : Bool) → apart ≡ distinct (rowsOf later (drop at s))
+      → (r && distinct (rowsOf later (drop (at - 1312 + 1312) s))) ≡ distinct (rowsOf (later + 1) (drop (at - 1312) s))
+      → (apart && r) ≡ distinct (rowsOf (later + 1) (drop (at - 1312) s))
+  apart-next apart r e f =
+      let a : at - 1312 + 1312 ≡ at = omega arith in
+      and-comm apart r ∙ ap (λ (t : Bool). r && t) (e ∙ sym (ap (λ (m : ℕ). distinct (rowsOf later (drop m s))) a)) ∙ f
