@@ -71,19 +71,3 @@ fits-found mark (some x ∷ ws) k m g =
     cases (same (x .key) k)
     (λ s. rw s (record { flags = g .0 .flags; expiry = g .0 .expiry; revision = g .0 .revision; cas = omega (arith, g .0 .cas-most) }))
     (λ s. rw s (fits-found mark ws k m (g .1)))
-
--- a whole frame stands in the bytes
-stopped {ℓ} : {X : Type ℓ} (n need : ℕ) (h : Header) → Stop n need ≡ Whole h → X
-stopped n need h e = absurd (let y : _≡_ {A = ℕ} 0 1 = cc in omega arith)
-
-pub whole-inside : (s : List ℕ) (h : Header) → gateOf s ≡ Whole h → 24 + h .body ≤ length s
-unfolding gateOf
-whole-inside s h e =
-    cond-elim (ltb (length s) 24) _ _ _ e (λ t z. stopped _ _ h z)
-    (λ t e. cond-elim (not (eqb (headerOf s .magic) 0x80)) _ _ _ e (λ t z. stopped _ _ h z)
-    (λ t e. cond-elim (ltb 1400 (headerOf s .body)) _ _ _ e (λ t z. stopped _ _ h z)
-    (λ t e. cond-elim (ltb (length s) (24 + headerOf s .body)) _ _ _ e (λ t z. stopped _ _ h z)
-    (λ t z.
-    let l = ltb-false (length s) (24 + headerOf s .body) t in
-    let y : headerOf s ≡ h = cc in
-    rw y at l))))

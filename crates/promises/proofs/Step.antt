@@ -31,15 +31,13 @@ use Rattle.table.proofs.Places.{place-room}
 use Rattle.table.proofs.TableLaws.{good-sound}
 use Rattle.table.proofs.ChangeLaws.{store-good}
 use Rattle.merge.specs.Merge.{storeRow}
+use Rattle.request.proofs.Gated.{whole-frame}
 use Rattle.serving.specs.Change.{storedAt}
+use Rattle.serving.proofs.Storing.{stored-none}
 use Rattle.serving.specs.Serve.{goesOn, decisionOn, answerOn, frameTable}
 use Rattle.promises.specs.Step.{stepTable, Steps, StepGood}
 use Rattle.promises.proofs.Formed.{form, command-right}
-use Rattle.promises.proofs.Kept.{decide-keeps, fits-found, whole-inside}
-
-stored-none : (b : List ℕ) (f : Found) (key : Key) (mark : ℕ) → storedAt b f key none mark ≡ b
-stored-none b (At i) key mark = refl
-stored-none b Nothing key mark = refl
+use Rattle.promises.proofs.Kept.{decide-keeps, fits-found}
 
 module _ (t : Table) (clock : ℕ) (s : List ℕ) (h : Header) (g : Good t) where
   abbrev key : Key
@@ -133,4 +131,4 @@ module _ (t : Table) (clock : ℕ) (s : List ℕ) (h : Header) (g : Good t) wher
         stored
 
 pub step-good : StepGood
-step-good t clock s h g y w = cases (goesOn (frameStatus s h)) (went t clock s h g y (whole-inside s h w)) (refused t clock s h g)
+step-good t clock s h g y w = cases (goesOn (frameStatus s h)) (went t clock s h g y (whole-frame s h w .inside)) (refused t clock s h g)

@@ -32,7 +32,7 @@ use Rattle.serving.specs.declared.Served.the-variants.{Done}
 use Rattle.serving.specs.Reply.{replyBytes}
 use Rattle.serving.specs.Change.{storedAt, heldAt, valueIn}
 use Rattle.serving.specs.Serve.{gateAll, goesOn, refusal, decisionOn, answerOn, frameTable, frameReply, answerBy}
-use Rattle.serve.proofs.Storing.{stored-none}
+use Rattle.serving.proofs.Storing.{stored-none}
 use Rattle.serve.proofs.Lookups.{held-found, value-found, free-found, value-place}
 
 module _ (b s : List ℕ) (clock : ℕ) (h : Header) (f free : Found)
@@ -101,10 +101,3 @@ module _ (b s : List ℕ) (clock : ℕ) (h : Header) (g : goesOn (frameStatus s 
 pub refusal-length : (op opaque : ℕ) (hd : Head) (st : ℕ) → length (replyBytes op opaque (refusal hd st) [] []) ≡ 24
 unfolding replyBytes
 refusal-length op opaque hd st = rw append-nil (length-header _)
-
--- a frame that is served: the table is sound, and there is room
-pub gate-whole : (b s : List ℕ) (room : ℕ) (h : Header) → gateAll b room s ≡ Whole h → (sound b ≡ true) × (1302 ≤ room)
-unfolding gateAll
-gate-whole b s room h e =
-    cond-elim (not (sound b)) _ _ _ e (λ t z. absurd (let y : _≡_ {A = ℕ} 0 1 = cc in omega arith))
-    (λ t e₁. cond-elim (ltb room 1302) _ _ _ e₁ (λ u z. absurd (let y : _≡_ {A = ℕ} 0 1 = cc in omega arith)) (λ u z. (not-false (sound b) t, ltb-false _ _ u)))

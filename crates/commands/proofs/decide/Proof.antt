@@ -8,9 +8,9 @@ use Rattle.commands.proofs.decide.Reads as reads
 use Rattle.commands.proofs.decide.Lts as lts
 use Rattle.commands.proofs.effects.done_of.Reads as done-of-reads
 use Rattle.commands.proofs.effects.nothing.Reads as nothing-reads
-use Rattle.commands.proofs.rules.rule_of.Reads as rule-of-reads
-use Rattle.commands.proofs.rules.status_of.Reads as status-of-reads
-use Rattle.commands.proofs.rules.tests_of.Reads as tests-of-reads
+use Rattle.commands.proofs.judging.rule_of.Reads as rule-of-reads
+use Rattle.commands.proofs.judging.status_of.Reads as status-of-reads
+use Rattle.commands.proofs.judging.tests_of.Reads as tests-of-reads
 use Rattle.numbers.proofs.mode_of.Reads as mode-of-reads
 
 -- src/lib.rt:142:28

@@ -1,4 +1,4 @@
-use Rattle.serve.proofs.Joint.{gate-whole}
+use Rattle.serving.proofs.Gated.{was-open}
 use Rattle.serving.specs.Serve.{answerBy, tableBy, replyBy}
 use Rattle.serving.specs.Serve.{served, servedTable, servedReply}
 use lib.ListN.{length}
@@ -28,7 +28,7 @@ enum-known-h c = search needs
 
 -- src/lib.rt:141:27
 serve-whole-requires : tie.Need-serve-whole-requires
-serve-whole-requires c κs = gate-whole (now ((c .before .before .before .before .before .before .before .before .before .before .args) .b)) (now ((c .before .before .before .before .before .before .before .before .before .before .args) .s)) (length (now ((c .before .before .before .before .before .before .before .before .before .before .args) .out))) ((c .before .before .before .h) .given .0 .0) (sym ((c .before .before .before .before .before .gate-all) .ensures) ∙ (c .before .before .before .h) .given .1)
+serve-whole-requires c κs = let w = was-open (now ((c .before .before .before .before .before .before .before .before .before .before .args) .b)) (now ((c .before .before .before .before .before .before .before .before .before .before .args) .s)) (length (now ((c .before .before .before .before .before .before .before .before .before .before .args) .out))) ((c .before .before .before .h) .given .0 .0) (sym ((c .before .before .before .before .before .gate-all) .ensures) ∙ (c .before .before .before .h) .given .1) in (w .undamaged, w .roomy)
 
 -- src/lib.rt:134:1
 same-length : tie.Need-same-length

@@ -6,8 +6,8 @@ use Rattle.commands.proofs.effects.meta_done.Reads as reads
 use Rattle.commands.proofs.effects.meta_done.Lts as lts
 use Rattle.commands.proofs.effects.kept.Reads as kept-reads
 use Rattle.commands.proofs.effects.meta_numbers.Reads as meta-numbers-reads
-use Rattle.commands.proofs.rules.is_delete.Reads as is-delete-reads
-use Rattle.commands.proofs.rules.source_of.Reads as source-of-reads
+use Rattle.commands.proofs.judging.is_delete.Reads as is-delete-reads
+use Rattle.commands.proofs.judging.source_of.Reads as source-of-reads
 
 -- src/effects.rt:158:9
 is-delete-requires : tie.Need-is-delete-requires

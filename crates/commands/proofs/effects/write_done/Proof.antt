@@ -6,8 +6,8 @@ use Rattle.commands.proofs.effects.write_done.Reads as reads
 use Rattle.commands.proofs.effects.write_done.Lts as lts
 use Rattle.commands.proofs.effects.kept.Reads as kept-reads
 use Rattle.commands.proofs.effects.plain_numbers.Reads as plain-numbers-reads
-use Rattle.commands.proofs.rules.is_delete.Reads as is-delete-reads
-use Rattle.commands.proofs.rules.source_of.Reads as source-of-reads
+use Rattle.commands.proofs.judging.is_delete.Reads as is-delete-reads
+use Rattle.commands.proofs.judging.source_of.Reads as source-of-reads
 use Rattle.numbers.proofs.absolute.Reads as absolute-reads
 
 -- src/effects.rt:80:9
