@@ -2,28 +2,23 @@
 use mathlib.Core.Bool.{cond}
 use native.Mathlib.Omega.{arith}
 use mathlib.Core.Path.{_≡_, refl, sym, ap, _∙_}
-use mathlib.Core.Logic.{⊎-elim}
-use mathlib.Core.List.{List, [], _∷_, _++_}
-use mathlib.Core.Option.{Option, none, some}
+use mathlib.Core.List.{[], _∷_}
 use Prim.Native.Nat.{ℕ, _≤_}
 use lib.Dec.{eqb}
 use borrow.Author.Needs.{needs}
 use Rattle.octets.specs.Compare.{same}
-use Rattle.octets.proofs.Choices.{cases}
 use Rattle.digits.specs.Decimal.{numberOf, numberFrom, allDigits, isDigit, valueFrom}
 use Rattle.numbers.specs.declared.Numbers.{Numbers}
 use Rattle.numbers.specs.Order.{greater, above, lead, second}
 use Rattle.numbers.specs.Expiry.{expired}
-use Rattle.engine.specs.Documents.{Key, Doc, Entry}
+use Rattle.engine.specs.Documents.{Key, Doc}
 use Rattle.engine.specs.Stored.{accepted, live}
-use Rattle.table.specs.Row.{Row}
-use Rattle.table.specs.Plain.{plain, findRow}
-use Rattle.table.proofs.PlainLaws.{none-some}
+use Rattle.table.specs.Plain.{plain}
 use Rattle.commands.specs.Rules.{ruleOf, testsOf, statusOf, firstFailure}
 use Rattle.commands.specs.Done.{decision, doneOf}
 use Rattle.commands.specs.Decide.{decide}
-use Rattle.merge.specs.Writes.{_∈_, held, for}
-use Rattle.merge.specs.Merge.{Premises, All, docIn, candidates, writes, effectOn, tableOn}
+use Rattle.merge.specs.Writes.{_∈_, for}
+use Rattle.merge.specs.Merge.{Premises, docIn, candidates, writes, effectOn, tableOn}
 use Rattle.merge.specs.Worked.{table, calls, Worked}
 use Rattle.merge.proofs.Candidates.{found-all, for-all, candidates-all}
 

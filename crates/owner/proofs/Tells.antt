@@ -2,14 +2,14 @@
 use native.Mathlib.Omega.{arith}
 use mathlib.Core.Path.{_≡_, refl, sym, ap, _∙_}
 use mathlib.Core.Logic.{_⊎_, ⊎-elim}
-use mathlib.Core.Bool.{Bool, true, false, _&&_, cond}
+use mathlib.Core.Bool.{Bool, true, false, cond}
 use mathlib.Core.List.{List, [], _∷_}
 use mathlib.Core.Option.{Option, none, some}
 use Prim.Native.Nat.{ℕ, zero, suc, _+_, _*_, _≤_, _<_}
-use lib.Dec.{leb, eqb}
+use lib.Dec.{eqb}
 use lib.ListN.{length, take, drop, getD, List·getD-map}
 use lib.Seq.{take-take, drop-drop}
-use borrow.Author.Tests.{leb-true, lt-ltb}
+use borrow.Author.Tests.{lt-ltb}
 use Rattle.octets.specs.Parts.{part}
 use Rattle.octets.specs.BigEndian.{be, beFrom}
 use Rattle.octets.specs.Compare.{same, zeros}
@@ -23,7 +23,7 @@ use Rattle.table.specs.declared.Found.the-variants.{At}
 use Rattle.table.specs.Row.{Row, slotOf, docOf, keyOf, rowOf}
 use Rattle.table.specs.Table.{headOf, chunks, rowCount, rowsOf, tableOf, fresh}
 use Rattle.table.specs.Lookup.{findIn}
-use Rattle.table.specs.Damage.{kindOk, usedOk, rowSound, allSound, sound}
+use Rattle.table.specs.Damage.{usedOk, rowSound, allSound, sound}
 use Rattle.table.specs.Store.{rowAt, valueAt}
 use Rattle.table.specs.Plain.{findRow}
 use Rattle.table.specs.Purge.{purgedTable}

@@ -2,29 +2,23 @@
 use Prim.Native.Nat.{ℕ}
 use mathlib.Core.Path.{_≡_, refl, sym, _∙_}
 use mathlib.Core.List.{List}
-use mathlib.Core.Option.{Option, none}
-use native.Mathlib.Omega.{arith}
-use lib.ListN.{length}
+use mathlib.Core.Option.{none}
 use lib.Dec.{ltb}
 use Rattle.octets.proofs.Choices.{cases}
 use Rattle.header.specs.declared.Header.{Header}
 use Rattle.request.specs.declared.Gate.{Gate}
 use Rattle.request.specs.declared.Gate.the-variants.{Stop, Whole}
 use Rattle.request.specs.Reading.{frameStatus, bytesIn, keySpan}
-use Rattle.engine.specs.Documents.{Key, Doc}
 use Rattle.commands.specs.Decide.{decide}
 use Rattle.commands.proofs.Stores.{refused-keeps as decided-keeps}
 use Rattle.asks.specs.Asks.{requestOf}
-use Rattle.table.specs.declared.Found.{Found}
-use Rattle.table.specs.declared.Found.the-variants.{At, Nothing}
 use Rattle.table.specs.Table.{Table, tableOf}
 use Rattle.table.specs.Lookup.{placeIn}
 use Rattle.table.specs.Plain.{findRow, freeRows}
-use Rattle.serving.specs.declared.Served.the-variants.{Refused, Done}
-use Rattle.serving.specs.Change.{storedAt}
+use Rattle.serving.specs.declared.Served.the-variants.{Done}
 use Rattle.serving.proofs.Gated.{refused-keeps as call-keeps}
 use Rattle.serving.proofs.Storing.{stored-none}
-use Rattle.serving.specs.Serve.{goesOn, decisionOn, answerOn, frameTable, answerBy, tableBy, replyBy, served, servedTable, servedReply, gateAll}
+use Rattle.serving.specs.Serve.{goesOn, decisionOn, answerOn, frameTable, answerBy, tableBy, served, servedTable, gateAll}
 use Rattle.promises.specs.Table.{RefusedKeeps, StatusKeeps}
 
 pub refused-keeps : RefusedKeeps

@@ -1,15 +1,13 @@
 -- What a decision stores, and for which key: nothing stored keeps the head, and only a command with a key stores.
 use native.Mathlib.Omega.{arith}
-use Prim.Native.Nat.{ℕ, _+_, _^_, _≤_, _<_}
+use Prim.Native.Nat.{ℕ, _^_, _≤_, _<_}
 use mathlib.Core.Path.{_≡_, refl, sym}
-use mathlib.Core.Bool.{Bool, not}
+use mathlib.Core.Bool.{Bool}
 use mathlib.Core.List.{List, [], _∷_}
 use mathlib.Core.Option.{Option, none, some}
-use lib.ListN.{length}
-use lib.Dec.{eqb, ltb}
-use borrow.Author.Tests.{ltb-false}
+use lib.Dec.{eqb}
 use Rattle.octets.specs.Compare.{same}
-use Rattle.octets.proofs.Choices.{cases, cond-elim}
+use Rattle.octets.proofs.Choices.{cases}
 use Rattle.digits.specs.declared.Number.{Number}
 use Rattle.digits.specs.Decimal.{numberOf}
 use Rattle.numbers.specs.Order.{modeOf}
@@ -17,10 +15,6 @@ use Rattle.engine.specs.declared.Head.{Head}
 use Rattle.engine.specs.declared.Stored.{Stored}
 use Rattle.engine.specs.Documents.{Key, Doc}
 use Rattle.engine.specs.Stored.{live, numbersOf, storedOf}
-use Rattle.header.specs.declared.Header.{Header}
-use Rattle.header.specs.Header.{headerOf}
-use Rattle.request.specs.declared.Gate.the-variants.{Stop, Whole}
-use Rattle.request.specs.Reading.{gateOf}
 use Rattle.commands.specs.declared.Done.{Done}
 use Rattle.commands.specs.declared.Command.{Command}
 use Rattle.commands.specs.declared.Command.the-variants.{Get, Write, Count, Noop, Version, WithMeta}

@@ -8,7 +8,7 @@ use native.Mathlib.Omega.{arith}
 use lib.ListN.{length}
 use lib.Dec.{ltb, eqb}
 use borrow.Author.Tests.{eqb-true, eqb-false, not-true, ltb-false}
-use Rattle.octets.proofs.Choices.{cases, cond-elim, either as one-of}
+use Rattle.octets.proofs.Choices.{cond-elim, either as one-of}
 use Rattle.octets.proofs.Lists.{part-length, part-most}
 use Rattle.numbers.specs.declared.Mode.{Mode}
 use Rattle.numbers.specs.declared.Mode.the-variants.{ByRevision, LastWrite}
@@ -20,9 +20,8 @@ use Rattle.rules.specs.declared.WithMeta.{WithMeta}
 use Rattle.rules.specs.WithMeta.{withMeta}
 use Rattle.rules.specs.Rules.{formOk, fieldRulesOk, metaSize, judged, status}
 use Rattle.rules.proofs.RuleLaws.{parts-inside}
-use Rattle.request.specs.declared.Gate.the-variants.{Whole}
 use Rattle.request.proofs.Gated.{whole-frame}
-use Rattle.request.specs.Reading.{gateOf, frameStatus, extrasSpan, valueSpan, bytesIn}
+use Rattle.request.specs.Reading.{frameStatus, extrasSpan, valueSpan, bytesIn}
 use Rattle.commands.specs.declared.Kind.{Kind}
 use Rattle.commands.specs.declared.Kind.the-variants.{Set, Delete}
 use Rattle.commands.specs.declared.Command.{Command}

@@ -1,7 +1,7 @@
 -- One whole frame on a good table: the bytes it leaves are those of a table that is good again.
 use native.Mathlib.Omega.{arith}
 use Prim.Native.Nat.{ℕ, _+_, _≤_, _<_}
-use mathlib.Core.Path.{_≡_, refl, sym, ap, _∙_, subst}
+use mathlib.Core.Path.{_≡_, sym, ap, _∙_, subst}
 use mathlib.Core.Bool.{true, false}
 use mathlib.Core.List.{List}
 use mathlib.Core.Option.{Option, none, some}
@@ -20,8 +20,6 @@ use Rattle.commands.specs.Decide.{Answer, decide}
 use Rattle.commands.specs.Claims.{StoredSound}
 use Rattle.commands.proofs.Stores.{stores-with-room, stores-sound}
 use Rattle.asks.specs.Asks.{requestOf}
-use Rattle.table.specs.declared.Found.{Found}
-use Rattle.table.specs.declared.Found.the-variants.{At, Nothing}
 use Rattle.table.specs.Table.{Table, tableBytes, withMark}
 use Rattle.table.specs.Lookup.{placeIn}
 use Rattle.table.specs.Plain.{plain, findRow, freeRows}

@@ -1,20 +1,18 @@
 -- The claims of specs/Claims.antt: what was written reads back, what was read is written again, and what is not written is not read.
-use Prim.Native.Nat.{ℕ, _+_, _-_, _^_, _≤_, _<_}
+use Prim.Native.Nat.{ℕ, _+_, _-_, _^_, _≤_}
 use mathlib.Core.Path.{_≡_, refl, sym, ap, ap₂, _∙_}
-use mathlib.Core.List.{List, [], _∷_, _++_}
-use mathlib.Core.Bool.{Bool, true, false, not, _&&_, cond}
+use mathlib.Core.List.{List, [], _++_}
+use mathlib.Core.Bool.{true, false, not, cond}
 use native.Mathlib.Omega.{arith}
-use native.Mathlib.Nat.{zero-add}
 use lib.ListN.{length, take, drop}
-use lib.Dec.{ltb, leb, eqb}
-use borrow.Author.Tests.{ltb-false, ltb-true, eqb-true, lt-ltb, le-ltb, not-false, not-true, leb-true, leb-false}
+use lib.Dec.{ltb, eqb}
+use borrow.Author.Tests.{ltb-false, ltb-true, eqb-true, lt-ltb, not-false, not-true}
 use Rattle.octets.specs.Parts.{Bytes, part, pasted, written}
-use Rattle.octets.specs.BigEndian.{num}
 use Rattle.octets.proofs.Choices.{cases, cond-elim}
 use Rattle.octets.proofs.Lists.{written-fits, part-length, glue}
 use Rattle.octets.proofs.Numbers.{num-below}
 use Rattle.header.specs.declared.Header.{Header}
-use Rattle.header.specs.Header.{headerOf, headerBytes, Fits as HeaderFits}
+use Rattle.header.specs.Header.{headerOf, headerBytes}
 use Rattle.header.proofs.HeaderLaws.{header-again}
 use Rattle.rules.specs.Rules.{status}
 use Rattle.rules.proofs.RuleLaws.{parts-inside}
@@ -22,16 +20,14 @@ use Rattle.request.specs.declared.Fields.{Fields}
 use Rattle.request.specs.declared.Frame.{Frame}
 use Rattle.request.specs.declared.Gate.{Gate}
 use Rattle.request.specs.declared.Gate.the-variants.{Stop, Whole}
-use Rattle.request.specs.declared.Reading.{Reading}
-use Rattle.request.specs.declared.Reading.the-variants.{Outcome, Status, Accepted}
-use Rattle.request.specs.declared.Written.{Written}
-use Rattle.request.specs.declared.Written.the-variants.{Refused, NoRoom, Wrote}
+use Rattle.request.specs.declared.Reading.the-variants.{Accepted}
+use Rattle.request.specs.declared.Written.the-variants.{Refused, Wrote}
 use Rattle.request.specs.Reading.{gateOf, gated, extrasSpan, keySpan, valueSpan, bytesIn, fieldsOf, frameOf, frameStatus, wholeReading, reading}
-use Rattle.request.specs.Writing.{headerFor, frameBytes, held, refuses, writing, outputOf, Fits}
+use Rattle.request.specs.Writing.{headerFor, frameBytes, held, refuses, writing, Fits}
 use Rattle.request.specs.Claims.{Reads, WrittenReads, Writes, ReadWrites, RefusedReads, HeaderHolds}
 use Rattle.request.proofs.Gated.{WholeFrame, whole-frame}
 use Rattle.request.proofs.Frames.{h, frame, body, extras-back, key-back, value-back, reading-long, reading-frame}
-use Rattle.request.proofs.WriterLaws.{alone, frame-size, wrote}
+use Rattle.request.proofs.WriterLaws.{alone, wrote}
 
 -- what a written frame has shown: a header holds its lengths, reading does not refuse it, and it fits
 pub record WasWritten (f : Fields) (extras key value : List ℕ) (room n : ℕ) : Type 0 where

@@ -9,7 +9,6 @@ use Rattle.request.specs.declared.Gate.the-variants.{Stop, Whole}
 use Rattle.serving.specs.declared.Served.{Served}
 use Rattle.serving.proofs.Gated.{was-open}
 use Rattle.serving.specs.Serve.{gateAll, served, servedTable, servedReply}
-use Rattle.run.specs.declared.Cursor.{Cursor}
 use Rattle.run.specs.declared.Moved.{Moved}
 use Rattle.run.specs.Run.{usedOf, movedBy}
 

@@ -1,21 +1,16 @@
 -- What serving a frame's callees say, as what serving means: all their equations in, the answer, the reply and the table out.
-use Prim.Native.Nat.{ℕ, _+_, _≤_}
-use mathlib.Core.Path.{_≡_, refl, sym, ap, _∙_}
-use mathlib.Core.Bool.{Bool, true, false, cond, not}
+use Prim.Native.Nat.{ℕ, _+_}
+use mathlib.Core.Path.{_≡_, sym, ap, _∙_}
+use mathlib.Core.Bool.{Bool, true, false, not}
 use mathlib.Core.List.{List, [], append-nil}
 use lib.ListN.{length}
-use lib.Dec.{ltb}
-use native.Mathlib.Omega.{arith}
-use borrow.Author.Tests.{not-false, ltb-false}
 use Rattle.octets.specs.Parts.{Bytes}
-use Rattle.octets.proofs.Choices.{cond-elim}
 use Rattle.header.proofs.HeaderLaws.{length-header}
 use Rattle.header.specs.declared.Header.{Header}
 use Rattle.request.specs.declared.Gate.the-variants.{Whole}
 use Rattle.request.specs.Reading.{bytesIn, keySpan, frameStatus}
 use Rattle.engine.specs.declared.Head.{Head}
 use Rattle.engine.specs.declared.Stored.{Stored}
-use Rattle.engine.specs.Documents.{Key, Doc}
 use Rattle.digits.specs.declared.Number.{Number}
 use Rattle.digits.specs.Decimal.{numberOf}
 use Rattle.commands.specs.declared.Ask.{Ask}
@@ -27,11 +22,10 @@ use Rattle.table.specs.declared.Found.{Found}
 use Rattle.table.specs.Table.{tableOf, headOf}
 use Rattle.table.specs.Lookup.{findIn, freeIn, orElse, placeIn, missing}
 use Rattle.table.specs.Damage.{sound}
-use Rattle.serving.specs.declared.Served.{Served}
 use Rattle.serving.specs.declared.Served.the-variants.{Done}
 use Rattle.serving.specs.Reply.{replyBytes}
 use Rattle.serving.specs.Change.{storedAt, heldAt, valueIn}
-use Rattle.serving.specs.Serve.{gateAll, goesOn, refusal, decisionOn, answerOn, frameTable, frameReply, answerBy}
+use Rattle.serving.specs.Serve.{goesOn, refusal, decisionOn, answerOn, frameTable, frameReply, answerBy}
 use Rattle.serving.proofs.Storing.{stored-none}
 use Rattle.serve.proofs.Lookups.{held-found, value-found, free-found, value-place}
 

@@ -13,7 +13,7 @@ use Rattle.request.specs.declared.Gate.{Gate}
 use Rattle.request.specs.declared.Gate.the-variants.{Stop, Whole}
 use Rattle.request.proofs.Gated.{WholeFrame, no-stop, whole-frame}
 use Rattle.table.specs.Damage.{sound}
-use Rattle.serving.specs.declared.Served.the-variants.{Refused, Done}
+use Rattle.serving.specs.declared.Served.the-variants.{Refused}
 use Rattle.serving.specs.Serve.{gateAll, answerBy, tableBy, replyBy, served, servedTable, servedReply}
 
 pub record Open (b s : List ℕ) (n : ℕ) (h : Header) : Type 0 where

@@ -3,16 +3,10 @@ use Rattle.serving.specs.Serve.{answerBy, tableBy, replyBy}
 use Rattle.serving.specs.Serve.{served, servedTable, servedReply}
 use lib.ListN.{length}
 use denote.Ref.{now}
-use Prim.Native.Nat.{ℕ, _+_, _≤_}
-use native.Mathlib.Omega.{arith}
-use mathlib.Core.Path.{_≡_, refl, sym, ap, _∙_}
+use mathlib.Core.Path.{sym, ap, _∙_}
 use borrow.Author.Needs.{needs}
 use Rattle.serve.proofs.serve_one.Statement.{statement}
 use Rattle.serve.proofs.serve_one.Tie as tie
-use Rattle.serve.proofs.serve_one.Reads as reads
-use Rattle.serve.proofs.serve_one.Lts as lts
-use Rattle.serve.proofs.gate_all.Reads as gate-all-reads
-use Rattle.serve.proofs.serve_whole.Reads as serve-whole-reads
 
 -- src/lib.rt:139:11
 gate-all-requires : tie.Need-gate-all-requires

@@ -1,12 +1,6 @@
-use mathlib.Core.Path.{_≡_, refl, sym, ap, _∙_}
 use borrow.Author.Needs.{needs}
 use Rattle.commands.proofs.judging.meta_rule.Statement.{statement}
 use Rattle.commands.proofs.judging.meta_rule.Tie as tie
-use Rattle.commands.proofs.judging.meta_rule.Reads as reads
-use Rattle.commands.proofs.judging.meta_rule.Lts as lts
-use Rattle.commands.proofs.judging.is_add.Reads as is-add-reads
-use Rattle.commands.proofs.judging.is_last.Reads as is-last-reads
-use Rattle.engine.proofs.accepted.Reads as accepted-reads
 
 -- src/judging.rt:131:9
 is-last-requires : tie.Need-is-last-requires

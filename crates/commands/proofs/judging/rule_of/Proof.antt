@@ -1,17 +1,7 @@
-use Rattle.commands.specs.Rules.{ruleOf, testsOf, statusOf, firstFailure}
-use mathlib.Core.Path.{_≡_, refl, sym, ap, _∙_}
+use Rattle.commands.specs.Rules.{ruleOf}
 use borrow.Author.Needs.{needs}
 use Rattle.commands.proofs.judging.rule_of.Statement.{statement}
 use Rattle.commands.proofs.judging.rule_of.Tie as tie
-use Rattle.commands.proofs.judging.rule_of.Reads as reads
-use Rattle.commands.proofs.judging.rule_of.Lts as lts
-use Rattle.commands.proofs.judging.free_rule.Reads as free-rule-reads
-use Rattle.commands.proofs.judging.is_add.Reads as is-add-reads
-use Rattle.commands.proofs.judging.meta_rule.Reads as meta-rule-reads
-use Rattle.commands.proofs.judging.must_live.Reads as must-live-reads
-use Rattle.commands.proofs.judging.plain_rule.Reads as plain-rule-reads
-use Rattle.commands.proofs.judging.read_rule.Reads as read-rule-reads
-use Rattle.numbers.proofs.passes.Reads as passes-reads
 
 -- src/judging.rt:156:28
 enum-told : tie.Need-enum-told

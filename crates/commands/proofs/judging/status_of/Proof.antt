@@ -1,11 +1,7 @@
-use Rattle.commands.specs.Rules.{ruleOf, testsOf, statusOf, firstFailure}
-use mathlib.Core.Path.{_≡_, refl, sym, ap, _∙_}
+use Rattle.commands.specs.Rules.{statusOf, firstFailure}
 use borrow.Author.Needs.{needs}
 use Rattle.commands.proofs.judging.status_of.Statement.{statement}
 use Rattle.commands.proofs.judging.status_of.Tie as tie
-use Rattle.commands.proofs.judging.status_of.Reads as reads
-use Rattle.commands.proofs.judging.status_of.Lts as lts
-use Rattle.commands.proofs.judging.first.Reads as first-reads
 
 -- src/judging.rt:251:68
 first-requires : tie.Need-first-requires

@@ -1,15 +1,7 @@
-use Rattle.commands.specs.Rules.{ruleOf, testsOf, statusOf, firstFailure}
-use mathlib.Core.Path.{_≡_, refl, sym, ap, _∙_}
+use Rattle.commands.specs.Rules.{testsOf}
 use borrow.Author.Needs.{needs}
 use Rattle.commands.proofs.judging.tests_of.Statement.{statement}
 use Rattle.commands.proofs.judging.tests_of.Tie as tie
-use Rattle.commands.proofs.judging.tests_of.Reads as reads
-use Rattle.commands.proofs.judging.tests_of.Lts as lts
-use Rattle.commands.proofs.judging.is_number.Reads as is-number-reads
-use Rattle.commands.proofs.judging.taken.Reads as taken-reads
-use Rattle.engine.proofs.has_row.Reads as has-row-reads
-use Rattle.engine.proofs.live.Reads as live-reads
-use Rattle.engine.proofs.numbers_of.Reads as numbers-of-reads
 
 -- src/judging.rt:214:9
 live-requires : tie.Need-live-requires
