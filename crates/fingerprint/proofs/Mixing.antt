@@ -1,6 +1,6 @@
 -- Laws of specs/Fingerprint.antt: a step fits in 64 bits, one step of eight bytes, and one more fingerprint looked at.
 use Prim.Native.Nat.{ℕ, suc, _+_, _-_, _*_, _/_, _%_, _^_, _≤_, _<_}
-use mathlib.Core.Path.{_≡_, refl, sym, ap, _∙_}
+use mathlib.Core.Path.{_≡_, sym, ap, _∙_}
 use mathlib.Core.Bool.{Bool, _||_, or-assoc, or-false}
 use mathlib.Core.List.{List}
 use native.Mathlib.Omega.{arith}
@@ -20,21 +20,21 @@ turned-fits p h = fits (p % 2 ^ 59) (p / 2 ^ 59) (mod-lt p (omega arith)) (div-l
 
 -- what is left of a key, in steps of eight bytes
 abbrev pub left : List ℕ → ℕ → ℕ → ℕ
-left key at p = mixedOver ((length key - at + 7) / 8) p (drop at key)
+left key at p = mixedOver ((length key - at) / 8 + 1) p (drop at key)
 
 pub first-step : (key : List ℕ) → fingerprint key ≡ folded (left key 0 0)
 unfolding fingerprint
 first-step key = let e : length key - 0 ≡ length key = omega arith in rw e
 
-pub next-step : (key : List ℕ) (at p : ℕ) → at < length key → left key at p ≡ left key (at + 8) (mixed p (num key at 8))
+pub next-step : (key : List ℕ) (at p : ℕ) → 8 ≤ length key - at → left key at p ≡ left key (at + 8) (mixed p (num key at 8))
 unfolding mixedOver
 next-step key at p h =
-    let e : (length key - at + 7) / 8 ≡ suc ((length key - (at + 8) + 7) / 8) = omega arith in
-    ap (λ (n : ℕ). mixedOver n p (drop at key)) e ∙ ap (mixedOver ((length key - (at + 8) + 7) / 8) (mixed p (num key at 8))) (drop-drop 8 at key)
+    let e : (length key - at) / 8 + 1 ≡ suc ((length key - (at + 8)) / 8 + 1) = omega arith in
+    ap (λ (n : ℕ). mixedOver n p (drop at key)) e ∙ ap (mixedOver ((length key - (at + 8)) / 8 + 1) (mixed p (num key at 8))) (drop-drop 8 at key)
 
-pub last-step : (key : List ℕ) (at p : ℕ) → length key ≤ at → left key at p ≡ p
+pub last-step : (key : List ℕ) (at p : ℕ) → length key - at < 8 → left key at p ≡ mixed p (num key at 8)
 unfolding mixedOver
-last-step key at p h = let e : (length key - at + 7) / 8 ≡ 0 = omega arith in rw e
+last-step key at p h = let e : (length key - at) / 8 + 1 ≡ suc 0 = omega arith in ap (λ (n : ℕ). mixedOver n p (drop at key)) e
 
 pub among-next : (p : ℕ) (qs : List ℕ) (i : ℕ) (found : Bool) → i < length qs → (found || among p (drop i qs)) ≡ ((found || eqb (getD qs i 0) p) || among p (drop (i + 1) qs))
 unfolding among

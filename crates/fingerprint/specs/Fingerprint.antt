@@ -20,9 +20,10 @@ mixedOver (suc n) p key = mixedOver n (mixed p (num key 0 8)) (drop 8 key)
 unfoldable pub folded : ℕ → ℕ
 folded p = (p / 2 ^ 32 + p % 2 ^ 32) % 2 ^ 32
 
+-- every eight bytes of the key, and what is left of it
 unfoldable pub fingerprint : List ℕ → ℕ
 unfolding mixedOver folded
-fingerprint key = folded (mixedOver ((length key + 7) / 8) 0 key)
+fingerprint key = folded (mixedOver (length key / 8 + 1) 0 key)
 
 unfoldable pub among : ℕ → List ℕ → Bool
 among p [] = false

@@ -22,11 +22,11 @@ pub fn of_key(key: &[u8]) -> u32
 {
     let mut p: u64 = 0;
     let mut at: usize = 0;
-    while at < key.len() {
+    while 8 <= key.len() - at {
         p = mix(p, octets::be64(key, at));
         at += 8;
     }
-    folded(p)
+    folded(mix(p, octets::be64(key, at)))
 }
 
 // Whether p is one of these. Nothing ends the loop early, so that it vectorises.

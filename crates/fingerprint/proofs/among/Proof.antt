@@ -8,8 +8,6 @@ use Rattle.fingerprint.proofs.Mixing.{among-next, among-end}
 use borrow.Author.Needs.{needs}
 use Rattle.fingerprint.proofs.among.Statement.{statement}
 use Rattle.fingerprint.proofs.among.Tie as tie
-use Rattle.fingerprint.proofs.among.Reads as reads
-use Rattle.fingerprint.proofs.among.Lts as lts
 
 abbrev Inv-loop : tie.InvT-loop
 Inv-loop p prints found₀ i₀ found i = (i ≤ length prints) × (among p prints ≡ (found || among p (drop i prints)))

@@ -3,8 +3,6 @@ use Rattle.fingerprint.specs.Fingerprint.{folded}
 use borrow.Author.Needs.{needs}
 use Rattle.fingerprint.proofs.folded.Statement.{statement}
 use Rattle.fingerprint.proofs.folded.Tie as tie
-use Rattle.fingerprint.proofs.folded.Reads as reads
-use Rattle.fingerprint.proofs.folded.Lts as lts
 
 add-result : tie.Need-add-result
 add-result c = search needs

@@ -3,9 +3,6 @@ use Rattle.fingerprint.proofs.Mixing.{turned-fits}
 use borrow.Author.Needs.{needs}
 use Rattle.fingerprint.proofs.mix.Statement.{statement}
 use Rattle.fingerprint.proofs.mix.Tie as tie
-use Rattle.fingerprint.proofs.mix.Reads as reads
-use Rattle.fingerprint.proofs.mix.Lts as lts
-use Rattle.std.proofs.num.wrapping_add_u64.Reads as wrapping-add-u64-reads
 
 mul-turned : tie.Need-mul-turned
 mul-turned c = search needs

@@ -15,13 +15,6 @@ use mathlib.Core.Path.{_≡_, sym, ap, _∙_}
 use borrow.Author.Needs.{needs}
 use Rattle.table.proofs.damage.first_distinct.Statement.{statement}
 use Rattle.table.proofs.damage.first_distinct.Tie as tie
-use Rattle.table.proofs.damage.first_distinct.Reads as reads
-use Rattle.table.proofs.damage.first_distinct.Lts as lts
-use Rattle.fingerprint.proofs.among.Reads as among-reads
-use Rattle.octets.proofs.be16.Reads as be16-reads
-use Rattle.octets.proofs.part.Reads as part-reads
-use Rattle.table.proofs.damage.is_missing.Reads as is-missing-reads
-use Rattle.table.proofs.lookup.find_from.Reads as find-from-reads
 
 part-requires : tie.Need-part-requires
 part-requires c κs = search needs

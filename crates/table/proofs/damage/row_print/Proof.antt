@@ -5,11 +5,6 @@ use Rattle.table.proofs.Prints.{print-free, print-used}
 use borrow.Author.Needs.{needs}
 use Rattle.table.proofs.damage.row_print.Statement.{statement}
 use Rattle.table.proofs.damage.row_print.Tie as tie
-use Rattle.table.proofs.damage.row_print.Reads as reads
-use Rattle.table.proofs.damage.row_print.Lts as lts
-use Rattle.fingerprint.proofs.of_key.Reads as of-key-reads
-use Rattle.octets.proofs.be16.Reads as be16-reads
-use Rattle.octets.proofs.part.Reads as part-reads
 
 be16-requires : tie.Need-be16-requires
 be16-requires c κs = search needs

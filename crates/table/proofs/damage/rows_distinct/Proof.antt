@@ -12,11 +12,6 @@ use Rattle.table.proofs.Prints.{prints-next, apart-next}
 use borrow.Author.Needs.{needs}
 use Rattle.table.proofs.damage.rows_distinct.Statement.{statement}
 use Rattle.table.proofs.damage.rows_distinct.Tie as tie
-use Rattle.table.proofs.damage.rows_distinct.Reads as reads
-use Rattle.table.proofs.damage.rows_distinct.Lts as lts
-use Rattle.octets.proofs.part.Reads as part-reads
-use Rattle.table.proofs.damage.first_distinct.Reads as first-distinct-reads
-use Rattle.table.proofs.damage.row_print.Reads as row-print-reads
 
 abbrev Inv-loop : tie.InvT-loop
 Inv-loop s n prints₀ at₀ later₀ apart₀ prints at later apart =
