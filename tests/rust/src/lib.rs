@@ -1,7 +1,14 @@
 //! The proved contact store compared with an independent rendering of document 01.
 
 pub mod answers;
+pub mod coverage;
+pub mod frame;
+pub mod generate;
 mod library;
+pub mod random;
 pub mod rendering;
+pub mod replay;
+pub mod session;
+pub mod shrink;
 
 pub use library::Library;
