@@ -5,10 +5,13 @@ pub mod coverage;
 pub mod frame;
 pub mod generate;
 mod library;
+pub mod merge;
 pub mod random;
 pub mod rendering;
 pub mod replay;
 pub mod session;
+pub mod settings;
 pub mod shrink;
+pub mod sweep;
 
 pub use library::Library;

@@ -8,13 +8,11 @@ use contact_tests::generate::Generator;
 use contact_tests::rendering::Rendering;
 use contact_tests::replay::{from_text, to_text};
 use contact_tests::session::{difference, Pair, Session};
+use contact_tests::settings::{calls, seed};
 use contact_tests::shrink::shrink;
 use contact_tests::Library;
 use std::process::ExitCode;
 use std::time::Duration;
-
-const SEED: u64 = 2_592_000;
-const CALLS: u64 = 1_000_000;
 
 /// From so many calls on, everything expected must have been met.
 const FULL: u64 = 500_000;
@@ -24,7 +22,7 @@ const STORES: [&dyn Store; 2] = [&Rendering, &Library];
 fn main() -> ExitCode {
     let arguments: Vec<String> = std::env::args().skip(1).collect();
     let result = match arguments.as_slice() {
-        [] => compare(setting("CONTACTS_SEED", SEED), setting("CONTACTS_CALLS", CALLS)),
+        [] => compare(seed(), calls()),
         [verb, file] if verb == "replay" => replay(file),
         _ => Err("usage: compare [replay FILE]".to_string()),
     };
@@ -38,10 +36,6 @@ fn main() -> ExitCode {
             ExitCode::FAILURE
         }
     }
-}
-
-fn setting(name: &str, otherwise: u64) -> u64 {
-    std::env::var(name).ok().and_then(|text| text.parse().ok()).unwrap_or(otherwise)
 }
 
 fn compare(seed: u64, calls: u64) -> Result<String, String> {
