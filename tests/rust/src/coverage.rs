@@ -32,6 +32,11 @@ pub struct Coverage {
 }
 
 impl Coverage {
+    /// How many calls were counted.
+    pub fn calls(&self) -> u64 {
+        self.calls
+    }
+
     /// Counts a call on a table as it was before.
     pub fn count(&mut self, before: &[u8], call: &Call, answer: &Answer) {
         self.calls += 1;

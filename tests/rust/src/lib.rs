@@ -1,6 +1,7 @@
 //! The proved contact store compared with an independent rendering of document 01.
 
 pub mod answers;
+pub mod comparison;
 pub mod coverage;
 pub mod frame;
 pub mod generate;

@@ -56,7 +56,7 @@ impl Generator {
             (flags, expiry) = (0, 0);
         }
         let mut value = if deletes { Vec::new() } else { self.value() };
-        if value.is_empty() != deletes && self.random.percent(90) {
+        if value.is_empty() != deletes && self.random.percent(95) {
             value.push(b'v');
         }
         let section = self.meta_section();
@@ -87,7 +87,7 @@ impl Generator {
     fn meta_tail(&mut self, sight: &Sight, section: usize, rest: usize) -> (Option<u32>, Option<u16>) {
         let options = self.options(sight.mode);
         let options = Some(options).filter(|&options| options != 0 || self.random.percent(50));
-        let length = match self.random.below(30) {
+        let length = match self.random.below(60) {
             0 => self.random.u32() as u16,
             1 => section as u16 + 1,
             2 => (section as u16).saturating_sub(1),
@@ -100,11 +100,11 @@ impl Generator {
 
     fn options(&mut self, mode: Mode) -> u32 {
         let accepted = if mode == Mode::LastWriteWins { 0x02 } else { 0 };
-        match self.random.below(20) {
+        match self.random.below(30) {
             0 => self.random.below(16) as u32,
             1 => accepted | 1 << self.random.below(32),
             2 => accepted ^ 0x02,
-            3..=7 => accepted | *self.random.pick(&[0x01, 0x08, 0x09, 0x0c, 0x0d]),
+            3..=10 => accepted | *self.random.pick(&[0x01, 0x08, 0x09, 0x0c, 0x0d]),
             _ => accepted,
         }
     }
@@ -120,7 +120,7 @@ impl Generator {
             section.extend([self.random.between(1, 2) as u8, 0, length as u8]);
             section.extend(self.random.bytes(length));
         }
-        match self.random.below(12) {
+        match self.random.below(24) {
             0 => section[0] = *self.random.pick(&[0, 2, 0x80, 0xff]),
             1 => section.extend([*self.random.pick(&[0, 3, 4, 0xff]), 0, 0]),
             2 => section.truncate(section.len() - 1),
