@@ -3,7 +3,7 @@
 use crate::answers::Store;
 use crate::coverage::Coverage;
 use crate::generate::{Generator, Start};
-use crate::session::{difference, Pair, Session};
+use crate::session::{difference, failing_call, Pair, Session};
 use crate::shrink::shrink;
 
 pub struct Comparison<'s> {
@@ -49,7 +49,9 @@ impl<'s> Comparison<'s> {
 
     /// A failing session made small, and its difference.
     pub fn shrunk(&self, session: Session) -> (Session, String) {
-        let small = shrink(session, |session| difference(self.stores, session).is_some());
+        let fails = |session: &Session| difference(self.stores, session).is_some();
+        let late = failing_call(self.stores, &session).filter(fails);
+        let small = shrink(late.unwrap_or(session), fails);
         let (number, what) = difference(self.stores, &small).unwrap_or_default();
         (small, format!("call {number}: {what}"))
     }

@@ -51,13 +51,16 @@ struct State {
 }
 
 impl State {
-    fn perform(&mut self, store: &dyn Store, call: &Call) -> Answer {
+    /// Lends a reply area or an output of the call's size, filled.
+    fn lend(&mut self, call: &Call) {
         let room = match call {
             Call::Serve { room, .. } | Call::Run { room, .. } | Call::WriteRequest { room, .. } => *room,
             _ => 0,
         };
-        self.out.clear();
-        self.out.resize(room, FILLING);
+        self.out = vec![FILLING; room];
+    }
+
+    fn perform(&mut self, store: &dyn Store, call: &Call) -> Answer {
         let State { table, tally, out } = self;
         match call {
             Call::Serve { clock, received, .. } => Answer::Served(store.serve(table, *clock, received, out, tally)),
@@ -90,11 +93,7 @@ impl<'s> Pair<'s> {
     }
 
     pub fn start(&mut self, table: &[u8], tally: Tally) {
-        for state in &mut self.states {
-            state.table.clear();
-            state.table.extend_from_slice(table);
-            state.tally = tally;
-        }
+        self.states = [0, 1].map(|_| State { table: table.to_vec(), tally, out: Vec::new() });
     }
 
     pub fn table(&self) -> &[u8] {
@@ -119,6 +118,7 @@ impl<'s> Pair<'s> {
     }
 
     fn perform(&mut self, which: usize, call: &Call) -> Answer {
+        self.states[which].lend(call);
         let start = Instant::now();
         let answer = self.states[which].perform(self.stores[which], call);
         self.spent[which] += start.elapsed();
@@ -131,6 +131,14 @@ pub fn difference(stores: [&dyn Store; 2], session: &Session) -> Option<(usize, 
     let mut pair = Pair::new(stores);
     pair.start(&session.table, session.tally);
     session.calls.iter().enumerate().find_map(|(number, call)| pair.call(call).err().map(|what| (number, what)))
+}
+
+/// A failing session's last call alone, on the table and tally as they were by then.
+pub fn failing_call(stores: [&dyn Store; 2], session: &Session) -> Option<Session> {
+    let mut pair = Pair::new(stores);
+    pair.start(&session.table, session.tally);
+    let call = session.calls.iter().find(|call| pair.call(call).is_err())?;
+    Some(Session { table: pair.before.table, tally: pair.before.tally, calls: vec![call.clone()] })
 }
 
 fn same<T: PartialEq + std::fmt::Debug>(what: &str, first: &T, second: &T) -> Result<(), String> {

@@ -1,15 +1,31 @@
 //! Failing sessions made small.
 
+use crate::answers::Tally;
 use crate::frame::Frame;
+use crate::rendering::request::HEADER as FRAME_HEADER;
 use crate::rendering::serving::ROOM;
-use crate::rendering::table::{HEADER, ROW};
+use crate::rendering::table::{row_at, ROW};
 use crate::session::{Call, Session};
+use std::cell::Cell;
 
-/// The smallest session found that still fails, by dropping, shortening and simplifying while any of it helps.
+/// How many sessions are tried at most.
+const TRIES: u32 = 200_000;
+
+type Fails<'a> = &'a dyn Fn(&Session) -> bool;
+
+/// Simpler forms, made one after another as they are tried.
+type Forms<'a, T> = Box<dyn Iterator<Item = T> + 'a>;
+
+/// The smallest session found that still fails, by dropping, shortening and clearing while any of it helps.
 pub fn shrink(mut session: Session, fails: impl Fn(&Session) -> bool) -> Session {
+    let tries = Cell::new(TRIES);
+    let fails = |session: &Session| {
+        tries.set(tries.get().saturating_sub(1));
+        tries.get() > 0 && fails(session)
+    };
     loop {
         let before = session.clone();
-        for pass in [drop_calls, simplify_calls, drop_rows, clear_bytes] {
+        for pass in [drop_calls, simplify_calls, drop_rows, clear_table] {
             session = pass(session, &fails);
         }
         if session == before {
@@ -17,8 +33,6 @@ pub fn shrink(mut session: Session, fails: impl Fn(&Session) -> bool) -> Session
         }
     }
 }
-
-type Fails<'a> = &'a dyn Fn(&Session) -> bool;
 
 /// Drops calls, many at once and then one by one.
 fn drop_calls(mut session: Session, fails: Fails) -> Session {
@@ -42,48 +56,51 @@ fn drop_calls(mut session: Session, fails: Fails) -> Session {
 /// Takes each simpler form of a call that still fails.
 fn simplify_calls(mut session: Session, fails: Fails) -> Session {
     for number in 0..session.calls.len() {
-        while let Some(simpler) =
-            simpler(&session.calls[number]).into_iter().map(|call| with(&session, number, call)).find(|s| fails(s))
-        {
-            session = simpler;
+        loop {
+            let call = session.calls[number].clone();
+            let found = simpler_calls(&call).map(|simpler| with_call(&session, number, simpler)).find(|one| fails(one));
+            match found {
+                Some(simpler) => session = simpler,
+                None => break,
+            }
         }
     }
     session
 }
 
-fn with(session: &Session, number: usize, call: Call) -> Session {
+fn with_call(session: &Session, number: usize, call: Call) -> Session {
     let mut changed = session.clone();
     changed.calls[number] = call;
     changed
 }
 
-/// Forms of a call with less in it; each is smaller by length, by a number or by a byte cleared.
-fn simpler(call: &Call) -> Vec<Call> {
-    match call.clone() {
-        Call::Serve { clock, room, received } => {
-            let clocks = lower(clock).map(|clock| Call::Serve { clock, room, received: received.clone() });
-            let rooms = (room > ROOM).then(|| Call::Serve { clock, room: ROOM, received: received.clone() });
-            let frames = shorter_frames(&received).into_iter().map(|received| Call::Serve { clock, room, received });
-            clocks.chain(rooms).chain(frames).collect()
+/// Forms of a call with less in it: each is shorter, has a lower number, or has one more byte cleared.
+fn simpler_calls(call: &Call) -> Forms<'_, Call> {
+    match call {
+        &Call::Serve { clock, room, ref received } => {
+            let with = move |clock, room, received: &[u8]| Call::Serve { clock, room, received: received.to_vec() };
+            let clocks = lower(clock).map(move |clock| with(clock, room, received));
+            let rooms = (room > ROOM).then(|| with(clock, ROOM, received));
+            Box::new(clocks.chain(rooms).chain(shorter_runs(received).map(move |run| with(clock, room, &run))))
         }
-        Call::Run { clock, room, received } => {
+        &Call::Run { clock, room, ref received } => {
+            let with = move |clock, received: &[u8]| Call::Run { clock, room, received: received.to_vec() };
             let served = Call::Serve { clock, room, received: received.clone() };
-            let clocks = lower(clock).map(|clock| Call::Run { clock, room, received: received.clone() });
-            let frames = shorter_frames(&received).into_iter().map(|received| Call::Run { clock, room, received });
-            [served].into_iter().chain(clocks).chain(frames).collect()
+            let clocks = lower(clock).map(move |clock| with(clock, received));
+            Box::new([served].into_iter().chain(clocks).chain(shorter_runs(received).map(move |run| with(clock, &run))))
         }
-        Call::Read { clock, key } => {
+        &Call::Read { clock, ref key } => {
             let clocks = lower(clock).map(|clock| Call::Read { clock, key: key.clone() });
-            clocks.chain(smaller(&key).into_iter().map(|key| Call::Read { clock, key })).collect()
+            Box::new(clocks.chain(smaller(key).map(move |key| Call::Read { clock, key })))
         }
+        &Call::Purge { clock, bound } => Box::new(lower(clock).map(move |clock| Call::Purge { clock, bound })),
         Call::ReadRequest { received } => {
-            shorter_frames(&received).into_iter().map(|received| Call::ReadRequest { received }).collect()
+            Box::new(shorter_runs(received).map(|received| Call::ReadRequest { received }))
         }
-        Call::WriteRequest { room, frame } => {
-            simpler_frames(&frame).into_iter().map(|frame| Call::WriteRequest { room, frame }).collect()
+        &Call::WriteRequest { room, ref frame } => {
+            Box::new(simpler_frames(frame).map(move |frame| Call::WriteRequest { room, frame }))
         }
-        Call::Purge { clock, bound } => lower(clock).map(|clock| Call::Purge { clock, bound }).collect(),
-        Call::Sound | Call::Make { .. } | Call::Size { .. } => Vec::new(),
+        Call::Sound | Call::Make { .. } | Call::Size { .. } => Box::new([].into_iter()),
     }
 }
 
@@ -92,53 +109,49 @@ fn lower(number: u32) -> impl Iterator<Item = u32> {
 }
 
 /// The bytes shortened, or with one byte cleared.
-fn smaller(bytes: &[u8]) -> Vec<Vec<u8>> {
-    let cuts = [0, bytes.len() / 2, bytes.len().saturating_sub(1)].into_iter().filter(|&cut| cut < bytes.len());
-    let cut = cuts.map(|cut| bytes[..cut].to_vec());
-    let used = (0..bytes.len()).filter(|&at| bytes[at] != 0);
-    cut.chain(used.map(|at| cleared(bytes, at))).collect()
+fn smaller(bytes: &[u8]) -> Forms<'_, Vec<u8>> {
+    let lengths = [0, bytes.len() / 2, bytes.len().saturating_sub(1)].into_iter();
+    let cut = lengths.filter(|&length| length < bytes.len()).map(|length| bytes[..length].to_vec());
+    let cleared = (0..bytes.len()).filter(|&at| bytes[at] != 0).map(|at| {
+        let mut cleared = bytes.to_vec();
+        cleared[at] = 0;
+        cleared
+    });
+    Box::new(cut.chain(cleared))
 }
 
-fn cleared(bytes: &[u8], at: usize) -> Vec<u8> {
-    let mut bytes = bytes.to_vec();
-    bytes[at] = 0;
-    bytes
-}
-
-/// As `smaller`, and with the end of the first frame's body left out and its header telling so.
-fn shorter_frames(received: &[u8]) -> Vec<Vec<u8>> {
-    let mut shorter = Vec::new();
-    if let Some(&[a, b, c, d]) = received.get(8..12) {
-        let body = u32::from_be_bytes([a, b, c, d]) as usize;
-        for left in
-            [body / 2, body.saturating_sub(1)].into_iter().filter(|&left| left < body && 24 + body <= received.len())
-        {
-            let mut frame = received[..24 + left].to_vec();
-            frame[8..12].copy_from_slice(&(left as u32).to_be_bytes());
-            frame.extend(&received[24 + body..]);
-            shorter.push(frame);
-        }
-        if 24 + body < received.len() {
-            shorter.push(received[24 + body..].to_vec());
-        }
+/// The run without its first frame, or with that frame's body shortened, or smaller as bytes.
+fn shorter_runs(received: &[u8]) -> Forms<'_, Vec<u8>> {
+    let Some(&[a, b, c, d]) = received.get(8..12) else {
+        return smaller(received);
+    };
+    let body = u32::from_be_bytes([a, b, c, d]) as usize;
+    if body == 0 || FRAME_HEADER + body > received.len() {
+        return smaller(received);
     }
-    shorter.extend(smaller(received));
-    shorter
+    let (frame, after) = received.split_at(FRAME_HEADER + body);
+    let shortened = [body / 2, body - 1].into_iter().map(move |body| {
+        let mut frame = frame[..FRAME_HEADER + body].to_vec();
+        frame[8..12].copy_from_slice(&(body as u32).to_be_bytes());
+        [&frame, after].concat()
+    });
+    let next = Some(after.to_vec()).filter(|after| !after.is_empty());
+    Box::new(next.into_iter().chain(shortened).chain(smaller(received)))
 }
 
-fn simpler_frames(frame: &Frame) -> Vec<Frame> {
-    let values = smaller(&frame.value).into_iter().map(|value| Frame { value, ..frame.clone() });
-    let keys = smaller(&frame.key).into_iter().map(|key| Frame { key, ..frame.clone() });
-    let extras = smaller(&frame.extras).into_iter().map(|extras| Frame { extras, ..frame.clone() });
-    values.chain(keys).chain(extras).collect()
+fn simpler_frames(frame: &Frame) -> impl Iterator<Item = Frame> + '_ {
+    let values = smaller(&frame.value).map(|value| Frame { value, ..frame.clone() });
+    let keys = smaller(&frame.key).map(|key| Frame { key, ..frame.clone() });
+    let extras = smaller(&frame.extras).map(|extras| Frame { extras, ..frame.clone() });
+    values.chain(keys).chain(extras)
 }
 
 /// Takes rows out of the table.
 fn drop_rows(mut session: Session, fails: Fails) -> Session {
     let mut place = 0;
-    while HEADER + (place + 1) * ROW <= session.table.len() {
+    while row_at(place + 1) <= session.table.len() {
         let mut fewer = session.clone();
-        fewer.table.drain(HEADER + place * ROW..HEADER + (place + 1) * ROW);
+        fewer.table.drain(row_at(place)..row_at(place + 1));
         if fails(&fewer) {
             session = fewer;
         } else {
@@ -149,21 +162,19 @@ fn drop_rows(mut session: Session, fails: Fails) -> Session {
 }
 
 /// Clears the tally, whole rows, and single bytes of the table.
-fn clear_bytes(mut session: Session, fails: Fails) -> Session {
-    let mut clear = session.clone();
-    clear.tally = Default::default();
-    let rows = (HEADER..session.table.len()).step_by(ROW).map(|at| at..(at + ROW).min(session.table.len()));
-    let bytes = (0..session.table.len()).map(|at| at..at + 1);
-    let spans: Vec<_> = rows.chain(bytes).collect();
-    if fails(&clear) {
-        session = clear;
+fn clear_table(mut session: Session, fails: Fails) -> Session {
+    let cleared = Session { tally: Tally::default(), ..session.clone() };
+    if fails(&cleared) {
+        session = cleared;
     }
-    for span in spans {
+    let length = session.table.len();
+    let rows = (row_at(0)..length).step_by(ROW).map(|at| at..(at + ROW).min(length));
+    for span in rows.chain((0..length).map(|at| at..at + 1)) {
         if session.table[span.clone()].iter().any(|&byte| byte != 0) {
-            let mut clear = session.clone();
-            clear.table[span].fill(0);
-            if fails(&clear) {
-                session = clear;
+            let mut cleared = session.clone();
+            cleared.table[span].fill(0);
+            if fails(&cleared) {
+                session = cleared;
             }
         }
     }

@@ -212,6 +212,24 @@ fn counts_stay_at_their_end() {
 }
 
 #[test]
+fn lent_memory_at_any_address() {
+    for mut boat in boats(2, REVISION) {
+        assert_eq!(boat.status(0, &set("c", "v", 0)), 0);
+        let frame = set("d", "w", 0).bytes();
+        let before = boat.table.clone();
+        assert_eq!(boat.receive(0, &frame).status, 0);
+        for offset in 1..16 {
+            let shift = |bytes: &[u8]| [&vec![0; offset], bytes].concat();
+            let (mut table, received, mut reply) = (shift(&before), shift(&frame), shift(&[0; 1_302]));
+            let mut tally = Tally::default();
+            boat.store.serve(&mut table[offset..], 0, &received[offset..], &mut reply[offset..], &mut tally);
+            assert_eq!(table[offset..], boat.table);
+            assert_eq!(reply[offset..], boat.reply);
+        }
+    }
+}
+
+#[test]
 fn a_run_ends_as_its_last_call_says() {
     for mut boat in boats(1, REVISION) {
         let frames = [set("n", "1", 0).bytes(), count(0x05, "n", 1, 0, 0).bytes(), keyed(0x00, "n").bytes()].concat();

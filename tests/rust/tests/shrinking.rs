@@ -63,10 +63,7 @@ fn a_failing_session_is_made_small() {
     assert!(what.starts_with("call 0: reply or output differs at byte "), "{what}");
     assert_eq!(small.table.len(), Rendering.size(1));
     assert_eq!(small.tally, Tally::default());
-    let [Call::Serve { clock: 0, room: 1_302, received }] = &small.calls[..] else {
-        panic!("not one Delete: {small:?}");
-    };
-    assert_eq!(received[1], DELETE);
+    assert!(matches!(&small.calls[..], [Call::Serve { clock: 0, room: 1_302, received }] if received[1] == DELETE));
 
     let replayed = from_text(&to_text(&small)).expect("the text reads back");
     assert_eq!(replayed, small);

@@ -136,6 +136,7 @@ impl Generator {
         if self.random.percent(30) {
             received.truncate(self.random.below(received.len() + 1));
         }
+        received.shrink_to_fit();
         let replies = self.random.below(frames + 1) * *self.random.pick(&[24, 32, 33, 100, ROOM]);
         let room = match self.random.below(3) {
             0 => ROOM * (frames + 1),

@@ -8,11 +8,13 @@ use crate::rendering::numbers::Mode;
 const WITH_META: [u8; 6] = [0xa2, 0xa3, 0xa4, 0xa5, 0xa8, 0xa9];
 
 impl Generator {
-    /// A clock and received bytes for it; one frame in four breaks a rule or stands at its limit.
+    /// A clock and received bytes for it; one frame in four breaks a rule or stands at its limit. The bytes fill their
+    /// memory, so that valgrind sees a read past their end.
     pub(super) fn received(&mut self, sight: &Sight) -> (u32, Vec<u8>) {
         let clock = self.clock_near(sight);
         let frame = self.request(sight, clock);
-        let received = if self.random.percent(25) { self.faulty(frame) } else { frame.bytes() };
+        let mut received = if self.random.percent(25) { self.faulty(frame) } else { frame.bytes() };
+        received.shrink_to_fit();
         (clock, received)
     }
 

@@ -19,6 +19,10 @@ pub mod status;
 pub mod table;
 pub mod tally;
 
+pub use owner::{make, purge, read, size, sound};
+pub use request::{read_request, write_request};
+pub use serving::{serve, serve_run};
+
 use crate::answers::{Document, Fields, Purged, Ran, Request, Served, Store, Tally, Written};
 
 /// The rendering as a store.
@@ -27,38 +31,38 @@ pub struct Rendering;
 
 impl Store for Rendering {
     fn size(&self, rows: usize) -> usize {
-        owner::size(rows)
+        size(rows)
     }
 
     fn make(&self, table: &mut [u8], rows: usize, state: u8, mode: u8, vbucket: u16) -> u8 {
-        owner::make(table, rows, state, mode, vbucket)
+        make(table, rows, state, mode, vbucket)
     }
 
     fn sound(&self, table: &[u8]) -> bool {
-        owner::sound(table)
+        sound(table)
     }
 
     fn read(&self, table: &[u8], clock: u32, key: &[u8]) -> Document {
-        owner::read(table, clock, key)
+        read(table, clock, key)
     }
 
     fn purge(&self, table: &mut [u8], clock: u32, bound: u64) -> Purged {
-        owner::purge(table, clock, bound)
+        purge(table, clock, bound)
     }
 
     fn serve(&self, table: &mut [u8], clock: u32, received: &[u8], reply: &mut [u8], tally: &mut Tally) -> Served {
-        serving::serve(table, clock, received, reply, tally)
+        serve(table, clock, received, reply, tally)
     }
 
     fn serve_run(&self, table: &mut [u8], clock: u32, received: &[u8], reply: &mut [u8], tally: &mut Tally) -> Ran {
-        serving::serve_run(table, clock, received, reply, tally)
+        serve_run(table, clock, received, reply, tally)
     }
 
     fn read_request(&self, received: &[u8]) -> Request {
-        request::read_request(received)
+        read_request(received)
     }
 
     fn write_request(&self, fields: &Fields, out: &mut [u8]) -> Written {
-        request::write_request(fields, out)
+        write_request(fields, out)
     }
 }
