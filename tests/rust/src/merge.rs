@@ -4,6 +4,7 @@ use crate::answers::{Store, Tally};
 use crate::frame::{meta_extras, Frame};
 use crate::random::Random;
 use crate::rendering::numbers::{Cas, Numbers, Revision};
+use crate::rendering::request::MAX_GIVEN;
 use crate::rendering::serving::ROOM;
 use crate::rendering::table::{write_head, write_row, Kind, Row, Table, HEADER, ROW};
 use std::cmp::Reverse;
@@ -39,12 +40,12 @@ impl Document {
     }
 
     /// Few numbers, so that ties in one to four of them are frequent, now and then with another value.
-    fn random(random: &mut Random, key: &'static [u8]) -> Document {
-        let (revision, cas) = (random.below(3) as u64, random.between(1, 3) as u64);
+    fn random(random: &mut Random, key: &'static [u8], least: u64) -> Document {
+        let (revision, cas) = (least + random.below(3) as u64, least + random.below(4) as u64);
         if random.percent(30) {
             return Document { key, tombstone: true, value: Vec::new(), flags: 0, expiry: 0, revision, cas };
         }
-        let (flags, expiry) = (random.between(1, 3) as u32, *random.pick(&[0, 5, 1_000]));
+        let (flags, expiry) = (random.between(1, 3) as u32, *random.pick(&[0, 5, 1_000, u32::MAX]));
         let other = if random.percent(10) { "!" } else { "" };
         let value = format!("{flags} {expiry} {revision} {cas}{other}").into_bytes();
         Document { key, tombstone: false, value, flags, expiry, revision, cas }
@@ -98,23 +99,25 @@ impl List {
     fn random(random: &mut Random) -> List {
         let mode = *random.pick(&[REVISION, LAST_WRITE_WINS]);
         let keys = &KEYS[..random.between(2, 3)];
+        let least = *random.pick(&[1, MAX_GIVEN - 3]);
         let stored = keys.iter().filter_map(|key| {
             let has_row = random.percent(50);
-            has_row.then(|| Document::random(random, key))
+            has_row.then(|| Document::random(random, key, least))
         });
-        let stored = stored.collect();
+        let stored: Vec<Document> = stored.collect();
         let mut writes = Vec::new();
         for _ in 0..random.between(1, 5) {
             let key = random.pick(keys);
-            writes.push(Document::random(random, key));
+            writes.push(Document::random(random, key, least));
         }
         if writes.len() > 1 && random.percent(40) {
             writes[0] = writes[1].clone();
         }
-        List { mode, mark: random.between(3, 5) as u64, stored, writes }
+        let mark = stored.iter().map(|document| document.cas).max().unwrap_or(0) + random.below(2) as u64;
+        List { mode, mark, stored, writes }
     }
 
-    /// As many rows as there are keys, in any place.
+    /// As many rows as there are keys, the stored ones first.
     fn table(&self) -> Vec<u8> {
         let mut memory = vec![0; HEADER + KEYS.len() * ROW];
         write_head(&mut memory, 1, self.mode, 0, Cas(self.mark));
@@ -141,8 +144,7 @@ impl List {
     /// The greatest of each key, in the order of the keys; the first of those that tie with other content.
     fn greatest(&self) -> Vec<Document> {
         let greater = |best: &'_ Document, other: &'_ Document| other.rank(self.mode) > best.rank(self.mode);
-        let documents = || self.stored.iter().chain(&self.writes);
-        let of_key = |key| documents().filter(move |document| document.key == key);
+        let of_key = |key| self.stored.iter().chain(&self.writes).filter(move |document| document.key == key);
         let greatest = |key| of_key(key).reduce(|best, other| if greater(best, other) { other } else { best });
         KEYS.iter().filter_map(|&key| greatest(key)).cloned().collect()
     }
@@ -164,7 +166,8 @@ impl List {
         let mut tally = Tally::default();
         let mut reply = [0; ROOM];
         let statuses = self.writes.iter().map(|write| {
-            let (frame, clock) = (write.frame(self.mode, random), *random.pick(&[0, 4, 5, 999, 1_000, u32::MAX]));
+            let clock = *random.pick(&[0, 4, 5, 999, 1_000, u32::MAX]);
+            let frame = write.frame(self.mode, random);
             let served = store.serve(&mut memory, clock, &frame, &mut reply, &mut tally);
             if served.outcome == 0 {
                 served.status

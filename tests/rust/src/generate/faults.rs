@@ -32,23 +32,6 @@ pub enum Fault {
 }
 
 impl Fault {
-    /// Those that the writer's fields can express.
-    pub const OF_FIELDS: [Fault; 13] = [
-        Fault::Datatype,
-        Fault::ExtrasShorter,
-        Fault::ExtrasLonger,
-        Fault::NoExtras,
-        Fault::NoKey,
-        Fault::Key250,
-        Fault::Key251,
-        Fault::NoValue,
-        Fault::OneByteValue,
-        Fault::Value1024,
-        Fault::Value1025,
-        Fault::Body1400,
-        Fault::Body1401,
-    ];
-
     pub const ALL: [Fault; 23] = [
         Fault::Datatype,
         Fault::ExtrasShorter,
@@ -74,6 +57,9 @@ impl Fault {
         Fault::Flip,
         Fault::Noise,
     ];
+
+    /// Those that the writer's fields can express: the ones before the magic.
+    pub const OF_FIELDS: &'static [Fault] = Fault::ALL.split_at(Fault::Magic as usize).0;
 
     /// The frame with the fault in its fields; unchanged where the fault is one of the bytes.
     pub fn applied(self, mut frame: Frame, random: &mut Random) -> Frame {

@@ -11,7 +11,7 @@ use crate::random::Random;
 use crate::rendering::numbers::Mode;
 use crate::rendering::request::{HEADER as FRAME_HEADER, MAX_BODY};
 use crate::rendering::serving::ROOM;
-use crate::rendering::table::{Kind, Row, Table, HEADER, ROW};
+use crate::rendering::table::{Row, Table, HEADER, ROW};
 use crate::session::Call;
 use faults::Fault;
 use std::collections::BTreeMap;
@@ -224,14 +224,4 @@ impl Generator {
             _ => fitting,
         }
     }
-}
-
-/// The four numbers of a row.
-fn numbers_of(row: &Row) -> (u32, u32, u64, u64) {
-    let numbers = row.numbers;
-    (numbers.flags, numbers.expiry, numbers.revision.0, numbers.cas.0)
-}
-
-fn is_document(row: &Row) -> bool {
-    row.kind == Kind::Document
 }

@@ -1,7 +1,8 @@
 //! Clocks, expiries, numbers, keys and values.
 
-use super::{is_document, Generator, Sight};
+use super::{Generator, Sight};
 use crate::rendering::request::MAX_GIVEN;
+use crate::rendering::table::Kind;
 
 /// The largest relative expiry.
 const MONTH: u32 = 2_592_000;
@@ -196,7 +197,7 @@ impl Generator {
 
     /// The CAS in a request's header: none, the document's, or another.
     pub(super) fn header_cas(&mut self, sight: &Sight, key: &[u8]) -> u64 {
-        let stored = sight.row(key).filter(|row| is_document(row)).map(|row| row.numbers.cas.0);
+        let stored = sight.row(key).filter(|row| row.kind == Kind::Document).map(|row| row.numbers.cas.0);
         match (self.random.below(20), stored) {
             (0..=11, _) => 0,
             (12..=16, Some(cas)) => cas,

@@ -1,9 +1,9 @@
 //! Requests: near-valid frames of every command.
 
 use super::faults::Fault;
-use super::{numbers_of, Generator, Sight, BUILT};
+use super::{Generator, Sight, BUILT};
 use crate::frame::{counter_extras, meta_extras, plain_extras, Frame};
-use crate::rendering::numbers::Mode;
+use crate::rendering::numbers::{Cas, Mode, Numbers, Revision};
 
 const WITH_META: [u8; 6] = [0xa2, 0xa3, 0xa4, 0xa5, 0xa8, 0xa9];
 
@@ -42,13 +42,16 @@ impl Generator {
     }
 
     fn counter_extras(&mut self, clock: u32) -> Vec<u8> {
-        let number = |random: &mut crate::random::Random| match random.below(5) {
-            0 => u64::MAX,
-            1 => random.u64(),
-            _ => random.below(10) as u64,
-        };
-        let (delta, initial) = (number(&mut self.random), number(&mut self.random));
+        let (delta, initial) = (self.counter(), self.counter());
         counter_extras(delta, initial, self.plain_expiry(clock))
+    }
+
+    fn counter(&mut self) -> u64 {
+        match self.random.below(5) {
+            0 => u64::MAX,
+            1 => self.random.u64(),
+            _ => self.random.below(10) as u64,
+        }
     }
 
     fn with_meta(&mut self, sight: &Sight, clock: u32, frame: Frame) -> Frame {
@@ -69,10 +72,9 @@ impl Generator {
 
     /// Numbers that tie with the stored ones in three or in all four, or stand near a limit.
     fn meta_numbers(&mut self, sight: &Sight, clock: u32, key: &[u8]) -> (u32, u32, u64, u64) {
-        let near = sight.row(key).map(numbers_of).filter(|_| self.random.percent(75));
-        let Some((mut flags, mut expiry, mut revision, mut cas)) = near else {
-            let revision = self.number_near(sight.mark);
-            let cas = self.number_near(sight.mark);
+        let near = sight.row(key).map(|row| row.numbers).filter(|_| self.random.percent(75));
+        let Some(Numbers { mut flags, mut expiry, revision: Revision(mut revision), cas: Cas(mut cas) }) = near else {
+            let (revision, cas) = (self.number_near(sight.mark), self.number_near(sight.mark));
             return (self.flags(), self.absolute_expiry(clock), revision, cas);
         };
         match self.random.below(9) {
@@ -144,7 +146,7 @@ impl Generator {
 
     /// A frame with a fault that its fields can express.
     pub(super) fn misshapen(&mut self, frame: Frame) -> Frame {
-        let fault = *self.random.pick(&Fault::OF_FIELDS);
+        let fault = *self.random.pick(Fault::OF_FIELDS);
         fault.applied(frame, &mut self.random)
     }
 }

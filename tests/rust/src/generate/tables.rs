@@ -70,7 +70,8 @@ struct RawRow {
     kind: u16,
     key: Vec<u8>,
     value: Vec<u8>,
-    /// Added to the value length as the row says it.
+    /// Added to the lengths as the row says them.
+    key_length_excess: u16,
     value_length_excess: u32,
     flags: u32,
     expiry: u32,
@@ -86,6 +87,7 @@ impl RawRow {
             kind: u16_at(row, 0),
             key: row[KEY_AT..value_at].to_vec(),
             value: row[value_at..value_at + u32_at(row, 4) as usize].to_vec(),
+            key_length_excess: 0,
             value_length_excess: 0,
             flags: u32_at(row, 8),
             expiry: u32_at(row, 12),
@@ -94,19 +96,17 @@ impl RawRow {
         }
     }
 
-    /// Writes what fits of the key and value.
     fn write(&self, row: &mut [u8]) {
         row.fill(0);
         put(row, 0, &self.kind.to_be_bytes());
-        put(row, 2, &(self.key.len() as u16).to_be_bytes());
+        put(row, 2, &(self.key.len() as u16 + self.key_length_excess).to_be_bytes());
         put(row, 4, &(self.value.len() as u32 + self.value_length_excess).to_be_bytes());
         put(row, 8, &self.flags.to_be_bytes());
         put(row, 12, &self.expiry.to_be_bytes());
         put(row, 16, &self.revision.to_be_bytes());
         put(row, 24, &self.cas.to_be_bytes());
-        let mut content = [&self.key[..], &self.value].concat();
-        content.truncate(ROW - KEY_AT);
-        put(row, KEY_AT, &content);
+        put(row, KEY_AT, &self.key);
+        put(row, KEY_AT + self.key.len(), &self.value);
     }
 }
 
@@ -225,7 +225,7 @@ impl Damage {
             Damage::KindHighByte => raw.kind |= 0x0100,
             Damage::NoKey => raw.key.clear(),
             Damage::Key251 => raw.key.resize(251, b'x'),
-            Damage::KeyHighByte => raw.key.resize(raw.key.len() + 256, b'x'),
+            Damage::KeyHighByte => raw.key_length_excess = 1 << random.between(8, 15),
             Damage::Value1025 if !tombstone => raw.value.resize(1_025, b'v'),
             Damage::ValueHighByte if !tombstone => raw.value_length_excess = 1 << random.between(11, 31),
             Damage::TombstoneValue if tombstone => raw.value = b"v".to_vec(),
