@@ -6,6 +6,7 @@ use crate::generate::{Generator, BUILT};
 use crate::rendering::numbers::{Mode, Numbers};
 use crate::rendering::request::{first_frame, view, MetaExtras, FORCE, SKIP_CONFLICTS};
 use crate::rendering::shape::{shape, Command};
+use crate::rendering::status::Status;
 use crate::rendering::table::Table;
 use crate::session::{Answer, Call};
 use std::collections::BTreeMap;
@@ -13,7 +14,7 @@ use std::fmt::Write;
 
 const STATUSES: [u8; 11] = [0x00, 0x01, 0x02, 0x03, 0x04, 0x06, 0x07, 0x81, 0x82, 0x83, 0x84];
 
-/// The number that decided a comparison, and whether the write won.
+/// The number that decides a comparison.
 #[derive(Clone, Copy, Debug, PartialEq, Eq, PartialOrd, Ord)]
 enum Decider {
     Cas,
@@ -50,7 +51,8 @@ impl Coverage {
     }
 
     fn count_contest(&mut self, before: &[u8], received: &[u8], status: u8) {
-        if let Some((mode, decider)) = contest(before, received) {
+        let compared = status == 0 || status == Status::Exists as u8;
+        if let Some((mode, decider)) = contest(before, received).filter(|_| compared) {
             *self.contests.entry((mode, decider, status == 0)).or_default() += 1;
         }
     }
@@ -169,7 +171,7 @@ fn expected_statuses() -> impl Iterator<Item = (u8, u8)> {
 
 fn statuses_of(opcode: u8) -> &'static [u8] {
     match shape(opcode).map(|shape| shape.command) {
-        Err(crate::rendering::status::Status::Unbuilt) => &[0x83],
+        Err(Status::Unbuilt) => &[0x83],
         Err(_) => &[0x81],
         Ok(Command::Noop | Command::Version) => &[0x00, 0x04],
         Ok(Command::Get | Command::GetK) => &[0x00, 0x01, 0x04, 0x07],

@@ -100,6 +100,7 @@ fn read_head(memory: &[u8]) -> Result<Head, Damaged> {
     require(ROWS.contains(&rows) && memory.len() == HEADER + rows * ROW)?;
     require(STATES.contains(&memory[0]))?;
     let mode = Mode::read(memory[1]).ok_or(Damaged)?;
+    // The four kept bytes are 0.
     require(u32_at(memory, 4) == 0)?;
     Ok(Head { state: memory[0], mode, vbucket: u16_at(memory, 2), mark: Cas(u64_at(memory, 8)) })
 }
