@@ -1,0 +1,215 @@
+//! Asks both sides the same and compares what they answer.
+
+use std::collections::{BTreeMap, HashMap};
+use std::io;
+
+use crate::differences::{Field, Seen, Side, DIFFERENCES};
+use crate::pairs::Pairs;
+use crate::reply::Reply;
+use crate::request::{bare, delete, Request};
+use crate::sides::{Answer, Held, Ours, Theirs};
+
+/// What was compared so far.
+#[derive(Default)]
+pub struct Found {
+    pub requests: usize,
+    pub replies: usize,
+    /// Requests with the same answer in every field.
+    pub alike: usize,
+    /// How often each listed difference showed.
+    pub differences: BTreeMap<&'static str, usize>,
+    pub unexplained: Vec<String>,
+}
+
+pub struct Bench {
+    ours: Ours,
+    theirs: Theirs,
+    pairs: Pairs,
+    opaque: u32,
+    pub found: Found,
+}
+
+/// A request with what our side made of it.
+struct Asked<'a> {
+    request: &'a Request,
+    opaque: u32,
+    cas: u64,
+    held: Option<Held>,
+    answer: Answer,
+}
+
+const FLUSH: u8 = 0x08;
+
+impl Bench {
+    pub fn new(port: u16, table: &[u8]) -> io::Result<Bench> {
+        let (ours, theirs) = (Ours::new(table), Theirs::connect(port)?);
+        Ok(Bench { ours, theirs, pairs: Pairs::default(), opaque: 0, found: Found::default() })
+    }
+
+    /// Starts again from a table of ours without documents, and a memcached without.
+    pub fn renew(&mut self, table: &[u8]) -> io::Result<()> {
+        self.ours = Ours::new(table);
+        self.pairs = Pairs::default();
+        self.theirs.ask(&[&bare(FLUSH).bytes(0, 0)])?;
+        Ok(())
+    }
+
+    /// Sends the requests at once and compares the answers. Where a status differs, the sides part, and so that the next
+    /// requests meet the same documents again, the key is deleted on both.
+    pub fn ask(&mut self, requests: &[Request]) -> io::Result<()> {
+        let (mut asked, mut frames) = (vec![], vec![]);
+        for request in requests {
+            let (one, frame) = self.prepare(request);
+            asked.push(one);
+            frames.extend(frame);
+        }
+        let theirs = self.theirs.ask(&[&frames])?;
+        for key in self.compare(&asked, &theirs) {
+            self.forget(&key)?;
+        }
+        Ok(())
+    }
+
+    /// Deletes a key on both sides, whatever they answer.
+    fn forget(&mut self, key: &[u8]) -> io::Result<()> {
+        let frame = delete(key).bytes(0, 0);
+        self.ours.serve(&frame);
+        self.theirs.ask(&[&frame])?;
+        Ok(())
+    }
+
+    /// Sends a request in two pieces, of which the first is no frame for either side.
+    pub fn ask_cut(&mut self, request: &Request, at: usize) -> io::Result<()> {
+        let head = &request.bytes(0, 0)[..at];
+        let answer = self.ours.serve(head);
+        if answer.taken != 0 || !answer.open {
+            self.found.unexplained.push(format!("{at} bytes are taken of {request:?}"));
+        }
+        let (asked, frame) = self.prepare(request);
+        let theirs = self.theirs.ask(&[&frame[..at], &frame[at..]])?;
+        self.compare(&[asked], &theirs);
+        Ok(())
+    }
+
+    /// Serves a request on our side, and gives the bytes for the other.
+    fn prepare<'a>(&mut self, request: &'a Request) -> (Asked<'a>, Vec<u8>) {
+        self.opaque += 1;
+        let opaque = self.opaque;
+        let (cas, their_cas) = self.pairs.header(&request.key, request.cas);
+        let held = self.ours.held(&request.key);
+        let answer = self.ours.serve(&request.bytes(opaque, cas));
+        let mut frame = request.bytes(opaque, their_cas);
+        frame.resize(frame.len() + read_twice(request), 0);
+        (Asked { request, opaque, cas, held, answer }, frame)
+    }
+
+    /// Compares the answers to requests that were sent at once, and gives the keys on which the sides parted. What is sent
+    /// for such a key after that isn't compared.
+    fn compare(&mut self, asked: &[Asked], theirs: &Answer) -> Vec<Vec<u8>> {
+        let mut parted = vec![];
+        let mut replies = by_opaque(&theirs.replies);
+        let taken: usize = asked.iter().map(|one| one.answer.taken).sum();
+        for (i, one) in asked.iter().enumerate() {
+            let their_replies = replies.remove(&one.opaque).unwrap_or_default();
+            if parted.contains(&one.request.key) {
+                continue;
+            }
+            let mut fields = self.fields(one, &their_replies);
+            if fields.contains(&Field::Status) && !one.request.key.is_empty() {
+                parted.push(one.request.key.clone());
+            }
+            if i + 1 == asked.len() {
+                fields.extend(ends(&one.answer, taken, theirs));
+            }
+            self.record(one, &their_replies, &fields);
+        }
+        if let Some(opaque) = replies.keys().next() {
+            self.found.unexplained.push(format!("memcached replies opaque {opaque}, which nobody sent"));
+        }
+        parted
+    }
+
+    /// The fields in which two answers differ.
+    fn fields(&mut self, one: &Asked, theirs: &[Reply]) -> Vec<Field> {
+        let ours = &one.answer.replies;
+        if status(one.request, ours) != status(one.request, theirs) {
+            return vec![Field::Status];
+        }
+        if ours.len() != theirs.len() {
+            return vec![Field::Replies];
+        }
+        let mut fields = vec![];
+        for (o, t) in ours.iter().zip(theirs) {
+            let same = [
+                (Field::Head, (o.magic, o.opcode, o.datatype, o.opaque) == (t.magic, t.opcode, t.datatype, t.opaque)),
+                (Field::Extras, o.extras == t.extras),
+                (Field::Key, o.key == t.key),
+                (Field::Value, o.value == t.value),
+                (Field::Cas, self.pairs.agree(&one.request.key, o.cas, t.cas)),
+            ];
+            fields.extend(same.iter().filter(|(_, same)| !same).map(|(field, _)| *field));
+        }
+        fields
+    }
+
+    /// Counts a request, and holds each field that differs to the list.
+    fn record(&mut self, one: &Asked, theirs: &[Reply], fields: &[Field]) {
+        self.found.requests += 1;
+        self.found.replies += one.answer.replies.len();
+        self.found.alike += usize::from(fields.is_empty());
+        let ours = &one.answer.replies;
+        for &field in fields {
+            let seen = Seen {
+                field,
+                request: one.request,
+                cas: one.cas,
+                held: one.held.as_ref(),
+                ours: Side { status: status(one.request, ours), reply: ours.first() },
+                theirs: Side { status: status(one.request, theirs), reply: theirs.first() },
+            };
+            match DIFFERENCES.iter().find(|difference| (difference.explains)(&seen)) {
+                Some(listed) => *self.found.differences.entry(listed.name).or_default() += 1,
+                None => self.found.unexplained.push(told(one, theirs, field)),
+            }
+        }
+    }
+}
+
+/// The fields of the end of an exchange that differ.
+fn ends(ours: &Answer, taken: usize, theirs: &Answer) -> Vec<Field> {
+    match (ours.open, theirs.open) {
+        (true, true) if taken != theirs.taken => vec![Field::Taken],
+        (ours, theirs) if ours != theirs => vec![Field::Open],
+        _ => vec![],
+    }
+}
+
+/// How many bytes memcached takes too many of a request that it doesn't know: extras and key, once more.
+fn read_twice(request: &Request) -> usize {
+    match request.opcode {
+        0x00..=0x1a | 0x1c..=0x1e | 0x20..=0x24 => 0,
+        _ => request.extras.len() + request.key.len(),
+    }
+}
+
+fn by_opaque(replies: &[Reply]) -> HashMap<u32, Vec<Reply>> {
+    let mut sorted: HashMap<u32, Vec<Reply>> = HashMap::new();
+    for reply in replies {
+        sorted.entry(reply.opaque).or_default().push(reply.clone());
+    }
+    sorted
+}
+
+/// The status of the first reply, or that of silence.
+fn status(request: &Request, replies: &[Reply]) -> Option<u16> {
+    replies.first().map(|reply| reply.status).or(request.silence())
+}
+
+fn told(one: &Asked, theirs: &[Reply], field: Field) -> String {
+    let held = one.held.as_ref().map(|held| String::from_utf8_lossy(&held.value));
+    format!(
+        "{field:?} of {:02x?}\n    on {held:?}\n    ours   {:02x?}\n    theirs {theirs:02x?}",
+        one.request.bytes(one.opaque, one.cas),
+        one.answer.replies
+    )
+}
