@@ -7,13 +7,14 @@ use crate::differences::{Field, Seen, Side, DIFFERENCES};
 use crate::pairs::Pairs;
 use crate::reply::Reply;
 use crate::request::{bare, delete, Request};
-use crate::sides::{Answer, Held, Ours, Theirs};
+use crate::sides::{Answer, Before, Ours, Theirs};
 
 /// What was compared so far.
 #[derive(Default)]
 pub struct Found {
     pub requests: usize,
-    pub replies: usize,
+    /// Requests with the same status on both sides, that of silence included.
+    pub same_status: usize,
     /// Requests with the same answer in every field.
     pub alike: usize,
     /// How often each listed difference showed.
@@ -34,7 +35,7 @@ struct Asked<'a> {
     request: &'a Request,
     opaque: u32,
     cas: u64,
-    held: Option<Held>,
+    before: Before,
     answer: Answer,
 }
 
@@ -54,8 +55,8 @@ impl Bench {
         Ok(())
     }
 
-    /// Sends the requests at once and compares the answers. Where a status differs, the sides part, and so that the next
-    /// requests meet the same documents again, the key is deleted on both.
+    /// Sends the requests at once and compares the answers. Where a status differs, the sides part, and the key is then
+    /// deleted on both, so that later requests meet the same documents again.
     pub fn ask(&mut self, requests: &[Request]) -> io::Result<()> {
         let (mut asked, mut frames) = (vec![], vec![]);
         for request in requests {
@@ -96,15 +97,15 @@ impl Bench {
         self.opaque += 1;
         let opaque = self.opaque;
         let (cas, their_cas) = self.pairs.header(&request.key, request.cas);
-        let held = self.ours.held(&request.key);
+        let before = self.ours.before(&request.key);
         let answer = self.ours.serve(&request.bytes(opaque, cas));
         let mut frame = request.bytes(opaque, their_cas);
         frame.resize(frame.len() + read_twice(request), 0);
-        (Asked { request, opaque, cas, held, answer }, frame)
+        (Asked { request, opaque, cas, before, answer }, frame)
     }
 
-    /// Compares the answers to requests that were sent at once, and gives the keys on which the sides parted. What is sent
-    /// for such a key after that isn't compared.
+    /// Compares the answers to requests that were sent at once, and gives the keys on which the sides parted. The
+    /// requests for such a key after that aren't compared.
     fn compare(&mut self, asked: &[Asked], theirs: &Answer) -> Vec<Vec<u8>> {
         let mut parted = vec![];
         let mut replies = by_opaque(&theirs.replies);
@@ -155,7 +156,7 @@ impl Bench {
     /// Counts a request, and holds each field that differs to the list.
     fn record(&mut self, one: &Asked, theirs: &[Reply], fields: &[Field]) {
         self.found.requests += 1;
-        self.found.replies += one.answer.replies.len();
+        self.found.same_status += usize::from(!fields.contains(&Field::Status));
         self.found.alike += usize::from(fields.is_empty());
         let ours = &one.answer.replies;
         for &field in fields {
@@ -163,7 +164,7 @@ impl Bench {
                 field,
                 request: one.request,
                 cas: one.cas,
-                held: one.held.as_ref(),
+                before: &one.before,
                 ours: Side { status: status(one.request, ours), reply: ours.first() },
                 theirs: Side { status: status(one.request, theirs), reply: theirs.first() },
             };
@@ -206,9 +207,9 @@ fn status(request: &Request, replies: &[Reply]) -> Option<u16> {
 }
 
 fn told(one: &Asked, theirs: &[Reply], field: Field) -> String {
-    let held = one.held.as_ref().map(|held| String::from_utf8_lossy(&held.value));
+    let live = one.before.live.as_ref().map(|live| String::from_utf8_lossy(&live.value));
     format!(
-        "{field:?} of {:02x?}\n    on {held:?}\n    ours   {:02x?}\n    theirs {theirs:02x?}",
+        "{field:?} of {:02x?}\n    on {live:?}\n    ours   {:02x?}\n    theirs {theirs:02x?}",
         one.request.bytes(one.opaque, one.cas),
         one.answer.replies
     )

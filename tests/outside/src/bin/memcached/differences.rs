@@ -4,7 +4,7 @@ use contacts::{opcode, BODY_MAX, VALUE_MAX};
 
 use crate::reply::Reply;
 use crate::request::Request;
-use crate::sides::Held;
+use crate::sides::{Before, Live};
 
 /// What is compared of two answers to one request.
 #[derive(Clone, Copy, Debug, PartialEq, Eq)]
@@ -31,8 +31,7 @@ pub struct Seen<'a> {
     pub request: &'a Request,
     /// The CAS in our request's header.
     pub cas: u64,
-    /// Our live document of the key, before the request.
-    pub held: Option<&'a Held>,
+    pub before: &'a Before,
     pub ours: Side<'a>,
     pub theirs: Side<'a>,
 }
@@ -45,6 +44,10 @@ pub struct Side<'a> {
 }
 
 impl Seen<'_> {
+    fn live(&self, holds: impl Fn(&Live) -> bool) -> bool {
+        self.before.live.as_ref().is_some_and(holds)
+    }
+
     fn statuses(&self, ours: u16, theirs: u16) -> bool {
         self.field == Field::Status && self.ours.status == Some(ours) && self.theirs.status == Some(theirs)
     }
@@ -107,21 +110,23 @@ pub const DIFFERENCES: [Difference; 22] = [
         sentences: &["Add on live: 0x02."],
         explains: |seen| {
             matches!(seen.request.opcode, opcode::ADD | opcode::ADDQ)
-                && seen.held.is_some_and(|held| held.cas == seen.cas)
+                && seen.live(|live| live.cas == seen.cas)
                 && seen.statuses(0x02, 0x00)
         },
     },
     Difference {
         name: "counter with a CAS where nothing is live",
         sentences: &["Header CAS not 0: not live 0x01, different 0x02.", "Header CAS as above."],
-        explains: |seen| seen.request.is_counter() && seen.cas != 0 && seen.held.is_none() && seen.statuses(0x01, 0x00),
+        explains: |seen| {
+            seen.request.is_counter() && seen.cas != 0 && seen.before.live.is_none() && seen.statuses(0x01, 0x00)
+        },
     },
     Difference {
         name: "CAS before digits",
         sentences: &["## Statuses, first that applies", "5. 0x01, then 0x02, as given below. 6. 0x06."],
         explains: |seen| {
             seen.request.is_counter()
-                && seen.held.is_some_and(|held| held.value.is_empty() && seen.cas != 0 && held.cas != seen.cas)
+                && seen.live(|live| live.value.is_empty() && seen.cas != 0 && live.cas != seen.cas)
                 && seen.statuses(0x02, 0x06)
         },
     },
@@ -129,9 +134,7 @@ pub const DIFFERENCES: [Difference; 22] = [
         name: "digits alone",
         sentences: &["Live: the value must be 1 to 20 decimal digits of a number under 2^64, else 0x06."],
         explains: |seen| {
-            seen.request.is_counter()
-                && seen.held.is_some_and(|held| !is_number(&held.value))
-                && seen.statuses(0x06, 0x00)
+            seen.request.is_counter() && seen.live(|live| !is_number(&live.value)) && seen.statuses(0x06, 0x00)
         },
     },
     Difference {
@@ -139,7 +142,7 @@ pub const DIFFERENCES: [Difference; 22] = [
         sentences: &["Live: the value must be 1 to 20 decimal digits of a number under 2^64, else 0x06."],
         explains: |seen| {
             seen.request.is_counter()
-                && seen.held.and_then(|held| number(&held.value)).is_some_and(|n| n >= 1 << 63)
+                && seen.live(|live| number(&live.value).is_some_and(|n| n >= 1 << 63))
                 && seen.statuses(0x00, 0x06)
         },
     },
@@ -169,7 +172,7 @@ pub const DIFFERENCES: [Difference; 22] = [
     Difference {
         name: "vbucket and state",
         sentences: &["0x07: other vbucket number, or state not active"],
-        explains: |seen| seen.our_status(0x07),
+        explains: |seen| (seen.request.vbucket != 0 || !seen.before.active) && seen.our_status(0x07),
     },
     Difference {
         name: "value over 1,024",
@@ -188,12 +191,12 @@ pub const DIFFERENCES: [Difference; 22] = [
     Difference {
         name: "full table",
         sentences: &["0x82: the key has no row and no row is free."],
-        explains: |seen| seen.statuses(0x82, 0x00),
+        explains: |seen| !seen.before.has_room && seen.statuses(0x82, 0x00),
     },
     Difference {
         name: "mark at its end",
         sentences: &["0x84: a number that must grow is at 2^64 - 1."],
-        explains: |seen| seen.statuses(0x84, 0x00),
+        explains: |seen| seen.before.mark == u64::MAX && seen.statuses(0x84, 0x00),
     },
     Difference {
         name: "not built here",

@@ -24,10 +24,11 @@ use script::{Case, Step};
 use server::Server;
 use sides::table;
 
-const SEED: u64 = 20261115;
+const SEED: u64 = 17;
 const SINGLE: usize = 12_000;
 const RUNS: usize = 1_000;
 const RUN_MAX: usize = 12;
+const UNEXPLAINED_TOLD: usize = 20;
 
 fn main() -> ExitCode {
     match compare() {
@@ -78,14 +79,17 @@ fn random(bench: &mut Bench) -> io::Result<()> {
 }
 
 fn report(found: &Found) -> ExitCode {
-    println!("{} requests, {} replies of ours, {} answers alike", found.requests, found.replies, found.alike);
+    println!("{} requests, {} with the same status, {} alike in all", found.requests, found.same_status, found.alike);
     let mut good = found.unexplained.is_empty();
     for difference in &DIFFERENCES {
         let shown = found.differences.get(difference.name).copied().unwrap_or(0);
-        println!("{shown:6} {}: {}", difference.name, difference.sentences.join(" ... "));
+        println!("{shown:6} {}", difference.name);
+        for sentence in difference.sentences {
+            println!("         \"{sentence}\"");
+        }
         good &= shown > 0;
     }
-    for unexplained in found.unexplained.iter().take(20) {
+    for unexplained in found.unexplained.iter().take(UNEXPLAINED_TOLD) {
         println!("unexplained: {unexplained}");
     }
     println!("memcached: {}", if good { "as listed" } else { "not as listed" });

@@ -42,6 +42,7 @@ impl Reply {
     }
 }
 
-fn number(bytes: &[u8]) -> u64 {
+/// A big-endian number.
+pub fn number(bytes: &[u8]) -> u64 {
     bytes.iter().fold(0, |n, &byte| n << 8 | u64::from(byte))
 }

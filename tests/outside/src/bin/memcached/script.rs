@@ -1,6 +1,7 @@
 //! The scripted part: each rule of the plain commands, and each way to break it.
 
 use std::iter::once;
+use std::slice::from_ref;
 
 use contacts::{opcode, State, KEY_MAX, ROWS_MAX, VALUE_MAX};
 
@@ -304,8 +305,8 @@ fn pipelines() -> Vec<Case> {
     let refused = bare(0x40);
     [
         sets.to_vec(),
-        [&sets[..], &quiet_gets, &[noop.clone()]].concat(),
-        [&quiet_writes[..], &reads, &[noop.clone()]].concat(),
+        [&sets[..], &quiet_gets, from_ref(&noop)].concat(),
+        [&quiet_writes[..], &reads, from_ref(&noop)].concat(),
         [&quiet_writes[..], &[refused.clone(), noop.clone(), refused], &reads].concat(),
         vec![noop; 50],
         plain(),

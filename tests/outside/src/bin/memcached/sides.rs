@@ -6,7 +6,7 @@ use std::time::{Duration, SystemTime, UNIX_EPOCH};
 
 use contacts::{Cas, Mode, Outcome, State, Tally, REPLY_ROOM};
 
-use crate::reply::Reply;
+use crate::reply::{number, Reply};
 use crate::request::bare;
 
 /// What a side answered to some bytes.
@@ -18,8 +18,17 @@ pub struct Answer {
     pub open: bool,
 }
 
-/// A live document.
-pub struct Held {
+/// A table of ours before a request, as far as the rules mind it.
+pub struct Before {
+    pub active: bool,
+    pub mark: u64,
+    /// Whether the key has a row or a row is free.
+    pub has_room: bool,
+    /// The key's live document.
+    pub live: Option<Live>,
+}
+
+pub struct Live {
     pub value: Vec<u8>,
     pub cas: u64,
 }
@@ -33,10 +42,20 @@ impl Ours {
         Ours { table: table.to_vec() }
     }
 
-    pub fn held(&self, key: &[u8]) -> Option<Held> {
+    pub fn before(&self, key: &[u8]) -> Before {
+        let (head, rows) = self.table.split_at(TABLE_HEADER);
+        Before {
+            active: head[0] == State::Active.number(),
+            mark: number(&head[8..16]),
+            has_room: rows.chunks(ROW).any(|row| is_free(row) || row_key(row) == key),
+            live: self.live(key),
+        }
+    }
+
+    fn live(&self, key: &[u8]) -> Option<Live> {
         let document = contacts::read(&self.table, now(), key).expect("the table is sound")?;
         let Cas(cas) = document.cas;
-        Some(Held { value: document.value.to_vec(), cas })
+        Some(Live { value: document.value.to_vec(), cas })
     }
 
     pub fn serve(&mut self, frame: &[u8]) -> Answer {
@@ -46,6 +65,7 @@ impl Ours {
                 let mut reply = served.reply.to_vec();
                 let replies = Vec::from_iter(Reply::take(&mut reply));
                 assert!(reply.is_empty(), "a reply is one frame");
+                assert_eq!(served.used, frame.len(), "a frame is taken whole");
                 Answer { replies, taken: served.used, open: true }
             }
             Err(stop) => {
@@ -54,6 +74,18 @@ impl Ours {
             }
         }
     }
+}
+
+/// Sizes of docs/LAYOUT.md.
+const TABLE_HEADER: usize = 16;
+const ROW: usize = 1312;
+
+fn is_free(row: &[u8]) -> bool {
+    row[1] == 0
+}
+
+fn row_key(row: &[u8]) -> &[u8] {
+    &row[32..32 + number(&row[2..4]) as usize]
 }
 
 /// A fresh table for vbucket 0.

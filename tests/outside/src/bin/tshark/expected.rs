@@ -1,5 +1,5 @@
-//! What tshark has to show of a request, by what it was written from. docs/OUTSIDE.md lists what it shows otherwise than
-//! it was meant.
+//! What tshark has to show of a request, by what it was written from. docs/OUTSIDE.md lists where the dissector shows
+//! otherwise.
 
 use contacts::opcode;
 

@@ -34,15 +34,20 @@ fn compare() -> io::Result<bool> {
     let fields: usize = shown.iter().map(Vec::len).sum();
     println!("{}", shown::version()?);
     println!("{} requests written, {} dissected, {fields} fields shown", requests.len(), shown.len());
-    let wrong: Vec<_> = requests.iter().zip(&shown).filter(|(written, shown)| !is_expected(written, shown)).collect();
-    for (written, shown) in wrong.iter().take(5) {
-        println!("{:02x?}\n  expected {:x?}\n  shown    {shown:x?}", written.frame(), expected::expected(written));
-    }
-    Ok(wrong.is_empty() && requests.len() == shown.len())
+    let good = requests.iter().zip(&shown).filter(|(written, shown)| is_expected(written, shown)).count();
+    Ok(good == requests.len() && good == shown.len())
 }
 
+/// Whether all is shown as expected. Tells the first field that isn't.
 fn is_expected(written: &Written, shown: &[Shown]) -> bool {
-    expected::expected(written) == shown
+    let expected = expected::expected(written);
+    let same = expected.iter().zip(shown).take_while(|(expected, shown)| expected == shown).count();
+    let all = same == expected.len() && same == shown.len();
+    if !all {
+        println!("of {:02x?}", written.frame());
+        println!("  expected {:x?}, shown {:x?}", expected.get(same), shown.get(same));
+    }
+    all
 }
 
 fn dissect(requests: &[Written]) -> io::Result<Vec<Vec<Shown>>> {

@@ -1,5 +1,7 @@
 //! Requests written by the library, each with the parts that it was written from.
 
+use std::slice::from_ref;
+
 use contacts::{opcode, option, Cas, Fields, FRAME_MAX, KEY_MAX, VALUE_MAX};
 
 /// A number in the extras, under the name that the dissector has for it.
@@ -123,7 +125,7 @@ fn with_meta(opcode: u8) -> Vec<Written> {
     }
     for bits in OPTIONS {
         let options = extra("options", 4, bits.into());
-        push(&[options.clone()], b"");
+        push(from_ref(&options), b"");
         for meta in METAS {
             push(&[options.clone(), meta_length(meta)], meta);
         }
