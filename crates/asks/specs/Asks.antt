@@ -10,13 +10,9 @@ use Rattle.header.specs.declared.Header.{Header}
 use Rattle.rules.specs.WithMeta.{withMeta}
 use Rattle.rules.specs.declared.WithMeta.{WithMeta}
 use Rattle.rules.specs.Rules.{metaSize}
-use Rattle.request.specs.declared.Span.{Span}
 use Rattle.request.specs.Reading.{extrasSpan, keySpan, valueSpan, bytesIn}
 use Rattle.commands.specs.declared.Kind.{Kind}
 use Rattle.commands.specs.declared.Kind.the-variants.{Set, Add, Replace, Delete}
-use Rattle.commands.specs.declared.Plain.{Plain}
-use Rattle.commands.specs.declared.Counter.{Counter}
-use Rattle.commands.specs.declared.Meta.{Meta}
 use Rattle.commands.specs.declared.Command.{Command}
 use Rattle.commands.specs.declared.Command.the-variants.{Get, Write, Count, Noop, Version, WithMeta as Metas}
 use Rattle.commands.specs.Decide.{Request}

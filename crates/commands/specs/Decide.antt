@@ -1,8 +1,7 @@
 -- What a request does, seen only through the row of its key: the decision on numbers, with the bytes put in.
-use Prim.Native.Nat.{ℕ, _+_, _<_, _≤_}
-use mathlib.Core.Path.{_≡_, refl}
-use mathlib.Core.Bool.{Bool, true, false, cond, _&&_, _||_, not}
-use mathlib.Core.List.{List, [], _∷_, _++_}
+use Prim.Native.Nat.{ℕ}
+use mathlib.Core.Bool.{Bool, cond}
+use mathlib.Core.List.{List, [], _∷_}
 use mathlib.Core.Option.{Option, none, some}
 use lib.ListN.{length}
 use Rattle.octets.specs.BigEndian.{bytesOf}
@@ -19,7 +18,6 @@ use Rattle.commands.specs.declared.Source.{Source}
 use Rattle.commands.specs.declared.Source.the-variants.{Empty, Frame, Digits, Kept}
 use Rattle.commands.specs.declared.Reply.{Reply}
 use Rattle.commands.specs.declared.Reply.the-variants.{Bare, Found, Counted, Release}
-use Rattle.commands.specs.declared.Done.{Done}
 use Rattle.commands.specs.declared.Decision.{Decision}
 use Rattle.commands.specs.Done.{decision}
 

@@ -1,6 +1,6 @@
 -- What a command does once no check fails.
 use Prim.Native.Nat.{ℕ, _+_, _-_, _%_, _^_, max}
-use mathlib.Core.Bool.{Bool, true, false, cond, _&&_, _||_, not}
+use mathlib.Core.Bool.{Bool, false, cond, _&&_}
 use lib.Dec.{eqb}
 use Rattle.numbers.specs.declared.Cas.{Cas}
 use Rattle.numbers.specs.declared.Numbers.{Numbers}
@@ -22,7 +22,7 @@ use Rattle.commands.specs.declared.Command.{Command}
 use Rattle.commands.specs.declared.Command.the-variants.{Get, Write, Count, Noop, Version, WithMeta}
 use Rattle.commands.specs.declared.Ask.{Ask}
 use Rattle.commands.specs.declared.Source.{Source}
-use Rattle.commands.specs.declared.Source.the-variants.{Empty, Frame, Digits, Kept}
+use Rattle.commands.specs.declared.Source.the-variants.{Empty, Digits}
 use Rattle.commands.specs.declared.Reply.{Reply}
 use Rattle.commands.specs.declared.Reply.the-variants.{Bare, Found, Counted, Release}
 use Rattle.commands.specs.declared.Done.{Done}

@@ -1,14 +1,11 @@
 -- The writes that demand 3 speaks of, as requests whose form is right.
 use Prim.Native.Nat.{ℕ, _≤_}
 use mathlib.Core.Path.{_≡_}
-use mathlib.Core.Bool.{Bool, true, false}
+use mathlib.Core.Bool.{false}
 use mathlib.Core.List.{List, []}
 use lib.ListN.{length}
-use Rattle.numbers.specs.declared.Cas.{Cas}
-use Rattle.numbers.specs.declared.Revision.{Revision}
-use Rattle.numbers.specs.declared.Numbers.{Numbers}
 use Rattle.numbers.specs.declared.Mode.{Mode}
-use Rattle.engine.specs.Documents.{Key, Doc, Entry}
+use Rattle.engine.specs.Documents.{Doc, Entry}
 use Rattle.commands.specs.declared.Kind.{Kind}
 use Rattle.commands.specs.declared.Kind.the-variants.{Set, Add, Replace, Delete}
 use Rattle.commands.specs.declared.Meta.{Meta}

@@ -1,9 +1,8 @@
 -- How each command stands to each test, a row of rules for each, and the statuses in 01's order, first that applies.
-use Prim.Native.Nat.{ℕ, _+_}
+use Prim.Native.Nat.{ℕ}
 use mathlib.Core.Bool.{Bool, true, false, cond, _&&_, _||_, not, Bool·beq}
 use mathlib.Core.List.{List, [], _∷_}
-use lib.Dec.{ltb, leb, eqb}
-use Rattle.numbers.specs.declared.Numbers.{Numbers}
+use lib.Dec.{ltb, eqb}
 use Rattle.numbers.specs.declared.Mode.{Mode}
 use Rattle.numbers.specs.declared.Mode.the-variants.{ByRevision, LastWrite}
 use Rattle.engine.specs.declared.Stored.{Stored}
@@ -14,8 +13,6 @@ use Rattle.digits.specs.declared.Number.the-variants.{Value, NoNumber}
 use Rattle.engine.specs.declared.Head.{Head}
 use Rattle.commands.specs.declared.Kind.{Kind}
 use Rattle.commands.specs.declared.Kind.the-variants.{Set, Add, Replace, Delete}
-use Rattle.commands.specs.declared.Plain.{Plain}
-use Rattle.commands.specs.declared.Counter.{Counter}
 use Rattle.commands.specs.declared.Meta.{Meta}
 use Rattle.commands.specs.declared.Command.{Command}
 use Rattle.commands.specs.declared.Command.the-variants.{Get, Write, Count, Noop, Version, WithMeta}
@@ -23,7 +20,7 @@ use Rattle.commands.specs.declared.Ask.{Ask}
 use Rattle.commands.specs.declared.Rule.{Rule}
 use Rattle.commands.specs.declared.Tests.{Tests}
 use Rattle.commands.specs.declared.Source.{Source}
-use Rattle.commands.specs.declared.Source.the-variants.{Empty, Frame, Digits, Kept}
+use Rattle.commands.specs.declared.Source.the-variants.{Empty, Frame}
 
 abbrev pub isDelete : Kind → Bool
 isDelete Set = false

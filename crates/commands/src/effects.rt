@@ -77,12 +77,12 @@ fn write_done(h: Head, s: Stored, clock: u32, p: Plain) -> Done
     ensures { λ r. ⌜ r ≡ writeDone h s clock p ⌝ }
 {
     let k = p.kind;
-    let tomb = crate::rules::is_delete(k);
+    let tomb = crate::judging::is_delete(k);
     let numbers = plain_numbers(h, s, p.flags, numbers::absolute(p.expiry, clock));
     kept(
         h,
         Held { tomb, numbers },
-        crate::rules::source_of(k),
+        crate::judging::source_of(k),
         Reply::Bare,
     )
 }
@@ -155,12 +155,12 @@ fn meta_done(h: Head, w: Meta) -> Done
     ensures { λ r. ⌜ r ≡ metaDone h w ⌝ }
 {
     let k = w.kind;
-    let tomb = crate::rules::is_delete(k);
+    let tomb = crate::judging::is_delete(k);
     let numbers = meta_numbers(h, w);
     kept(
         h,
         Held { tomb, numbers },
-        crate::rules::source_of(k),
+        crate::judging::source_of(k),
         Reply::Bare,
     )
 }

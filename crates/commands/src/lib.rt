@@ -1,7 +1,7 @@
 // What a request does, decided by value from the table's head, the row of the request's key and whether a row is free.
 // Bytes stand apart: a decision says where a value comes from, and serving puts it in.
 mod effects;
-mod rules;
+mod judging;
 
 ghost use mathlib.Core.Path.{_≡_};
 ghost use Rattle.commands.specs.Done.{decision};
@@ -139,8 +139,8 @@ pub fn decide(h: Head, s: Stored, free: bool, clock: u32, n: Number, q: Ask) -> 
     ensures { λ r. ⌜ r ≡ decision h s free clock n q ⌝ }
 {
     let c = q.command;
-    let t = rules::rule_of(numbers::mode_of(h.mode), s, clock, c);
-    let status = rules::status_of(rules::tests_of(h, s, free, clock, n, q, t));
+    let t = judging::rule_of(numbers::mode_of(h.mode), s, clock, c);
+    let status = judging::status_of(judging::tests_of(h, s, free, clock, n, q, t));
     let silent = q.quiet & (status == t.hush);
     if status == 0 {
         let done = effects::done_of(h, s, clock, n, c);

@@ -3,7 +3,6 @@ use Prim.Native.Nat.{ℕ}
 use Rattle.numbers.specs.declared.Numbers.{Numbers}
 use Rattle.request.specs.declared.Span.{Span}
 use Rattle.request.specs.declared.Frame.{Frame}
-use Rattle.numbers.specs.declared.Cas.{Cas}
 use Rattle.request.specs.declared.Fields.{Fields}
 use Rattle.request.specs.declared.Reading.{Reading}
 use Rattle.request.specs.declared.Reading.the-variants.{Outcome, Status, Accepted}

@@ -2,16 +2,15 @@
 use Prim.Native.Nat.{ℕ, zero, suc, _+_, _-_, _*_, _/_, _%_, _≤_, _<_, _^_}
 use native.Mathlib.Omega.{arith}
 use native.Mathlib.Nat.{div-lt-iff-lt-mul, pow-suc, add-zero}
-use mathlib.Core.Path.{_≡_, refl, ap, _∙_, sym}
-use mathlib.Core.Bool.{Bool, true, false, _&&_, and-true, and-false, cond}
+use mathlib.Core.Path.{_≡_, ap, _∙_, sym}
+use mathlib.Core.Bool.{true, false, and-false, cond}
 use mathlib.Core.List.{List, [], _∷_, _++_}
-use lib.Dec.{ltb, leb}
-use lib.ListN.{length, set, length-append, length-set}
+use lib.Dec.{ltb}
+use lib.ListN.{length, set, length-append}
 use borrow.Author.Tests.{lt-ltb, le-ltb, ltb-true, ltb-false}
 use Rattle.octets.specs.Parts.{pasted}
-use Rattle.octets.proofs.Choices.{cases, both}
+use Rattle.octets.proofs.Choices.{cases}
 use Rattle.octets.proofs.Lists.{pasted-none, pasted-push}
-use Rattle.digits.specs.declared.Number.{Number}
 use Rattle.digits.specs.declared.Number.the-variants.{Value, NoNumber}
 use Rattle.digits.specs.Decimal.{digitsIn, digits, valueFrom, isDigit, allDigits, numberFrom}
 

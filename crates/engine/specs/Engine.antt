@@ -1,11 +1,10 @@
 -- An engine: rows that are searched by key, written and purged, and the laws that any engine meets. The decisions, the merge theorem and a second engine stand on these alone.
 use mathlib.Core.Path.{_≡_}
 use mathlib.Core.Bool.{Bool, true, false, cond}
-use mathlib.Core.List.{List}
 use mathlib.Core.Option.{Option, none, some}
 use Prim.Native.Nat.{ℕ, suc, _<_}
 use Rattle.octets.specs.Compare.{same}
-use Rattle.engine.specs.Documents.{Key, Doc, Entry}
+use Rattle.engine.specs.Documents.{Key, Doc}
 
 abbrev pub isSome {ℓ} : {A : Type ℓ} → Option A → Bool
 isSome none = false

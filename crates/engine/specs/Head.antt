@@ -1,6 +1,5 @@
 -- A table's head with another mark.
 use Prim.Native.Nat.{ℕ}
-use Rattle.numbers.specs.declared.Cas.{Cas}
 use Rattle.engine.specs.declared.Head.{Head}
 
 abbrev pub marked : Head → ℕ → Head

@@ -2,8 +2,6 @@
 use Prim.Native.Nat.{ℕ}
 use mathlib.Core.Bool.{Bool, true, false, not, _&&_}
 use mathlib.Core.Option.{Option, none, some}
-use Rattle.numbers.specs.declared.Cas.{Cas}
-use Rattle.numbers.specs.declared.Revision.{Revision}
 use Rattle.numbers.specs.declared.Numbers.{Numbers}
 use Rattle.numbers.specs.declared.Mode.{Mode}
 use Rattle.numbers.specs.Order.{greater}

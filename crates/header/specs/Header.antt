@@ -2,7 +2,6 @@
 use Prim.Native.Nat.{ℕ, _^_, _<_}
 use mathlib.Core.List.{List, _++_}
 use Rattle.octets.specs.BigEndian.{num, bytesOf}
-use Rattle.numbers.specs.declared.Cas.{Cas}
 use Rattle.header.specs.declared.Header.{Header}
 
 -- the fields at the start of a list of bytes

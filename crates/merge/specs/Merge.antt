@@ -1,6 +1,6 @@
 -- Demand 3 for any engine that meets the laws: a whole list of with-meta calls, each decided on the table as the one before left it.
 use mathlib.Core.Path.{_≡_}
-use mathlib.Core.Bool.{Bool, true, false}
+use mathlib.Core.Bool.{true, false}
 use mathlib.Core.List.{List, [], _∷_, _++_, map}
 use mathlib.Core.Option.{Option, none, some}
 use Prim.Native.Nat.{ℕ, _≤_}
@@ -12,7 +12,7 @@ use Rattle.engine.specs.declared.Head.{Head}
 use Rattle.engine.specs.Head.{marked}
 use Rattle.engine.specs.Documents.{Key, Doc, Entry}
 use Rattle.engine.specs.Engine.{Engine, Laws, isSome}
-use Rattle.commands.specs.Decide.{Request, Effect, decide}
+use Rattle.commands.specs.Decide.{Effect, decide}
 use Rattle.commands.specs.Merging.{Call, Merging, meta, writeOf}
 use Rattle.merge.specs.Writes.{_∈_, Greatest, held, for, isWritten, newKeys, largest, verdicts, stored}
 

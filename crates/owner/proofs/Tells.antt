@@ -2,14 +2,14 @@
 use native.Mathlib.Omega.{arith}
 use mathlib.Core.Path.{_≡_, refl, sym, ap, _∙_}
 use mathlib.Core.Logic.{_⊎_, ⊎-elim}
-use mathlib.Core.Bool.{Bool, true, false, _&&_, cond}
+use mathlib.Core.Bool.{Bool, true, false, cond}
 use mathlib.Core.List.{List, [], _∷_}
 use mathlib.Core.Option.{Option, none, some}
 use Prim.Native.Nat.{ℕ, zero, suc, _+_, _*_, _≤_, _<_}
-use lib.Dec.{leb, eqb}
+use lib.Dec.{eqb}
 use lib.ListN.{length, take, drop, getD, List·getD-map}
 use lib.Seq.{take-take, drop-drop}
-use borrow.Author.Tests.{leb-true, lt-ltb}
+use borrow.Author.Tests.{lt-ltb}
 use Rattle.octets.specs.Parts.{part}
 use Rattle.octets.specs.BigEndian.{be, beFrom}
 use Rattle.octets.specs.Compare.{same, zeros}
@@ -23,11 +23,12 @@ use Rattle.table.specs.declared.Found.the-variants.{At}
 use Rattle.table.specs.Row.{Row, slotOf, docOf, keyOf, rowOf}
 use Rattle.table.specs.Table.{headOf, chunks, rowCount, rowsOf, tableOf, fresh}
 use Rattle.table.specs.Lookup.{findIn}
-use Rattle.table.specs.Damage.{kindOk, usedOk, rowSound, allSound, sound}
+use Rattle.table.specs.Damage.{usedOk, rowSound, allSound, sound}
 use Rattle.table.specs.Store.{rowAt, valueAt}
 use Rattle.table.specs.Plain.{findRow}
 use Rattle.table.specs.Purge.{purgedTable}
 use Rattle.table.specs.Claims.{AllGood}
+use Rattle.table.proofs.RowLaws.{Used as UsedSlot, used-parts}
 use Rattle.table.proofs.PlainLaws.{none-some}
 use Rattle.table.proofs.Places.{founds, find-place, find-nothing}
 use Rattle.table.proofs.TableLaws.{sound-parts, sound-good, good-sound, length-rows}
@@ -56,16 +57,9 @@ module _ (r : List ℕ) where
       (λ t z. none-some e z)
       (λ f z. let q : x ≡ e = cc in (f, ap (λ (w : Entry). w .doc) q))
 
-  limits : (mark : ℕ) → rowSound mark r ≡ true → eqb (slotOf r .kind) 0 ≡ false → (slotOf r .keylen ≤ 250) × (slotOf r .vallen ≤ 1024)
-  unfolding rowSound usedOk
-  limits mark e f =
-      let s = slotOf r in
-      let cas = leb 1 (s .numbers .cas .0) && leb (s .numbers .cas .0) mark in
-      let used = both (usedOk mark s) (zeros (drop (32 + (s .keylen + s .vallen)) r)) (rw f at e) .0 in
-      let key = both (kindOk s) (leb 1 (s .keylen) && (leb (s .keylen) 250 && (leb (s .vallen) 1024 && cas))) used .1 in
-      let most = both (leb 1 (s .keylen)) (leb (s .keylen) 250 && (leb (s .vallen) 1024 && cas)) key .1 in
-      let value = both (leb (s .keylen) 250) (leb (s .vallen) 1024 && cas) most in
-      (leb-true (s .keylen) 250 (value .0), leb-true (s .vallen) 1024 (both (leb (s .vallen) 1024) cas (value .1) .0))
+  used : (mark : ℕ) → rowSound mark r ≡ true → eqb (slotOf r .kind) 0 ≡ false → UsedSlot mark (slotOf r)
+  unfolding rowSound
+  used mark e f = used-parts mark (slotOf r) (both (usedOk mark (slotOf r)) (zeros (drop (32 + (slotOf r .keylen + slotOf r .vallen)) r)) (rw f at e) .0)
 
 -- the row at a place of a run of rows
 row-at : (n i : ℕ) (b : List ℕ) → getD (rowsOf n b) i none ≡ rowOf (getD (chunks n b) i [])
@@ -97,8 +91,8 @@ seen b key i e f =
     let h = find-place key (rowsOf n (drop 16 b)) i f in
     let l : i < n = rw (length-rows n (drop 16 b)) at (h .below) in
     let u = used-row (rowAt b i) (h .entry) (sym (row-at n i (drop 16 b)) ∙ h .there) in
-    let m = limits (rowAt b i) (headOf b .mark .0) (sound-at (headOf b .mark .0) n i (drop 16 b) (s .each) l) (u .0) in
-    record { below = l; found = h .found ∙ ap (λ (d : Doc). some d) (sym (u .1)); key-most = m .0; value-most = m .1 }
+    let m = used (rowAt b i) (headOf b .mark .0) (sound-at (headOf b .mark .0) n i (drop 16 b) (s .each) l) (u .0) in
+    record { below = l; found = h .found ∙ ap (λ (d : Doc). some d) (sym (u .1)); key-most = m .key-most; value-most = m .value-most }
 
 -- where the value of a row stands
 module _ (b : List ℕ) (i : ℕ) (h : i < rowCount b) where

@@ -1,11 +1,9 @@
 -- The owner's calls, on any memory: make a fresh table, read a document, purge. "Both answer 5 on a damaged table and change nothing."
 use Prim.Native.Nat.{ℕ, _+_, _*_}
 use mathlib.Core.List.{List}
-use mathlib.Core.Bool.{Bool, true, false, cond, _&&_, _||_}
-use mathlib.Core.Option.{Option, none, some}
+use mathlib.Core.Bool.{Bool, cond, _&&_, _||_}
 use lib.ListN.{length}
 use lib.Dec.{leb}
-use Rattle.numbers.specs.declared.Numbers.{Numbers}
 use Rattle.numbers.specs.Expiry.{expired}
 use Rattle.engine.specs.Documents.{Doc}
 use Rattle.engine.specs.Stored.{heldOf, live}

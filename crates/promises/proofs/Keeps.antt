@@ -2,44 +2,29 @@
 use Prim.Native.Nat.{ℕ}
 use mathlib.Core.Path.{_≡_, refl, sym, _∙_}
 use mathlib.Core.List.{List}
-use mathlib.Core.Option.{Option, none}
-use native.Mathlib.Omega.{arith}
-use lib.ListN.{length}
+use mathlib.Core.Option.{none}
 use lib.Dec.{ltb}
 use Rattle.octets.proofs.Choices.{cases}
 use Rattle.header.specs.declared.Header.{Header}
 use Rattle.request.specs.declared.Gate.{Gate}
 use Rattle.request.specs.declared.Gate.the-variants.{Stop, Whole}
 use Rattle.request.specs.Reading.{frameStatus, bytesIn, keySpan}
-use Rattle.engine.specs.Documents.{Key, Doc}
 use Rattle.commands.specs.Decide.{decide}
 use Rattle.commands.proofs.Stores.{refused-keeps as decided-keeps}
 use Rattle.asks.specs.Asks.{requestOf}
-use Rattle.table.specs.declared.Found.{Found}
-use Rattle.table.specs.declared.Found.the-variants.{At, Nothing}
 use Rattle.table.specs.Table.{Table, tableOf}
 use Rattle.table.specs.Lookup.{placeIn}
 use Rattle.table.specs.Plain.{findRow, freeRows}
-use Rattle.serving.specs.declared.Served.the-variants.{Refused, Done}
-use Rattle.serving.specs.Change.{storedAt}
-use Rattle.serving.specs.Serve.{goesOn, decisionOn, answerOn, frameTable, answerBy, tableBy, replyBy, served, servedTable, servedReply, gateAll}
+use Rattle.serving.specs.declared.Served.the-variants.{Done}
+use Rattle.serving.proofs.Gated.{refused-keeps as call-keeps}
+use Rattle.serving.proofs.Storing.{stored-none}
+use Rattle.serving.specs.Serve.{goesOn, decisionOn, answerOn, frameTable, answerBy, tableBy, served, servedTable, gateAll}
 use Rattle.promises.specs.Table.{RefusedKeeps, StatusKeeps}
 
--- ---- a refused call
-stopped : (b : List ℕ) (clock : ℕ) (s out : List ℕ) (n need : ℕ) (g : Gate) → answerBy b clock s g ≡ Refused n need
-    → (tableBy b clock s g ≡ b) × (replyBy b clock s out g ≡ out)
-stopped b clock s out n need (Stop m more) e = (refl, refl)
-stopped b clock s out n need (Whole h) e = absurd (let z : _≡_ {A = ℕ} 0 1 = cc in omega arith)
-
 pub refused-keeps : RefusedKeeps
-unfolding served servedTable servedReply
-refused-keeps b clock s out n need e = stopped b clock s out n need (gateAll b (length out) s) e
+refused-keeps = call-keeps
 
 -- ---- another status than 0: nothing is stored
-stored-none : (b : List ℕ) (f : Found) (key : Key) (o : Option Doc) (mark : ℕ) → o ≡ none → storedAt b f key o mark ≡ b
-stored-none b (At i) key o mark e = rw e
-stored-none b Nothing key o mark e = rw e
-
 nothing-stored : (t : Table) (clock : ℕ) (s : List ℕ) (h : Header) → (answerOn t clock s h .effect .status ≡ 0 → ⊥) → answerOn t clock s h .effect .store ≡ none
 unfolding answerOn decisionOn decide
 nothing-stored t clock s h n =
@@ -53,8 +38,8 @@ unfolding frameTable
 kept b clock s status used len (Stop m more) e n = refl
 kept b clock s status used len (Whole h) e n =
     let z : answerOn (tableOf b) clock s h .effect .status ≡ status = cc in
-    stored-none b (placeIn (bytesIn s (keySpan h)) (tableOf b .rows)) (bytesIn s (keySpan h)) (answerOn (tableOf b) clock s h .effect .store)
-    (answerOn (tableOf b) clock s h .effect .head .mark .0) (nothing-stored (tableOf b) clock s h (λ y. n (sym z ∙ y)))
+    rw (nothing-stored (tableOf b) clock s h (λ y. n (sym z ∙ y)))
+    (stored-none b (placeIn (bytesIn s (keySpan h)) (tableOf b .rows)) (bytesIn s (keySpan h)) (answerOn (tableOf b) clock s h .effect .head .mark .0))
 
 pub status-keeps : StatusKeeps
 unfolding served servedTable

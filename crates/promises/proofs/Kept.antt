@@ -1,15 +1,13 @@
 -- What a decision stores, and for which key: nothing stored keeps the head, and only a command with a key stores.
 use native.Mathlib.Omega.{arith}
-use Prim.Native.Nat.{ℕ, _+_, _^_, _≤_, _<_}
+use Prim.Native.Nat.{ℕ, _^_, _≤_, _<_}
 use mathlib.Core.Path.{_≡_, refl, sym}
-use mathlib.Core.Bool.{Bool, not}
+use mathlib.Core.Bool.{Bool}
 use mathlib.Core.List.{List, [], _∷_}
 use mathlib.Core.Option.{Option, none, some}
-use lib.ListN.{length}
-use lib.Dec.{eqb, ltb}
-use borrow.Author.Tests.{ltb-false}
+use lib.Dec.{eqb}
 use Rattle.octets.specs.Compare.{same}
-use Rattle.octets.proofs.Choices.{cases, cond-elim}
+use Rattle.octets.proofs.Choices.{cases}
 use Rattle.digits.specs.declared.Number.{Number}
 use Rattle.digits.specs.Decimal.{numberOf}
 use Rattle.numbers.specs.Order.{modeOf}
@@ -17,10 +15,6 @@ use Rattle.engine.specs.declared.Head.{Head}
 use Rattle.engine.specs.declared.Stored.{Stored}
 use Rattle.engine.specs.Documents.{Key, Doc}
 use Rattle.engine.specs.Stored.{live, numbersOf, storedOf}
-use Rattle.header.specs.declared.Header.{Header}
-use Rattle.header.specs.Header.{headerOf}
-use Rattle.request.specs.declared.Gate.the-variants.{Stop, Whole}
-use Rattle.request.specs.Reading.{gateOf}
 use Rattle.commands.specs.declared.Done.{Done}
 use Rattle.commands.specs.declared.Command.{Command}
 use Rattle.commands.specs.declared.Command.the-variants.{Get, Write, Count, Noop, Version, WithMeta}
@@ -71,19 +65,3 @@ fits-found mark (some x ∷ ws) k m g =
     cases (same (x .key) k)
     (λ s. rw s (record { flags = g .0 .flags; expiry = g .0 .expiry; revision = g .0 .revision; cas = omega (arith, g .0 .cas-most) }))
     (λ s. rw s (fits-found mark ws k m (g .1)))
-
--- a whole frame stands in the bytes
-stopped {ℓ} : {X : Type ℓ} (n need : ℕ) (h : Header) → Stop n need ≡ Whole h → X
-stopped n need h e = absurd (let y : _≡_ {A = ℕ} 0 1 = cc in omega arith)
-
-pub whole-inside : (s : List ℕ) (h : Header) → gateOf s ≡ Whole h → 24 + h .body ≤ length s
-unfolding gateOf
-whole-inside s h e =
-    cond-elim (ltb (length s) 24) _ _ _ e (λ t z. stopped _ _ h z)
-    (λ t e. cond-elim (not (eqb (headerOf s .magic) 0x80)) _ _ _ e (λ t z. stopped _ _ h z)
-    (λ t e. cond-elim (ltb 1400 (headerOf s .body)) _ _ _ e (λ t z. stopped _ _ h z)
-    (λ t e. cond-elim (ltb (length s) (24 + headerOf s .body)) _ _ _ e (λ t z. stopped _ _ h z)
-    (λ t z.
-    let l = ltb-false (length s) (24 + headerOf s .body) t in
-    let y : headerOf s ≡ h = cc in
-    rw y at l))))

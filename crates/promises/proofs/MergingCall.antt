@@ -8,7 +8,7 @@ use native.Mathlib.Omega.{arith}
 use lib.ListN.{length}
 use lib.Dec.{ltb, eqb}
 use borrow.Author.Tests.{eqb-true, eqb-false, not-true, ltb-false}
-use Rattle.octets.proofs.Choices.{cases, cond-elim, either as one-of}
+use Rattle.octets.proofs.Choices.{cond-elim, either as one-of}
 use Rattle.octets.proofs.Lists.{part-length, part-most}
 use Rattle.numbers.specs.declared.Mode.{Mode}
 use Rattle.numbers.specs.declared.Mode.the-variants.{ByRevision, LastWrite}
@@ -20,8 +20,8 @@ use Rattle.rules.specs.declared.WithMeta.{WithMeta}
 use Rattle.rules.specs.WithMeta.{withMeta}
 use Rattle.rules.specs.Rules.{formOk, fieldRulesOk, metaSize, judged, status}
 use Rattle.rules.proofs.RuleLaws.{parts-inside}
-use Rattle.request.specs.declared.Gate.the-variants.{Whole}
-use Rattle.request.specs.Reading.{gateOf, frameStatus, extrasSpan, valueSpan, bytesIn}
+use Rattle.request.proofs.Gated.{whole-frame}
+use Rattle.request.specs.Reading.{frameStatus, extrasSpan, valueSpan, bytesIn}
 use Rattle.commands.specs.declared.Kind.{Kind}
 use Rattle.commands.specs.declared.Kind.the-variants.{Set, Delete}
 use Rattle.commands.specs.declared.Command.{Command}
@@ -72,19 +72,6 @@ judged-short s h extras value e =
     (λ u e₂. cond-elim (not (fieldRulesOk s extras value)) _ _ _ e₂ (λ v z. absurd (omega arith))
     (λ v e₃. cond-elim (ltb 1024 (length value - metaSize s extras)) _ _ _ e₃ (λ w z. absurd (omega arith)) (λ w z. ltb-false _ _ w))))
 
-whole-body : (s : List ℕ) → gateOf s ≡ Whole (headerOf s) → 24 + headerOf s .body ≤ length s
-unfolding gateOf
-whole-body s e =
-    cases (ltb (length s) 24) (λ t. absurd (let z = rw t at e in let y : _≡_ {A = ℕ} 0 1 = cc in omega arith))
-    (λ t. let e₁ = rw t at e in
-    cases (eqb (headerOf s .magic) 0x80)
-    (λ m. let e₂ = rw m at e₁ in
-    cases (ltb 1400 (headerOf s .body)) (λ u. absurd (let z = rw u at e₂ in let y : _≡_ {A = ℕ} 0 1 = cc in omega arith))
-    (λ u. let e₃ = rw u at e₂ in
-    cases (ltb (length s) (24 + headerOf s .body)) (λ v. absurd (let z = rw v at e₃ in let y : _≡_ {A = ℕ} 0 1 = cc in omega arith))
-    (λ v. ltb-false _ _ v)))
-    (λ m. absurd (let z = rw m at e₁ in let y : _≡_ {A = ℕ} 0 1 = cc in omega arith)))
-
 value-short : (s : List ℕ) (h : Header) → 24 + h .body ≤ length s → frameStatus s h ≡ 0 → length (valueOf s h) ≤ 1024
 unfolding valueOf frameStatus valueSpan status
 value-short s h w e =
@@ -108,7 +95,7 @@ merging-asked m v c p =
       with-meta = x .with-meta;
       kind = x .kind;
       mode = x .last;
-      short = value-short s h (whole-body s (p .whole)) (p .form);
+      short = value-short s h (whole-frame s h (p .whole) .inside) (p .form);
       here = p .here;
       header-cas = p .header-cas;
       force = x .force;

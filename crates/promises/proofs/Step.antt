@@ -1,7 +1,7 @@
 -- One whole frame on a good table: the bytes it leaves are those of a table that is good again.
 use native.Mathlib.Omega.{arith}
 use Prim.Native.Nat.{ℕ, _+_, _≤_, _<_}
-use mathlib.Core.Path.{_≡_, refl, sym, ap, _∙_, subst}
+use mathlib.Core.Path.{_≡_, sym, ap, _∙_, subst}
 use mathlib.Core.Bool.{true, false}
 use mathlib.Core.List.{List}
 use mathlib.Core.Option.{Option, none, some}
@@ -20,8 +20,6 @@ use Rattle.commands.specs.Decide.{Answer, decide}
 use Rattle.commands.specs.Claims.{StoredSound}
 use Rattle.commands.proofs.Stores.{stores-with-room, stores-sound}
 use Rattle.asks.specs.Asks.{requestOf}
-use Rattle.table.specs.declared.Found.{Found}
-use Rattle.table.specs.declared.Found.the-variants.{At, Nothing}
 use Rattle.table.specs.Table.{Table, tableBytes, withMark}
 use Rattle.table.specs.Lookup.{placeIn}
 use Rattle.table.specs.Plain.{plain, findRow, freeRows}
@@ -31,15 +29,13 @@ use Rattle.table.proofs.Places.{place-room}
 use Rattle.table.proofs.TableLaws.{good-sound}
 use Rattle.table.proofs.ChangeLaws.{store-good}
 use Rattle.merge.specs.Merge.{storeRow}
+use Rattle.request.proofs.Gated.{whole-frame}
 use Rattle.serving.specs.Change.{storedAt}
+use Rattle.serving.proofs.Storing.{stored-none}
 use Rattle.serving.specs.Serve.{goesOn, decisionOn, answerOn, frameTable}
 use Rattle.promises.specs.Step.{stepTable, Steps, StepGood}
 use Rattle.promises.proofs.Formed.{form, command-right}
-use Rattle.promises.proofs.Kept.{decide-keeps, fits-found, whole-inside}
-
-stored-none : (b : List ℕ) (f : Found) (key : Key) (mark : ℕ) → storedAt b f key none mark ≡ b
-stored-none b (At i) key mark = refl
-stored-none b Nothing key mark = refl
+use Rattle.promises.proofs.Kept.{decide-keeps, fits-found}
 
 module _ (t : Table) (clock : ℕ) (s : List ℕ) (h : Header) (g : Good t) where
   abbrev key : Key
@@ -133,4 +129,4 @@ module _ (t : Table) (clock : ℕ) (s : List ℕ) (h : Header) (g : Good t) wher
         stored
 
 pub step-good : StepGood
-step-good t clock s h g y w = cases (goesOn (frameStatus s h)) (went t clock s h g y (whole-inside s h w)) (refused t clock s h g)
+step-good t clock s h g y w = cases (goesOn (frameStatus s h)) (went t clock s h g y (whole-frame s h w .inside)) (refused t clock s h g)

@@ -1,10 +1,8 @@
 -- The worked list meets the premises and gives what specs/Worked.antt says.
 use Prim.Native.Nat.{ℕ}
 use mathlib.Core.Path.{_≡_, refl, sym, ap, _∙_}
-use mathlib.Core.Logic.{⊎-elim}
 use mathlib.Core.Bool.{Bool, true, cond, _&&_, _||_}
-use mathlib.Core.List.{List, [], _∷_, _++_, map}
-use mathlib.Core.Option.{Option, none, some}
+use mathlib.Core.List.{List, [], _∷_, map}
 use lib.ListN.{length}
 use lib.Dec.{eqb, leb, ltb}
 use native.Mathlib.Omega.{arith}
@@ -12,12 +10,12 @@ use borrow.Author.Tests.{leb-true, ltb-true}
 use Rattle.octets.specs.Parts.{Bytes, written}
 use Rattle.octets.specs.BigEndian.{be, bytesOf}
 use Rattle.octets.specs.Compare.{zeros, same}
-use Rattle.octets.proofs.Choices.{cases, both}
+use Rattle.octets.proofs.Choices.{both}
 use Rattle.octets.proofs.Lists.{bytes-cons}
 use Rattle.numbers.specs.declared.Mode.{Mode}
 use Rattle.numbers.specs.declared.Numbers.{Numbers}
 use Rattle.numbers.specs.Order.{greater}
-use Rattle.engine.specs.Documents.{Key, Doc, Entry}
+use Rattle.engine.specs.Documents.{Key, Doc}
 use Rattle.engine.specs.Engine.{isSome}
 use Rattle.engine.specs.Stored.{accepted}
 use Rattle.shape.specs.Shapes.{shapeOf}
@@ -31,14 +29,14 @@ use Rattle.request.specs.Reading.{gateOf, extrasSpan, keySpan, frameStatus, byt
 use Rattle.commands.specs.Rules.{ruleOf, testsOf, statusOf, firstFailure}
 use Rattle.commands.specs.Done.{decision, doneOf}
 use Rattle.asks.specs.Asks.{either, requestOf}
-use Rattle.table.specs.Row.{Row, slotOf, rowOf, rowBytes}
+use Rattle.table.specs.Row.{slotOf, rowOf, rowBytes}
 use Rattle.table.specs.Table.{tableOf, tableBytes}
-use Rattle.table.specs.Plain.{findRow, freeRows}
+use Rattle.table.specs.Plain.{freeRows}
 use Rattle.table.specs.Damage.{sizeOk, headOk, usedOk, rowSound, sound}
 use Rattle.table.specs.Store.{stored}
-use Rattle.table.proofs.PlainLaws.{none-some}
 use Rattle.serving.specs.Serve.{gateAll, decisionOn, answerOn, frameTable, served, servedTable}
-use Rattle.merge.specs.Writes.{_∈_, held, for, newKeys}
+use Rattle.merge.proofs.Candidates.{Holds, found-all, for-all, candidates-all}
+use Rattle.merge.specs.Writes.{_∈_, for, newKeys}
 use Rattle.merge.specs.Merge.{All}
 use Rattle.promises.specs.Calls.{Call}
 use Rattle.promises.specs.Merge.{Merging, Premises, candidates, docAt, writes, optionsFor, modeAt}
@@ -99,31 +97,6 @@ all-merging m v (c ∷ cs) e =
     let p : facts c ≡ right m v c = cc in
     let q : map facts cs ≡ map (right m v) cs = cc in
     (right-merging m v c p, all-merging m v cs q)
-
--- ---- what holds of every row and of every write holds of every candidate
-module _ (P : Doc → Type 0) where
-  abbrev Holds : Row → Type 0
-  Holds none = Unit {0}
-  Holds (some e) = P (e .doc)
-
-  found-all : (rows : List Row) (k : Key) (d : Doc) → All Holds rows → findRow rows k ≡ some d → P d
-  found-all [] k d p e = none-some d e
-  found-all (none ∷ rows) k d p e = found-all rows k d (p .1) e
-  found-all (some x ∷ rows) k d p e =
-      cases (same (x .key) k)
-      (λ s. let e′ = rw s at e in let z : x .doc ≡ d = cc in rw (← z) (p .0))
-      (λ s. found-all rows k d (p .1) (rw s at e))
-
-  for-all : (ws : List Entry) (k : Key) (d : Doc) → All (λ w. P (w .doc)) ws → d ∈ for k ws → P d
-  for-all [] k d p h = absurd h
-  for-all (w ∷ ws) k d p h =
-      cases (same (w .key) k)
-      (λ s. ⊎-elim (λ e. rw e (p .0)) (λ r. for-all ws k d (p .1) r) (rw s at h))
-      (λ s. for-all ws k d (p .1) (rw s at h))
-
-  candidates-all : (o : Option Doc) (ds : List Doc) (d : Doc) → ((e : Doc) → o ≡ some e → P e) → (d ∈ ds → P d) → d ∈ (held o ++ ds) → P d
-  candidates-all none ds d p q h = q h
-  candidates-all (some e) ds d p q h = ⊎-elim (λ z. rw z (p e refl)) q h
 
 -- here the numbers say the rest: CAS 41 and 61 are the tombstones
 abbrev buried : ℕ → Bool

@@ -4,7 +4,7 @@ use mathlib.Core.List.{List, [], _∷_}
 use lib.ListN.{length}
 use Rattle.serving.specs.declared.Served.{Served}
 use Rattle.serving.specs.declared.Served.the-variants.{Refused, Done}
-use Rattle.serving.specs.Serve.{served, servedTable, servedReply}
+use Rattle.serving.specs.Serve.{served, servedTable}
 
 -- a clock, received bytes and a reply area as it was before
 pub record Call : Type 0 where

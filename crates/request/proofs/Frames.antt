@@ -1,26 +1,23 @@
 -- The frame of a request's fields and parts, and what reading finds in it, whatever follows.
 use Prim.Native.Nat.{ℕ, _+_, _-_, _^_, _≤_, _<_}
-use mathlib.Core.Path.{_≡_, refl, sym, ap, ap₂, _∙_}
-use mathlib.Core.List.{List, [], _∷_, _++_, append-assoc, append-nil}
-use mathlib.Core.Bool.{Bool, true, false, not, _&&_, cond}
+use mathlib.Core.Path.{_≡_, sym, ap, _∙_}
+use mathlib.Core.List.{List, _++_, append-assoc}
+use mathlib.Core.Bool.{true, _&&_, cond}
 use native.Mathlib.Omega.{arith}
 use native.Mathlib.Nat.{add-sub-cancel-left}
 use lib.ListN.{length, take, drop, length-append}
 use lib.Seq.{drop-drop, take-append-seam, drop-append-seam}
 use lib.Dec.{ltb, eqb}
 use borrow.Author.Tests.{le-ltb, lt-ltb, ltb-true}
-use Rattle.octets.specs.Parts.{part}
 use Rattle.octets.proofs.Choices.{both}
 use Rattle.header.specs.declared.Header.{Header}
 use Rattle.header.specs.Header.{headerOf, headerBytes, Fits as HeaderFits}
 use Rattle.header.proofs.HeaderLaws.{length-header, after-header, header-back}
 use Rattle.rules.specs.Rules.{status}
 use Rattle.request.specs.declared.Fields.{Fields}
-use Rattle.request.specs.declared.Gate.{Gate}
 use Rattle.request.specs.declared.Gate.the-variants.{Stop, Whole}
-use Rattle.request.specs.declared.Reading.{Reading}
 use Rattle.request.specs.declared.Reading.the-variants.{Outcome, Status, Accepted}
-use Rattle.request.specs.Reading.{gateOf, extrasSpan, keySpan, valueSpan, bytesIn, frameOf, frameStatus, wholeReading, gated, reading}
+use Rattle.request.specs.Reading.{gateOf, extrasSpan, keySpan, valueSpan, bytesIn, frameOf, frameStatus, wholeReading, reading}
 use Rattle.request.specs.Writing.{headerFor, frameBytes, held, Fits}
 
 -- a header that holds these lengths holds the whole request

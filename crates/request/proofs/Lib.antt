@@ -1,4 +1,5 @@
 pub mod Frames
+pub mod Gated
 pub mod WriterLaws
 pub mod RoundTrip
 pub mod OneCall

@@ -1,20 +1,18 @@
 -- The claims of specs/Claims.antt: what was written reads back, what was read is written again, and what is not written is not read.
-use Prim.Native.Nat.{ℕ, _+_, _-_, _^_, _≤_, _<_}
+use Prim.Native.Nat.{ℕ, _+_, _-_, _^_, _≤_}
 use mathlib.Core.Path.{_≡_, refl, sym, ap, ap₂, _∙_}
-use mathlib.Core.List.{List, [], _∷_, _++_}
-use mathlib.Core.Bool.{Bool, true, false, not, _&&_, cond}
+use mathlib.Core.List.{List, [], _++_}
+use mathlib.Core.Bool.{true, false, not, cond}
 use native.Mathlib.Omega.{arith}
-use native.Mathlib.Nat.{zero-add}
 use lib.ListN.{length, take, drop}
-use lib.Dec.{ltb, leb, eqb}
-use borrow.Author.Tests.{ltb-false, ltb-true, eqb-true, lt-ltb, le-ltb, not-false, not-true, leb-true, leb-false}
+use lib.Dec.{ltb, eqb}
+use borrow.Author.Tests.{ltb-false, ltb-true, eqb-true, lt-ltb, not-false, not-true}
 use Rattle.octets.specs.Parts.{Bytes, part, pasted, written}
-use Rattle.octets.specs.BigEndian.{num}
 use Rattle.octets.proofs.Choices.{cases, cond-elim}
 use Rattle.octets.proofs.Lists.{written-fits, part-length, glue}
 use Rattle.octets.proofs.Numbers.{num-below}
 use Rattle.header.specs.declared.Header.{Header}
-use Rattle.header.specs.Header.{headerOf, headerBytes, Fits as HeaderFits}
+use Rattle.header.specs.Header.{headerOf, headerBytes}
 use Rattle.header.proofs.HeaderLaws.{header-again}
 use Rattle.rules.specs.Rules.{status}
 use Rattle.rules.proofs.RuleLaws.{parts-inside}
@@ -22,15 +20,14 @@ use Rattle.request.specs.declared.Fields.{Fields}
 use Rattle.request.specs.declared.Frame.{Frame}
 use Rattle.request.specs.declared.Gate.{Gate}
 use Rattle.request.specs.declared.Gate.the-variants.{Stop, Whole}
-use Rattle.request.specs.declared.Reading.{Reading}
-use Rattle.request.specs.declared.Reading.the-variants.{Outcome, Status, Accepted}
-use Rattle.request.specs.declared.Written.{Written}
-use Rattle.request.specs.declared.Written.the-variants.{Refused, NoRoom, Wrote}
+use Rattle.request.specs.declared.Reading.the-variants.{Accepted}
+use Rattle.request.specs.declared.Written.the-variants.{Refused, Wrote}
 use Rattle.request.specs.Reading.{gateOf, gated, extrasSpan, keySpan, valueSpan, bytesIn, fieldsOf, frameOf, frameStatus, wholeReading, reading}
-use Rattle.request.specs.Writing.{headerFor, frameBytes, held, refuses, writing, outputOf, Fits}
+use Rattle.request.specs.Writing.{headerFor, frameBytes, held, refuses, writing, Fits}
 use Rattle.request.specs.Claims.{Reads, WrittenReads, Writes, ReadWrites, RefusedReads, HeaderHolds}
+use Rattle.request.proofs.Gated.{WholeFrame, whole-frame}
 use Rattle.request.proofs.Frames.{h, frame, body, extras-back, key-back, value-back, reading-long, reading-frame}
-use Rattle.request.proofs.WriterLaws.{alone, frame-size, wrote}
+use Rattle.request.proofs.WriterLaws.{alone, wrote}
 
 -- what a written frame has shown: a header holds its lengths, reading does not refuse it, and it fits
 pub record WasWritten (f : Fields) (extras key value : List ℕ) (room n : ℕ) : Type 0 where
@@ -111,11 +108,7 @@ header-holds x p v e = rw (lt-ltb (x .extlen) 256 (p .extlen), lt-ltb (x .keylen
 
 -- what an accepted frame has shown of the bytes
 pub record WasRead (s : List ℕ) (g : Frame) (h : Header) : Type 0 where
-  pub header : headerOf s ≡ h
-  pub long : 24 ≤ length s
-  pub magic : h .magic ≡ 0x80
-  pub limit : h .body ≤ 1400
-  pub whole : 24 + h .body ≤ length s
+  pub frame : WholeFrame s h
   pub good : frameStatus s h ≡ 0
   pub shown : g ≡ frameOf s h
 
@@ -124,19 +117,16 @@ unfolding wholeReading
 was-whole s g h e =
     cond-elim (eqb (frameStatus s h) 0) _ _ _ e (λ t z. (eqb-true _ _ t, cc)) (λ t z. absurd (let y : _≡_ {A = ℕ} 0 1 = cc in omega arith))
 
+was-gated : (s : List ℕ) (g : Frame) (w : Gate) → gateOf s ≡ w → gated s w ≡ Accepted g → WasRead s g (headerOf s)
+was-gated s g (Stop n need) q e = absurd (let y : _≡_ {A = ℕ} 0 1 = cc in omega arith)
+was-gated s g (Whole h) q e =
+    let f = whole-frame s h q in
+    let d = was-whole s g h e in
+    rw (f .header) (record { frame = f; good = d .0; shown = d .1 })
+
 was-read : (s : List ℕ) (g : Frame) → reading s ≡ Accepted g → WasRead s g (headerOf s)
-unfolding reading gateOf
-was-read s g e =
-    cases (ltb (length s) 24) (λ t. absurd (let z = rw t at e in let y : _≡_ {A = ℕ} 0 1 = cc in omega arith))
-    (λ t. let e₁ = rw t at e in
-    cases (eqb (headerOf s .magic) 0x80)
-    (λ m. let e₂ = rw m at e₁ in
-    cases (ltb 1400 (headerOf s .body)) (λ u. absurd (let z = rw u at e₂ in let y : _≡_ {A = ℕ} 0 1 = cc in omega arith))
-    (λ u. let e₃ = rw u at e₂ in
-    cases (ltb (length s) (24 + headerOf s .body)) (λ v. absurd (let z = rw v at e₃ in let y : _≡_ {A = ℕ} 0 1 = cc in omega arith))
-    (λ v. let d = was-whole s g (headerOf s) (rw v at e₃) in
-    record { header = refl; long = ltb-false _ _ t; magic = eqb-true _ _ m; limit = ltb-false _ _ u; whole = ltb-false _ _ v; good = d .0; shown = d .1 })))
-    (λ m. absurd (let z = rw m at e₁ in let y : _≡_ {A = ℕ} 0 1 = cc in omega arith)))
+unfolding reading
+was-read s g e = was-gated s g (gateOf s) refl e
 
 module _ (s : List ℕ) (g : Frame) (b : Bytes s) (d : WasRead s g (headerOf s)) where
   k : Header
@@ -157,11 +147,11 @@ module _ (s : List ℕ) (g : Frame) (b : Bytes s) (d : WasRead s g (headerOf s))
 
   whole : 24 + k .body ≤ length s
   unfolding k
-  whole = d .whole
+  whole = d .frame .inside
 
   limit : k .body ≤ 1400
   unfolding k
-  limit = d .limit
+  limit = d .frame .limit
 
   length-extras : length sent-extras ≡ k .extlen
   unfolding sent-extras extrasSpan
@@ -182,7 +172,7 @@ module _ (s : List ℕ) (g : Frame) (b : Bytes s) (d : WasRead s g (headerOf s))
   unfolding headerFor fieldsOf k
   same-header =
       λ i. record {
-        magic = sym (d .magic) i;
+        magic = sym (d .frame .magic) i;
         opcode = headerOf s .opcode;
         keylen = length-key i;
         extlen = length-extras i;
@@ -208,7 +198,7 @@ module _ (s : List ℕ) (g : Frame) (b : Bytes s) (d : WasRead s g (headerOf s))
       let n = k .keylen in
       let v = k .body - (k .extlen + k .keylen) in
       let z : 24 + (e + (n + v)) ≡ 24 + k .body = omega (arith, inside) in
-      ap₂ _++_ (ap headerBytes same-header ∙ header-again s (d .long) b) (ap (λ (l : List ℕ). part s 24 e ++ l) (glue s (24 + e) n v) ∙ glue s 24 e (n + v))
+      ap₂ _++_ (ap headerBytes same-header ∙ header-again s (d .frame .long) b) (ap (λ (l : List ℕ). part s 24 e ++ l) (glue s (24 + e) n v) ∙ glue s 24 e (n + v))
       ∙ glue s 0 24 (e + (n + v)) ∙ ap (λ (m : ℕ). take m s) z
 
   ruled-parts : status (headerFor (fieldsOf k) (length sent-extras) (length sent-key) (length sent-value)) sent-extras sent-value ≡ 0

@@ -1,8 +1,8 @@
 -- What the writer answers, by the tests that its code makes: lengths first, then the rules on the parts, then the room.
 use Prim.Native.Nat.{ℕ, _+_, _^_, _≤_, _<_}
-use mathlib.Core.Path.{_≡_, refl, sym, ap, _∙_}
-use mathlib.Core.List.{List, [], _++_, append-nil}
-use mathlib.Core.Bool.{Bool, true, false, not, _&&_, and-false, cond}
+use mathlib.Core.Path.{_≡_, sym, ap, _∙_}
+use mathlib.Core.List.{List, [], append-nil}
+use mathlib.Core.Bool.{true, false, cond}
 use native.Mathlib.Omega.{arith}
 use lib.ListN.{length}
 use lib.Dec.{ltb, leb, eqb}
@@ -10,9 +10,7 @@ use borrow.Author.Tests.{le-ltb, lt-ltb, eq-eqb, ne-eqb, leb-true, leb-false}
 use Rattle.octets.proofs.Choices.{cases}
 use Rattle.rules.specs.Rules.{status}
 use Rattle.request.specs.declared.Fields.{Fields}
-use Rattle.request.specs.declared.Reading.{Reading}
-use Rattle.request.specs.declared.Reading.the-variants.{Outcome, Status, Accepted}
-use Rattle.request.specs.declared.Written.{Written}
+use Rattle.request.specs.declared.Reading.the-variants.{Status, Accepted}
 use Rattle.request.specs.declared.Written.the-variants.{Refused, NoRoom, Wrote}
 use Rattle.request.specs.Reading.{reading, frameOf}
 use Rattle.request.specs.Writing.{headerFor, frameBytes, held, refuses, writing, Fits}

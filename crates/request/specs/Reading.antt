@@ -1,7 +1,7 @@
 -- Reading a request: outcomes 1, 2, 3 of document 01, then statuses 1 to 3 save the rules that need mode or clock, else the fields.
 use Prim.Native.Nat.{ℕ, _+_, _-_}
 use mathlib.Core.List.{List}
-use mathlib.Core.Bool.{Bool, true, false, not, cond}
+use mathlib.Core.Bool.{not, cond}
 use lib.ListN.{length}
 use lib.Dec.{ltb, eqb}
 use Rattle.octets.specs.Parts.{part}

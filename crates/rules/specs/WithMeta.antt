@@ -5,8 +5,6 @@ use mathlib.Core.List.{List}
 use lib.ListN.{length}
 use lib.Dec.{eqb, leb}
 use Rattle.octets.specs.BigEndian.{num}
-use Rattle.numbers.specs.declared.Cas.{Cas}
-use Rattle.numbers.specs.declared.Revision.{Revision}
 use Rattle.numbers.specs.declared.Numbers.{Numbers}
 use Rattle.rules.specs.declared.WithMeta.{WithMeta}
 

@@ -27,10 +27,10 @@ use Rattle.serving.specs.Reply.{replyBytes, bodyOf, replyHeader}
 use Rattle.serving.specs.Serve.{gateAll, goesOn, decisionOn, frameReply, answerBy, served, servedTable, servedReply}
 use Rattle.serve.proofs.Replies.{body-most}
 use Rattle.serve.proofs.Lookups.{key-short, value-short, value-found}
-use Rattle.serve.proofs.Joint.{refused-reply, refusal-length, gate-whole}
+use Rattle.serve.proofs.Joint.{refused-reply, refusal-length}
+use Rattle.serving.proofs.Gated.{was-open, refused-keeps}
 use Rattle.run.specs.Run.{Stand, calledOn, further, onDone, standAfter, runEnd, ranOf}
 use Rattle.run.specs.declared.Ran.{Ran}
-use Rattle.run.proofs.Laws.{gate-inside}
 
 -- ---- a reply is at most 1,302 bytes long
 bytes-most : (op opaque : ℕ) (d : Decision) (key old : List ℕ) → length key ≤ 250 → length old ≤ 1024 → length (replyBytes op opaque d key old) ≤ 1302
@@ -58,28 +58,16 @@ done-by b s clock room st used len (Stop k need) q e = absurd (let y : _≡_ {A 
 done-by b s clock room st used len (Whole h) q e =
     let u : 24 + h .body ≡ used = cc in
     let l : length (frameReply b clock s h) ≡ len = cc in
-    let w = gate-whole b s room h q in
+    let w = was-open b s room h q in
     record {
       least = omega arith;
-      inside = omega (arith, gate-inside b s room h q);
-      fits = λ y. omega (arith, reply-most b clock s h y (w .0), w .1);
+      inside = omega (arith, w .frame .inside);
+      fits = λ y. omega (arith, reply-most b clock s h y (w .undamaged), w .roomy);
     }
 
 done-told : (b s : List ℕ) (clock room st used len : ℕ) → served b clock s room ≡ Done st used len → Told b s room used len
 unfolding served
 done-told b s clock room st used len e = done-by b s clock room st used len (gateAll b room s) refl e
-
--- ---- a refused call changes nothing
-kept-by : (b s out : List ℕ) (clock n need : ℕ) (g : Gate) → gateAll b (length out) s ≡ g → answerBy b clock s g ≡ Refused n need
-    → (servedTable b clock s (length out) ≡ b) × (servedReply b clock s out ≡ out)
-unfolding servedTable servedReply
-kept-by b s out clock n need (Stop k need′) q e = rw q (refl, refl)
-kept-by b s out clock n need (Whole h) q e = absurd (let y : _≡_ {A = ℕ} 0 1 = cc in omega arith)
-
-refused-keeps : (b s out : List ℕ) (clock n need : ℕ) → served b clock s (length out) ≡ Refused n need
-    → (servedTable b clock s (length out) ≡ b) × (servedReply b clock s out ≡ out)
-unfolding served
-refused-keeps b s out clock n need e = kept-by b s out clock n need (gateAll b (length out) s) refl e
 
 -- ---- the calls of a run
 by-served {ℓ} : {X : Type ℓ} (r : Served) → ((n need : ℕ) → r ≡ Refused n need → X) → ((st used len : ℕ) → r ≡ Done st used len → X) → X
@@ -168,7 +156,7 @@ module _ (clock : ℕ) (run b out : List ℕ) (t : Tally) (at filled : ℕ) (f :
   unfolding ranOf
   turn-ends n need e y p =
       let x : now ≡ runEnd clock run y = sym (run-ends clock run now n need (sym called ∙ e)) ∙ p in
-      let k = refused-keeps b (drop at run) (drop filled out) clock n need (sym answer ∙ e) in
+      let k = refused-keeps b clock (drop at run) (drop filled out) n need (sym answer ∙ e) in
       let a : _≡_ {A = Ran} (record { cursor = record { at = at }; filled = filled; tally = t; stop = r }) (ranOf clock run now) =
       λ i. record { cursor = record { at = at }; filled = filled; tally = t; stop = called i } in (
         a ∙ ap (ranOf clock run) x,

@@ -1,13 +1,12 @@
 -- "A cursor over a run of received frames is handed back advanced by what was consumed. One past the end sees no bytes."
 use Prim.Native.Nat.{ℕ, zero, suc, _+_, _-_}
-use mathlib.Core.List.{List, [], _∷_, _++_}
+use mathlib.Core.List.{List, _++_}
 use lib.ListN.{length, take, drop}
 use Rattle.serving.specs.declared.Served.{Served}
 use Rattle.serving.specs.declared.Served.the-variants.{Refused, Done}
 use Rattle.serving.specs.Serve.{served, servedTable, servedReply}
 use Rattle.tally.specs.declared.Tally.{Tally}
 use Rattle.tally.specs.Counts.{countedOf}
-use Rattle.run.specs.declared.Cursor.{Cursor}
 use Rattle.run.specs.declared.Moved.{Moved}
 use Rattle.run.specs.declared.Ran.{Ran}
 

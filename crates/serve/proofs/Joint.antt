@@ -1,21 +1,16 @@
 -- What serving a frame's callees say, as what serving means: all their equations in, the answer, the reply and the table out.
-use Prim.Native.Nat.{ℕ, _+_, _≤_}
-use mathlib.Core.Path.{_≡_, refl, sym, ap, _∙_}
-use mathlib.Core.Bool.{Bool, true, false, cond, not}
+use Prim.Native.Nat.{ℕ, _+_}
+use mathlib.Core.Path.{_≡_, sym, ap, _∙_}
+use mathlib.Core.Bool.{Bool, true, false, not}
 use mathlib.Core.List.{List, [], append-nil}
 use lib.ListN.{length}
-use lib.Dec.{ltb}
-use native.Mathlib.Omega.{arith}
-use borrow.Author.Tests.{not-false, ltb-false}
 use Rattle.octets.specs.Parts.{Bytes}
-use Rattle.octets.proofs.Choices.{cond-elim}
 use Rattle.header.proofs.HeaderLaws.{length-header}
 use Rattle.header.specs.declared.Header.{Header}
 use Rattle.request.specs.declared.Gate.the-variants.{Whole}
 use Rattle.request.specs.Reading.{bytesIn, keySpan, frameStatus}
 use Rattle.engine.specs.declared.Head.{Head}
 use Rattle.engine.specs.declared.Stored.{Stored}
-use Rattle.engine.specs.Documents.{Key, Doc}
 use Rattle.digits.specs.declared.Number.{Number}
 use Rattle.digits.specs.Decimal.{numberOf}
 use Rattle.commands.specs.declared.Ask.{Ask}
@@ -27,12 +22,11 @@ use Rattle.table.specs.declared.Found.{Found}
 use Rattle.table.specs.Table.{tableOf, headOf}
 use Rattle.table.specs.Lookup.{findIn, freeIn, orElse, placeIn, missing}
 use Rattle.table.specs.Damage.{sound}
-use Rattle.serving.specs.declared.Served.{Served}
 use Rattle.serving.specs.declared.Served.the-variants.{Done}
 use Rattle.serving.specs.Reply.{replyBytes}
 use Rattle.serving.specs.Change.{storedAt, heldAt, valueIn}
-use Rattle.serving.specs.Serve.{gateAll, goesOn, refusal, decisionOn, answerOn, frameTable, frameReply, answerBy}
-use Rattle.serve.proofs.Storing.{stored-none}
+use Rattle.serving.specs.Serve.{goesOn, refusal, decisionOn, answerOn, frameTable, frameReply, answerBy}
+use Rattle.serving.proofs.Storing.{stored-none}
 use Rattle.serve.proofs.Lookups.{held-found, value-found, free-found, value-place}
 
 module _ (b s : List ℕ) (clock : ℕ) (h : Header) (f free : Found)
@@ -101,10 +95,3 @@ module _ (b s : List ℕ) (clock : ℕ) (h : Header) (g : goesOn (frameStatus s 
 pub refusal-length : (op opaque : ℕ) (hd : Head) (st : ℕ) → length (replyBytes op opaque (refusal hd st) [] []) ≡ 24
 unfolding replyBytes
 refusal-length op opaque hd st = rw append-nil (length-header _)
-
--- a frame that is served: the table is sound, and there is room
-pub gate-whole : (b s : List ℕ) (room : ℕ) (h : Header) → gateAll b room s ≡ Whole h → (sound b ≡ true) × (1302 ≤ room)
-unfolding gateAll
-gate-whole b s room h e =
-    cond-elim (not (sound b)) _ _ _ e (λ t z. absurd (let y : _≡_ {A = ℕ} 0 1 = cc in omega arith))
-    (λ t e₁. cond-elim (ltb room 1302) _ _ _ e₁ (λ u z. absurd (let y : _≡_ {A = ℕ} 0 1 = cc in omega arith)) (λ u z. (not-false (sound b) t, ltb-false _ _ u)))

@@ -1,8 +1,7 @@
--- What the stores of a decision leave: bytes that were written to an array and read back, and a table where nothing is stored.
+-- Bytes that were written to an array and read back.
 use Prim.Native.Nat.{ℕ, _+_, _≤_}
 use mathlib.Core.Path.{_≡_, refl, _∙_}
 use mathlib.Core.List.{List}
-use mathlib.Core.Option.{none}
 use native.Mathlib.Omega.{arith}
 use lib.ListN.{length, drop}
 use lib.Seq.{take-at}
@@ -10,10 +9,7 @@ use Rattle.octets.specs.Parts.{part, pasted, written}
 use Rattle.octets.proofs.Lists.{written-fits}
 use Rattle.engine.specs.Documents.{Key}
 use Rattle.engine.specs.declared.Held.{Held}
-use Rattle.table.specs.declared.Found.{Found}
-use Rattle.table.specs.declared.Found.the-variants.{At, Nothing}
 use Rattle.table.specs.Store.{stored}
-use Rattle.serving.specs.Change.{storedAt}
 
 -- a key's row with this value
 abbrev pub storing : List ℕ → ℕ → Key → Held → ℕ → List ℕ → List ℕ
@@ -25,7 +21,3 @@ read-back s xs s′ v k p q r = r ∙ rw (q, p) (take-at xs (drop (0 + length xs
 
 pub copy-back : (s xs old s′ v : List ℕ) → old ≡ xs → s′ ≡ written s 0 old → v ≡ part s′ 0 (length old) → length xs ≤ length s → v ≡ xs
 copy-back s xs old s′ v e q r h = read-back s old s′ v (length old) refl (q ∙ written-fits s 0 old (rw e (omega arith))) r ∙ e
-
-pub stored-none : (b : List ℕ) (f : Found) (key : Key) (mark : ℕ) → storedAt b f key none mark ≡ b
-stored-none b (At i) key mark = refl
-stored-none b Nothing key mark = refl

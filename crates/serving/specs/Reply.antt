@@ -1,9 +1,8 @@
 -- A reply's bytes: document 000's header with magic 0x81 and the status in place of the vbucket, then extras, key and value as 01 has them for each command.
 use Prim.Native.Nat.{ℕ, _+_}
-use mathlib.Core.Bool.{Bool, true, false, cond}
+use mathlib.Core.Bool.{cond}
 use mathlib.Core.List.{List, [], _++_}
 use lib.ListN.{length}
-use Rattle.numbers.specs.declared.Cas.{Cas}
 use Rattle.header.specs.declared.Header.{Header}
 use Rattle.header.specs.Header.{headerBytes}
 use Rattle.commands.specs.declared.Reply.{Reply}

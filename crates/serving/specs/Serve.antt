@@ -1,24 +1,21 @@
 -- Serving one request: the outcomes of document 01 in the order tested; then the request is decided, answered and stored.
 use Prim.Native.Nat.{ℕ, _+_}
-use mathlib.Core.Bool.{Bool, true, false, cond, not, _||_}
-use mathlib.Core.List.{List, []}
-use mathlib.Core.Option.{Option, none, some}
+use mathlib.Core.Bool.{Bool, false, cond, not, _||_}
+use mathlib.Core.List.{List}
 use lib.ListN.{length}
 use lib.Dec.{ltb, eqb}
 use Rattle.octets.specs.Parts.{written}
-use Rattle.numbers.specs.declared.Cas.{Cas}
 use Rattle.header.specs.declared.Header.{Header}
 use Rattle.request.specs.declared.Gate.{Gate}
 use Rattle.request.specs.declared.Gate.the-variants.{Stop, Whole}
 use Rattle.request.specs.Reading.{gateOf, frameStatus, bytesIn, keySpan}
 use Rattle.engine.specs.declared.Head.{Head}
-use Rattle.engine.specs.Documents.{Key, Doc}
 use Rattle.engine.specs.Stored.{storedOf}
 use Rattle.digits.specs.Decimal.{numberOf}
 use Rattle.commands.specs.declared.Decision.{Decision}
 use Rattle.commands.specs.declared.Reply.the-variants.{Bare}
 use Rattle.commands.specs.Done.{decision, nothing}
-use Rattle.commands.specs.Decide.{Request, Answer, Effect, askOf, answerOf, valueOf}
+use Rattle.commands.specs.Decide.{Answer, askOf, answerOf, valueOf}
 use Rattle.asks.specs.Asks.{requestOf}
 use Rattle.table.specs.Table.{Table, tableOf}
 use Rattle.table.specs.Lookup.{placeIn}

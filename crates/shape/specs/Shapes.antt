@@ -1,6 +1,6 @@
 -- The shape of every opcode, as document 01 lists the commands: extras size, key, value, quiet; and which opcodes are not built (0x83) or unknown (0x81).
 use Prim.Native.Nat.{ℕ}
-use mathlib.Core.List.{List, [], _∷_, _++_}
+use mathlib.Core.List.{List, [], _∷_}
 use mathlib.Core.Bool.{Bool, true, false, _||_, cond}
 use lib.Dec.{eqb}
 use Rattle.shape.specs.declared.Shape.{Shape}

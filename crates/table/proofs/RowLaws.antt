@@ -141,13 +141,13 @@ module _ (mark : ℕ) where
   row-sound (some e) g m = used-sound mark e g m
 
 -- a used row's rules
-record Used (mark : ℕ) (s : Slot) : Type 0 where
-  kind : (s .kind ≡ 1) ⊎ ((s .kind ≡ 2) × (s .vallen ≡ 0) × (s .numbers .flags ≡ 0) × (s .numbers .expiry ≡ 0))
-  key-least : 1 ≤ s .keylen
-  key-most : s .keylen ≤ 250
-  value-most : s .vallen ≤ 1024
-  cas-least : 1 ≤ s .numbers .cas .0
-  cas-most : s .numbers .cas .0 ≤ mark
+pub record Used (mark : ℕ) (s : Slot) : Type 0 where
+  pub kind : (s .kind ≡ 1) ⊎ ((s .kind ≡ 2) × (s .vallen ≡ 0) × (s .numbers .flags ≡ 0) × (s .numbers .expiry ≡ 0))
+  pub key-least : 1 ≤ s .keylen
+  pub key-most : s .keylen ≤ 250
+  pub value-most : s .vallen ≤ 1024
+  pub cas-least : 1 ≤ s .numbers .cas .0
+  pub cas-most : s .numbers .cas .0 ≤ mark
 
 module _ (mark : ℕ) (s : Slot) where
   abbrev bareOk : Bool
@@ -156,7 +156,7 @@ module _ (mark : ℕ) (s : Slot) where
   abbrev casOk : Bool
   casOk = leb 1 (s .numbers .cas .0) && leb (s .numbers .cas .0) mark
 
-  used-parts : usedOk mark s ≡ true → Used mark s
+  pub used-parts : usedOk mark s ≡ true → Used mark s
   unfolding usedOk
   used-parts e =
       let a = both (kindOk s) (leb 1 (s .keylen) && (leb (s .keylen) 250 && (leb (s .vallen) 1024 && casOk))) e in

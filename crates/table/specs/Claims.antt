@@ -1,9 +1,9 @@
 -- What is claimed of tables: sound bytes are the bytes of a good table and the other way round, and every change that a table takes keeps it good. Proved in proofs/.
-use Prim.Native.Nat.{ℕ, _+_, _*_, _^_, _≤_, _<_}
+use Prim.Native.Nat.{ℕ, _^_, _≤_, _<_}
 use mathlib.Core.Path.{_≡_}
 use mathlib.Core.List.{List, [], _∷_}
 use mathlib.Core.Bool.{Bool, true}
-use mathlib.Core.Option.{Option, none, some}
+use mathlib.Core.Option.{none, some}
 use lib.ListN.{length, set}
 use Rattle.octets.specs.Parts.{Bytes}
 use Rattle.engine.specs.Documents.{Key, Doc, Entry}

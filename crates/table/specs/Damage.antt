@@ -1,8 +1,8 @@
 -- "Damaged: wrong size, a header field out of range, a row against these rules, a used row with CAS 0 or above the mark, or two used rows with one key." Sound is not damaged.
 use Prim.Native.Nat.{ℕ, _+_, _*_}
 use mathlib.Core.List.{List, [], _∷_}
-use mathlib.Core.Bool.{Bool, true, false, _&&_, _||_, cond}
-use mathlib.Core.Option.{Option, none, some}
+use mathlib.Core.Bool.{Bool, true, _&&_, _||_, cond}
+use mathlib.Core.Option.{none, some}
 use lib.ListN.{length, drop}
 use lib.Dec.{eqb, leb}
 use Rattle.octets.specs.Compare.{zeros}

@@ -1,11 +1,11 @@
 -- The plain engine: rows in place, a new key in the lowest free one.
 use mathlib.Core.Path.{_≡_}
-use mathlib.Core.Bool.{Bool, true, false, cond}
+use mathlib.Core.Bool.{Bool, cond}
 use mathlib.Core.List.{List, [], _∷_}
 use mathlib.Core.Option.{Option, none, some}
 use Prim.Native.Nat.{ℕ, suc}
 use Rattle.octets.specs.Compare.{same}
-use Rattle.engine.specs.Documents.{Key, Doc, Entry}
+use Rattle.engine.specs.Documents.{Key, Doc}
 use Rattle.engine.specs.Engine.{Engine, isSome}
 use Rattle.table.specs.Row.{Row}
 

@@ -7,9 +7,6 @@ use lib.ListN.{length, replicate}
 use lib.Dec.{eqb}
 use Rattle.octets.specs.Parts.{part}
 use Rattle.octets.specs.BigEndian.{num, bytesOf}
-use Rattle.numbers.specs.declared.Cas.{Cas}
-use Rattle.numbers.specs.declared.Revision.{Revision}
-use Rattle.numbers.specs.declared.Numbers.{Numbers}
 use Rattle.engine.specs.Documents.{Doc, Entry}
 use Rattle.table.specs.declared.Slot.{Slot}
 

@@ -1,15 +1,14 @@
 -- Reading and writing rows in memory, on any bytes. What it means on a sound table is in Claims.antt.
 use Prim.Native.Nat.{ℕ, _+_, _*_}
 use mathlib.Core.List.{List, []}
-use mathlib.Core.Bool.{Bool, _&&_, cond}
-use mathlib.Core.Option.{Option, none, some}
+use mathlib.Core.Bool.{_&&_, cond}
+use mathlib.Core.Option.{some}
 use lib.ListN.{length, getD}
 use lib.Dec.{ltb, leb}
 use lib.ListN.{drop}
 use Rattle.octets.specs.Parts.{pasted}
 use Rattle.octets.specs.BigEndian.{bytesOf}
 use Rattle.engine.specs.Documents.{Entry}
-use Rattle.table.specs.declared.Slot.{Slot}
 use Rattle.table.specs.Row.{rowBytes, slotOf}
 use Rattle.table.specs.Table.{chunks, rowCount}
 

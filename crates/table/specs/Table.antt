@@ -1,10 +1,9 @@
 -- A table's bytes and what they mean: a header of 16 bytes, state 1, mode 1, vbucket 2, a number kept 0 (4), mark 8, and then the rows.
-use Prim.Native.Nat.{ℕ, zero, suc, _+_, _-_, _*_, _/_}
+use Prim.Native.Nat.{ℕ, zero, suc, _+_, _-_, _/_}
 use mathlib.Core.List.{List, [], _∷_, _++_, map}
-use mathlib.Core.Option.{Option, none, some}
+use mathlib.Core.Option.{none}
 use lib.ListN.{length, take, drop, set, replicate}
 use Rattle.octets.specs.BigEndian.{num, bytesOf}
-use Rattle.numbers.specs.declared.Cas.{Cas}
 use Rattle.engine.specs.declared.Head.{Head}
 use Rattle.engine.specs.Head.{marked}
 use Rattle.table.specs.Row.{Row, rowOf, rowBytes}

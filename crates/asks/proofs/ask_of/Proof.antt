@@ -1,15 +1,7 @@
-use Rattle.asks.specs.Asks.{plainOf, counterOf, metaOf, plainCommand, commandOf, valueOf, requestOf}
-use mathlib.Core.Path.{_≡_, refl, sym, ap, _∙_}
+use Rattle.asks.specs.Asks.{requestOf}
 use borrow.Author.Needs.{needs}
 use Rattle.asks.proofs.ask_of.Statement.{statement}
 use Rattle.asks.proofs.ask_of.Tie as tie
-use Rattle.asks.proofs.ask_of.Reads as reads
-use Rattle.asks.proofs.ask_of.Lts as lts
-use Rattle.asks.proofs.command_of.Reads as command-of-reads
-use Rattle.asks.proofs.value_of.Reads as value-of-reads
-use Rattle.request.proofs.bytes_in.Reads as bytes-in-reads
-use Rattle.request.proofs.extras_span.Reads as extras-span-reads
-use Rattle.shape.proofs.shape_of.Reads as shape-of-reads
 
 -- src/lib.rt:136:9
 shape-of-requires : tie.Need-shape-of-requires

@@ -1,15 +1,7 @@
-use Rattle.asks.specs.Asks.{plainOf, counterOf, metaOf, plainCommand, commandOf, valueOf, requestOf}
-use mathlib.Core.Path.{_≡_, refl, sym, ap, _∙_}
+use Rattle.asks.specs.Asks.{commandOf}
 use borrow.Author.Needs.{needs}
 use Rattle.asks.proofs.command_of.Statement.{statement}
 use Rattle.asks.proofs.command_of.Tie as tie
-use Rattle.asks.proofs.command_of.Reads as reads
-use Rattle.asks.proofs.command_of.Lts as lts
-use Rattle.asks.proofs.choose.Reads as choose-reads
-use Rattle.asks.proofs.either.Reads as either-reads
-use Rattle.asks.proofs.meta_of.Reads as meta-of-reads
-use Rattle.asks.proofs.plain_command.Reads as plain-command-reads
-use Rattle.rules.proofs.with_meta.Reads as with-meta-reads
 
 -- src/lib.rt:104:9
 with-meta-requires : tie.Need-with-meta-requires

@@ -1,12 +1,7 @@
-use Rattle.asks.specs.Asks.{plainOf, counterOf, metaOf, plainCommand, commandOf, valueOf, requestOf}
-use mathlib.Core.Path.{_≡_, refl, sym, ap, _∙_}
+use Rattle.asks.specs.Asks.{counterOf}
 use borrow.Author.Needs.{needs}
 use Rattle.asks.proofs.counter_of.Statement.{statement}
 use Rattle.asks.proofs.counter_of.Tie as tie
-use Rattle.asks.proofs.counter_of.Reads as reads
-use Rattle.asks.proofs.counter_of.Lts as lts
-use Rattle.octets.proofs.be32.Reads as be32-reads
-use Rattle.octets.proofs.be64.Reads as be64-reads
 
 -- src/lib.rt:46:9
 be64-requires : tie.Need-be64-requires

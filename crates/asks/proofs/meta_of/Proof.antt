@@ -1,9 +1,7 @@
-use Rattle.asks.specs.Asks.{plainOf, counterOf, metaOf, plainCommand, commandOf, valueOf, requestOf}
-use mathlib.Core.Path.{_≡_, refl, sym, ap, _∙_}
+use Rattle.asks.specs.Asks.{metaOf}
+use mathlib.Core.Path.{refl}
 use Rattle.asks.proofs.meta_of.Statement.{statement}
 use Rattle.asks.proofs.meta_of.Tie as tie
-use Rattle.asks.proofs.meta_of.Reads as reads
-use Rattle.asks.proofs.meta_of.Lts as lts
 
 -- src/lib.rt:57:1
 returns : tie.Need-returns

@@ -1,14 +1,7 @@
-use Rattle.asks.specs.Asks.{plainOf, counterOf, metaOf, plainCommand, commandOf, valueOf, requestOf}
-use mathlib.Core.Path.{_≡_, refl, sym, ap, _∙_}
+use Rattle.asks.specs.Asks.{plainCommand}
 use borrow.Author.Needs.{needs}
 use Rattle.asks.proofs.plain_command.Statement.{statement}
 use Rattle.asks.proofs.plain_command.Tie as tie
-use Rattle.asks.proofs.plain_command.Reads as reads
-use Rattle.asks.proofs.plain_command.Lts as lts
-use Rattle.asks.proofs.choose.Reads as choose-reads
-use Rattle.asks.proofs.counter_of.Reads as counter-of-reads
-use Rattle.asks.proofs.either.Reads as either-reads
-use Rattle.asks.proofs.stores.Reads as stores-reads
 
 -- src/lib.rt:90:9
 choose-requires : tie.Need-choose-requires

@@ -1,11 +1,7 @@
-use Rattle.asks.specs.Asks.{plainOf, counterOf, metaOf, plainCommand, commandOf, valueOf, requestOf}
-use mathlib.Core.Path.{_≡_, refl, sym, ap, _∙_}
+use Rattle.asks.specs.Asks.{plainOf}
 use borrow.Author.Needs.{needs}
 use Rattle.asks.proofs.plain_of.Statement.{statement}
 use Rattle.asks.proofs.plain_of.Tie as tie
-use Rattle.asks.proofs.plain_of.Reads as reads
-use Rattle.asks.proofs.plain_of.Lts as lts
-use Rattle.octets.proofs.be32.Reads as be32-reads
 
 -- src/lib.rt:34:9
 be32-requires : tie.Need-be32-requires

@@ -1,13 +1,6 @@
-use Rattle.asks.specs.Asks.{plainOf, counterOf, metaOf, plainCommand, commandOf, valueOf, requestOf}
-use mathlib.Core.Path.{_≡_, refl, sym, ap, _∙_}
 use borrow.Author.Needs.{needs}
 use Rattle.asks.proofs.stores.Statement.{statement}
 use Rattle.asks.proofs.stores.Tie as tie
-use Rattle.asks.proofs.stores.Reads as reads
-use Rattle.asks.proofs.stores.Lts as lts
-use Rattle.asks.proofs.choose.Reads as choose-reads
-use Rattle.asks.proofs.either.Reads as either-reads
-use Rattle.asks.proofs.plain_of.Reads as plain-of-reads
 
 -- src/lib.rt:77:25
 either-requires : tie.Need-either-requires

@@ -1,17 +1,7 @@
-use Rattle.asks.specs.Asks.{plainOf, counterOf, metaOf, plainCommand, commandOf, valueOf, requestOf}
-use mathlib.Core.Path.{_≡_, refl, sym, ap, _∙_}
+use Rattle.asks.specs.Asks.{valueOf}
 use borrow.Author.Needs.{needs}
 use Rattle.asks.proofs.value_of.Statement.{statement}
 use Rattle.asks.proofs.value_of.Tie as tie
-use Rattle.asks.proofs.value_of.Reads as reads
-use Rattle.asks.proofs.value_of.Lts as lts
-use Rattle.asks.proofs.minus.Reads as minus-reads
-use Rattle.octets.proofs.part.Reads as part-reads
-use Rattle.request.proofs.bytes_in.Reads as bytes-in-reads
-use Rattle.request.proofs.extras_span.Reads as extras-span-reads
-use Rattle.request.proofs.value_span.Reads as value-span-reads
-use Rattle.rules.proofs.meta_size.Reads as meta-size-reads
-use Rattle.shape.proofs.shape_of.Reads as shape-of-reads
 
 -- src/lib.rt:127:39
 extras-span-requires : tie.Need-extras-span-requires

@@ -1,17 +1,8 @@
 use borrow.Author.Tests.{eq-eqb, ne-eqb}
-use Rattle.commands.specs.Done.{doneOf, decision}
-use mathlib.Core.Path.{_≡_, refl, sym, ap, _∙_}
+use Rattle.commands.specs.Done.{decision}
 use borrow.Author.Needs.{needs}
 use Rattle.commands.proofs.decide.Statement.{statement}
 use Rattle.commands.proofs.decide.Tie as tie
-use Rattle.commands.proofs.decide.Reads as reads
-use Rattle.commands.proofs.decide.Lts as lts
-use Rattle.commands.proofs.effects.done_of.Reads as done-of-reads
-use Rattle.commands.proofs.effects.nothing.Reads as nothing-reads
-use Rattle.commands.proofs.rules.rule_of.Reads as rule-of-reads
-use Rattle.commands.proofs.rules.status_of.Reads as status-of-reads
-use Rattle.commands.proofs.rules.tests_of.Reads as tests-of-reads
-use Rattle.numbers.proofs.mode_of.Reads as mode-of-reads
 
 -- src/lib.rt:142:28
 mode-of-requires : tie.Need-mode-of-requires

@@ -3,10 +3,6 @@ use mathlib.Core.Path.{ap, _∙_}
 use borrow.Author.Needs.{needs}
 use Rattle.contacts.proofs.contacts_purge.Statement.{statement}
 use Rattle.contacts.proofs.contacts_purge.Tie as tie
-use Rattle.contacts.proofs.contacts_purge.Reads as reads
-use Rattle.contacts.proofs.contacts_purge.Lts as lts
-use Rattle.contacts.proofs.answers.purged_answer.Reads as purged-answer-reads
-use Rattle.owner.proofs.purge.Reads as purge-reads
 
 -- src/lib.rt:86:28
 purge-requires : tie.Need-purge-requires

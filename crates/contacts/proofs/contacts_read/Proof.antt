@@ -3,10 +3,6 @@ use mathlib.Core.Path.{ap, _∙_}
 use borrow.Author.Needs.{needs}
 use Rattle.contacts.proofs.contacts_read.Statement.{statement}
 use Rattle.contacts.proofs.contacts_read.Tie as tie
-use Rattle.contacts.proofs.contacts_read.Reads as reads
-use Rattle.contacts.proofs.contacts_read.Lts as lts
-use Rattle.contacts.proofs.answers.document_answer.Reads as document-answer-reads
-use Rattle.owner.proofs.read.Reads as read-reads
 
 -- src/lib.rt:78:30
 read-requires : tie.Need-read-requires

@@ -3,10 +3,6 @@ use mathlib.Core.Path.{ap, _∙_}
 use borrow.Author.Needs.{needs}
 use Rattle.contacts.proofs.contacts_read_request.Statement.{statement}
 use Rattle.contacts.proofs.contacts_read_request.Tie as tie
-use Rattle.contacts.proofs.contacts_read_request.Reads as reads
-use Rattle.contacts.proofs.contacts_read_request.Lts as lts
-use Rattle.contacts.proofs.answers.request_answer.Reads as request-answer-reads
-use Rattle.request.proofs.read.Reads as read-reads
 
 -- src/lib.rt:94:29
 read-requires : tie.Need-read-requires

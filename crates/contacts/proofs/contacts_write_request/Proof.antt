@@ -3,10 +3,6 @@ use mathlib.Core.Path.{ap, _∙_}
 use borrow.Author.Needs.{needs}
 use Rattle.contacts.proofs.contacts_write_request.Statement.{statement}
 use Rattle.contacts.proofs.contacts_write_request.Tie as tie
-use Rattle.contacts.proofs.contacts_write_request.Reads as reads
-use Rattle.contacts.proofs.contacts_write_request.Lts as lts
-use Rattle.contacts.proofs.answers.written_answer.Reads as written-answer-reads
-use Rattle.request.proofs.write.Reads as write-reads
 
 -- src/lib.rt:111:29
 write-requires : tie.Need-write-requires

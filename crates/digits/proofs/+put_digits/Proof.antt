@@ -1,8 +1,6 @@
 use Prim.Native.Nat.{ℕ, _<_}
 use native.Mathlib.Omega.{arith}
-use native.Mathlib.Nat.{mod-lt, div-lt-self}
 use lib.ListN.{length-set}
-use mathlib.Core.Path.{_∙_}
 use borrow.Author.Needs.{needs}
 use Rattle.digits.proofs.DecimalLaws.{length-one, length-more, put-one, put-more}
 use borrow.Fn.Kinds.{In}

@@ -1,12 +1,8 @@
 use Rattle.digits.specs.Decimal.{numberOf}
 use borrow.Author.Tests.{le-leb, lt-leb}
-use mathlib.Core.Path.{_≡_, refl, sym, ap, _∙_}
 use borrow.Author.Needs.{needs}
 use Rattle.digits.proofs.parse.Statement.{statement}
 use Rattle.digits.proofs.parse.Tie as tie
-use Rattle.digits.proofs.parse.Reads as reads
-use Rattle.digits.proofs.parse.Lts as lts
-use Rattle.digits.proofs.parse_all.Reads as parse-all-reads
 
 -- src/lib.rt:91:9
 returns : tie.Need-returns

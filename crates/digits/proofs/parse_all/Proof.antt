@@ -1,18 +1,14 @@
 use borrow.Author.Needs.{needs}
 use native.Mathlib.Omega.{arith}
 use native.Mathlib.Numerals.{add-one}
-use Prim.Native.Nat.{ℕ, _≤_, _<_, _-_, _+_, _^_, suc}
+use Prim.Native.Nat.{_≤_, _<_, _-_, _^_, suc}
 use mathlib.Core.Path.{_≡_, refl, _∙_, sym, ap}
-use mathlib.Core.List.{List, []}
-use lib.ListN.{length, drop, getD, drop-of-length-le}
+use lib.ListN.{length, drop, drop-of-length-le}
 use lib.Seq.{drop-cons}
 use Rattle.digits.specs.Decimal.{numberFrom}
 use Rattle.digits.proofs.DecimalLaws.{number-on, number-stops, number-ends}
 use Rattle.digits.proofs.parse_all.Statement.{statement}
 use Rattle.digits.proofs.parse_all.Tie as tie
-use Rattle.digits.proofs.parse_all.Reads as reads
-use Rattle.digits.proofs.parse_all.Lts as lts
-use Rattle.digits.proofs.with_digit.Reads as with-digit-reads
 
 abbrev Inv-loop : tie.InvT-loop
 Inv-loop s a₀ i₀ a i = (i ≤ length s) × ((a < 2 ^ 64) × (numberFrom a (drop i s) ≡ numberFrom 0 s))

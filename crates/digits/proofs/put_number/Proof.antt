@@ -1,13 +1,10 @@
 use Rattle.digits.proofs.DecimalLaws.{digits-most}
 use native.Mathlib.Omega.{arith}
 use borrow.Author.Tests.{le-leb, lt-leb}
-use mathlib.Core.Path.{_≡_, refl, sym, ap, _∙_}
+use mathlib.Core.Path.{refl, _∙_}
 use borrow.Author.Needs.{needs}
 use Rattle.digits.proofs.put_number.Statement.{statement}
 use Rattle.digits.proofs.put_number.Tie as tie
-use Rattle.digits.proofs.put_number.Reads as reads
-use Rattle.digits.proofs.put_number.Lts as lts
-use Rattle.digits.proofs.put_digits.Reads as put-digits-reads
 
 -- src/lib.rt:45:9
 returns : tie.Need-returns

@@ -1,14 +1,12 @@
-use Prim.Native.Nat.{ℕ, _≤_, _<_, _-_, _+_, _*_, _^_}
+use Prim.Native.Nat.{_-_}
 use native.Mathlib.Omega.{arith}
-use mathlib.Core.Path.{_≡_, refl, sym}
+use mathlib.Core.Path.{sym}
 use borrow.Author.Tests.{lt-ltb, le-leb, lt-leb, le-ltb}
 use Rattle.digits.specs.Decimal.{isDigit}
 use Rattle.digits.proofs.DecimalLaws.{right-digit, no-digit, too-large}
 use borrow.Author.Needs.{needs}
 use Rattle.digits.proofs.with_digit.Statement.{statement}
 use Rattle.digits.proofs.with_digit.Tie as tie
-use Rattle.digits.proofs.with_digit.Reads as reads
-use Rattle.digits.proofs.with_digit.Lts as lts
 
 -- src/lib.rt:55:9
 returns : tie.Need-returns

@@ -1,11 +1,7 @@
-use Rattle.engine.specs.Stored.{live, accepted}
-use mathlib.Core.Path.{_≡_, refl, sym, ap, _∙_}
+use Rattle.engine.specs.Stored.{accepted}
 use borrow.Author.Needs.{needs}
 use Rattle.engine.proofs.accepted.Statement.{statement}
 use Rattle.engine.proofs.accepted.Tie as tie
-use Rattle.engine.proofs.accepted.Reads as reads
-use Rattle.engine.proofs.accepted.Lts as lts
-use Rattle.numbers.proofs.greater.Reads as greater-reads
 
 -- src/lib.rt:72:28
 enum-told : tie.Need-enum-told

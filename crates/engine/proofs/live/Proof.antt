@@ -1,11 +1,7 @@
-use Rattle.engine.specs.Stored.{live, accepted}
-use mathlib.Core.Path.{_≡_, refl, sym, ap, _∙_}
+use Rattle.engine.specs.Stored.{live}
 use borrow.Author.Needs.{needs}
 use Rattle.engine.proofs.live.Statement.{statement}
 use Rattle.engine.proofs.live.Tie as tie
-use Rattle.engine.proofs.live.Reads as reads
-use Rattle.engine.proofs.live.Lts as lts
-use Rattle.numbers.proofs.expired.Reads as expired-reads
 
 -- src/lib.rt:38:28
 enum-told : tie.Need-enum-told

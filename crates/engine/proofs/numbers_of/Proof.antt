@@ -1,9 +1,6 @@
-use mathlib.Core.Path.{_≡_, refl, sym, ap, _∙_}
 use borrow.Author.Needs.{needs}
 use Rattle.engine.proofs.numbers_of.Statement.{statement}
 use Rattle.engine.proofs.numbers_of.Tie as tie
-use Rattle.engine.proofs.numbers_of.Reads as reads
-use Rattle.engine.proofs.numbers_of.Lts as lts
 
 -- src/lib.rt:60:23
 enum-told : tie.Need-enum-told

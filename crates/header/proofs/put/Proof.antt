@@ -2,18 +2,11 @@ use Rattle.header.specs.Header.{headerBytes, frontBytes, middleBytes, ba
 use Rattle.header.proofs.HeaderLaws.{length-header}
 use Rattle.octets.proofs.Lists.{then-two, written-not}
 use Rattle.octets.specs.BigEndian.{bytesOf}
-use denote.Ref.{now}
-use lib.ListN.{length}
 use native.Mathlib.Omega.{arith}
-use mathlib.Core.Path.{_≡_, refl, sym, _∙_}
+use mathlib.Core.Path.{refl, sym}
 use borrow.Author.Needs.{needs}
 use Rattle.header.proofs.put.Statement.{statement}
 use Rattle.header.proofs.put.Tie as tie
-use Rattle.header.proofs.put.Reads as reads
-use Rattle.header.proofs.put.Lts as lts
-use Rattle.header.proofs.put_back.Reads as put-back-reads
-use Rattle.header.proofs.put_front.Reads as put-front-reads
-use Rattle.header.proofs.put_middle.Reads as put-middle-reads
 
 -- src/lib.rt:72:9
 put-front-requires : tie.Need-put-front-requires

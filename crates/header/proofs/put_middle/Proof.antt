@@ -1,16 +1,11 @@
 use Rattle.header.specs.Header.{middleBytes}
-use Rattle.octets.proofs.Lists.{then-two, written-not}
+use Rattle.octets.proofs.Lists.{then-two}
 use Rattle.octets.specs.BigEndian.{bytesOf}
-use denote.Ref.{now}
-use lib.ListN.{length}
 use native.Mathlib.Omega.{arith}
-use mathlib.Core.Path.{_≡_, refl, sym, _∙_}
+use mathlib.Core.Path.{refl}
 use borrow.Author.Needs.{needs}
 use Rattle.header.proofs.put_middle.Statement.{statement}
 use Rattle.header.proofs.put_middle.Tie as tie
-use Rattle.header.proofs.put_middle.Reads as reads
-use Rattle.header.proofs.put_middle.Lts as lts
-use Rattle.octets.proofs.put_be.Reads as put-be-reads
 
 -- src/lib.rt:53:31
 cast-put-be : tie.Need-cast-put-be

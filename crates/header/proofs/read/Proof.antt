@@ -2,12 +2,6 @@ use Rattle.header.specs.Header.{headerOf}
 use borrow.Author.Needs.{needs}
 use Rattle.header.proofs.read.Statement.{statement}
 use Rattle.header.proofs.read.Tie as tie
-use Rattle.header.proofs.read.Reads as reads
-use Rattle.header.proofs.read.Lts as lts
-use Rattle.octets.proofs.be16.Reads as be16-reads
-use Rattle.octets.proofs.be32.Reads as be32-reads
-use Rattle.octets.proofs.be64.Reads as be64-reads
-use Rattle.octets.proofs.byte.Reads as byte-reads
 
 -- src/lib.rt:28:16
 byte-requires : tie.Need-byte-requires

@@ -1,11 +1,8 @@
 use native.Mathlib.Omega.{arith}
-use Rattle.numbers.specs.Expiry.{passes, absolute}
-use mathlib.Core.Path.{_≡_, refl, sym, ap, _∙_}
+use Rattle.numbers.specs.Expiry.{absolute}
 use borrow.Author.Needs.{needs}
 use Rattle.numbers.proofs.absolute.Statement.{statement}
 use Rattle.numbers.proofs.absolute.Tie as tie
-use Rattle.numbers.proofs.absolute.Reads as reads
-use Rattle.numbers.proofs.absolute.Lts as lts
 
 -- src/lib.rt:91:9
 returns : tie.Need-returns

@@ -2,8 +2,6 @@ use mathlib.Core.Path.{refl}
 use Rattle.numbers.specs.Expiry.{expired}
 use Rattle.numbers.proofs.expired.Statement.{statement}
 use Rattle.numbers.proofs.expired.Tie as tie
-use Rattle.numbers.proofs.expired.Reads as reads
-use Rattle.numbers.proofs.expired.Lts as lts
 
 -- src/lib.rt:18:1
 returns : tie.Need-returns

@@ -1,13 +1,7 @@
 use Rattle.numbers.specs.Order.{above, lead, second, greater}
-use mathlib.Core.Path.{_≡_, refl, sym, ap, _∙_}
 use borrow.Author.Needs.{needs}
 use Rattle.numbers.proofs.greater.Statement.{statement}
 use Rattle.numbers.proofs.greater.Tie as tie
-use Rattle.numbers.proofs.greater.Reads as reads
-use Rattle.numbers.proofs.greater.Lts as lts
-use Rattle.numbers.proofs.above.Reads as above-reads
-use Rattle.numbers.proofs.lead.Reads as lead-reads
-use Rattle.numbers.proofs.second.Reads as second-reads
 
 -- src/lib.rt:66:9
 lead-requires : tie.Need-lead-requires

@@ -1,10 +1,7 @@
-use Rattle.numbers.specs.Order.{above, lead, second, greater}
-use mathlib.Core.Path.{_≡_, refl, sym, ap, _∙_}
+use Rattle.numbers.specs.Order.{lead}
 use borrow.Author.Needs.{needs}
 use Rattle.numbers.proofs.lead.Statement.{statement}
 use Rattle.numbers.proofs.lead.Tie as tie
-use Rattle.numbers.proofs.lead.Reads as reads
-use Rattle.numbers.proofs.lead.Lts as lts
 
 -- src/lib.rt:46:29
 enum-told : tie.Need-enum-told

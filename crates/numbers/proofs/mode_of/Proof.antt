@@ -1,9 +1,6 @@
 use borrow.Author.Tests.{eq-eqb, ne-eqb}
-use mathlib.Core.Path.{_≡_, refl, sym, ap, _∙_}
 use Rattle.numbers.proofs.mode_of.Statement.{statement}
 use Rattle.numbers.proofs.mode_of.Tie as tie
-use Rattle.numbers.proofs.mode_of.Reads as reads
-use Rattle.numbers.proofs.mode_of.Lts as lts
 
 -- src/lib.rt:31:9
 returns : tie.Need-returns

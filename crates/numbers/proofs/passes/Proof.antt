@@ -1,10 +1,8 @@
-use Rattle.numbers.specs.Expiry.{passes, absolute}
-use mathlib.Core.Path.{_≡_, refl, sym, ap, _∙_}
+use Rattle.numbers.specs.Expiry.{passes}
+use mathlib.Core.Path.{refl}
 use borrow.Author.Needs.{needs}
 use Rattle.numbers.proofs.passes.Statement.{statement}
 use Rattle.numbers.proofs.passes.Tie as tie
-use Rattle.numbers.proofs.passes.Reads as reads
-use Rattle.numbers.proofs.passes.Lts as lts
 
 -- src/lib.rt:83:59
 add-result : tie.Need-add-result

@@ -1,10 +1,7 @@
-use Rattle.numbers.specs.Order.{above, lead, second, greater}
-use mathlib.Core.Path.{_≡_, refl, sym, ap, _∙_}
+use Rattle.numbers.specs.Order.{second}
 use borrow.Author.Needs.{needs}
 use Rattle.numbers.proofs.second.Statement.{statement}
 use Rattle.numbers.proofs.second.Tie as tie
-use Rattle.numbers.proofs.second.Reads as reads
-use Rattle.numbers.proofs.second.Lts as lts
 
 -- src/lib.rt:55:29
 enum-told : tie.Need-enum-told

@@ -5,10 +5,6 @@ use mathlib.Core.Path.{sym, _∙_}
 use borrow.Author.Needs.{needs}
 use Rattle.owner.proofs.make.Statement.{statement}
 use Rattle.owner.proofs.make.Tie as tie
-use Rattle.owner.proofs.make.Reads as reads
-use Rattle.owner.proofs.make.Lts as lts
-use Rattle.owner.proofs.make_ok.Reads as make-ok-reads
-use Rattle.owner.proofs.put_fresh.Reads as put-fresh-reads
 
 -- src/lib.rt:64:9
 make-ok-requires : tie.Need-make-ok-requires

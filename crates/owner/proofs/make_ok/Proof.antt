@@ -2,9 +2,6 @@ use Rattle.owner.specs.Owner.{makeOk}
 use borrow.Author.Needs.{needs}
 use Rattle.owner.proofs.make_ok.Statement.{statement}
 use Rattle.owner.proofs.make_ok.Tie as tie
-use Rattle.owner.proofs.make_ok.Reads as reads
-use Rattle.owner.proofs.make_ok.Lts as lts
-use Rattle.table.proofs.damage.size_ok.Reads as size-ok-reads
 
 -- src/lib.rt:46:9
 size-ok-requires : tie.Need-size-ok-requires

@@ -13,11 +13,6 @@ use mathlib.Core.Path.{_≡_, sym, ap, _∙_}
 use borrow.Author.Needs.{needs}
 use Rattle.owner.proofs.purge.Statement.{statement}
 use Rattle.owner.proofs.purge.Tie as tie
-use Rattle.owner.proofs.purge.Reads as reads
-use Rattle.owner.proofs.purge.Lts as lts
-use Rattle.owner.proofs.purge_rows.Reads as purge-rows-reads
-use Rattle.table.proofs.damage.is_sound.Reads as is-sound-reads
-use Rattle.table.proofs.rows_in.Reads as rows-in-reads
 
 -- src/lib.rt:143:9
 is-sound-requires : tie.Need-is-sound-requires

@@ -10,11 +10,6 @@ use mathlib.Core.Path.{_≡_, sym, ap, _∙_}
 use borrow.Author.Needs.{needs}
 use Rattle.owner.proofs.purge_row.Statement.{statement}
 use Rattle.owner.proofs.purge_row.Tie as tie
-use Rattle.owner.proofs.purge_row.Reads as reads
-use Rattle.owner.proofs.purge_row.Lts as lts
-use Rattle.octets.proofs.part.Reads as part-reads
-use Rattle.octets.proofs.put_zeros.Reads as put-zeros-reads
-use Rattle.owner.proofs.row_gone.Reads as row-gone-reads
 
 -- src/lib.rt:115:17
 part-requires : tie.Need-part-requires

@@ -10,9 +10,6 @@ use mathlib.Core.Path.{_≡_, sym, ap, _∙_}
 use borrow.Author.Needs.{needs}
 use Rattle.owner.proofs.purge_rows.Statement.{statement}
 use Rattle.owner.proofs.purge_rows.Tie as tie
-use Rattle.owner.proofs.purge_rows.Reads as reads
-use Rattle.owner.proofs.purge_rows.Lts as lts
-use Rattle.owner.proofs.purge_row.Reads as purge-row-reads
 
 abbrev Inv-loop : tie.InvT-loop
 Inv-loop s₀ n clock bound at₀ left₀ count₀ s at left count =

@@ -2,10 +2,6 @@ use Rattle.owner.proofs.Making.{fresh-put}
 use borrow.Author.Needs.{needs}
 use Rattle.owner.proofs.put_fresh.Statement.{statement}
 use Rattle.owner.proofs.put_fresh.Tie as tie
-use Rattle.owner.proofs.put_fresh.Reads as reads
-use Rattle.owner.proofs.put_fresh.Lts as lts
-use Rattle.octets.proofs.put_be.Reads as put-be-reads
-use Rattle.octets.proofs.put_zeros.Reads as put-zeros-reads
 
 -- src/lib.rt:54:5
 put-be-requires : tie.Need-put-be-requires

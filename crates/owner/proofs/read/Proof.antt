@@ -5,11 +5,6 @@ use mathlib.Core.Path.{sym, ap, _∙_}
 use borrow.Author.Needs.{needs}
 use Rattle.owner.proofs.read.Statement.{statement}
 use Rattle.owner.proofs.read.Tie as tie
-use Rattle.owner.proofs.read.Reads as reads
-use Rattle.owner.proofs.read.Lts as lts
-use Rattle.owner.proofs.shown.Reads as shown-reads
-use Rattle.table.proofs.damage.is_sound.Reads as is-sound-reads
-use Rattle.table.proofs.lookup.find.Reads as find-reads
 
 -- src/lib.rt:95:9
 is-sound-requires : tie.Need-is-sound-requires

@@ -7,10 +7,6 @@ use mathlib.Core.Path.{ap, _∙_}
 use borrow.Author.Needs.{needs}
 use Rattle.owner.proofs.row_gone.Statement.{statement}
 use Rattle.owner.proofs.row_gone.Tie as tie
-use Rattle.owner.proofs.row_gone.Reads as reads
-use Rattle.owner.proofs.row_gone.Lts as lts
-use Rattle.numbers.proofs.expired.Reads as expired-reads
-use Rattle.table.proofs.row.slot.Reads as slot-reads
 
 -- src/lib.rt:105:9
 slot-requires : tie.Need-slot-requires

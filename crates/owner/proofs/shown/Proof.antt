@@ -1,9 +1,6 @@
 use borrow.Author.Needs.{needs}
 use Rattle.owner.proofs.shown.Statement.{statement}
 use Rattle.owner.proofs.shown.Tie as tie
-use Rattle.owner.proofs.shown.Reads as reads
-use Rattle.owner.proofs.shown.Lts as lts
-use Rattle.owner.proofs.shown_at.Reads as shown-at-reads
 
 -- src/lib.rt:86:19
 enum-known-f : tie.Need-enum-known-f

@@ -8,12 +8,6 @@ use mathlib.Core.Path.{sym, ap, _∙_}
 use borrow.Author.Needs.{needs}
 use Rattle.owner.proofs.shown_at.Statement.{statement}
 use Rattle.owner.proofs.shown_at.Tie as tie
-use Rattle.owner.proofs.shown_at.Reads as reads
-use Rattle.owner.proofs.shown_at.Lts as lts
-use Rattle.engine.proofs.live.Reads as live-reads
-use Rattle.table.proofs.store.held_at.Reads as held-at-reads
-use Rattle.table.proofs.store.slot_at.Reads as slot-at-reads
-use Rattle.table.proofs.store.value_at.Reads as value-at-reads
 
 -- src/lib.rt:74:35
 held-at-requires : tie.Need-held-at-requires

@@ -4,8 +4,6 @@ use borrow.Author.Tests.{lt-leb, le-leb}
 use borrow.Author.Needs.{needs}
 use Rattle.owner.proofs.size.Statement.{statement}
 use Rattle.owner.proofs.size.Tie as tie
-use Rattle.owner.proofs.size.Reads as reads
-use Rattle.owner.proofs.size.Lts as lts
 
 -- src/lib.rt:35:9
 returns : tie.Need-returns

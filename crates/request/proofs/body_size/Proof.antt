@@ -1,13 +1,11 @@
 use mathlib.Core.Bool.{Bool, cond}
-use Prim.Native.Nat.{ℕ, _+_, _-_, _≤_, _<_}
+use Prim.Native.Nat.{_+_, _-_}
 use native.Mathlib.Omega.{arith}
-use borrow.Author.Tests.{le-ltb, lt-ltb, le-leb, lt-leb, eq-eqb, ne-eqb, not-true, not-false}
-use mathlib.Core.Path.{_≡_, refl, sym, ap, _∙_}
+use borrow.Author.Tests.{le-leb, lt-leb}
+use mathlib.Core.Path.{sym, ap}
 use borrow.Author.Needs.{needs}
 use Rattle.request.proofs.body_size.Statement.{statement}
 use Rattle.request.proofs.body_size.Tie as tie
-use Rattle.request.proofs.body_size.Reads as reads
-use Rattle.request.proofs.body_size.Lts as lts
 
 -- src/lib.rt:187:9
 returns : tie.Need-returns

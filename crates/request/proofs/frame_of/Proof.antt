@@ -1,17 +1,7 @@
-use Rattle.request.specs.Reading.{gateOf, extrasSpan, keySpan, valueSpan, fieldsOf, frameOf, frameStatus, wholeReading, reading}
-use mathlib.Core.Path.{_≡_, refl, sym, ap, _∙_}
+use Rattle.request.specs.Reading.{frameOf}
 use borrow.Author.Needs.{needs}
 use Rattle.request.proofs.frame_of.Statement.{statement}
 use Rattle.request.proofs.frame_of.Tie as tie
-use Rattle.request.proofs.frame_of.Reads as reads
-use Rattle.request.proofs.frame_of.Lts as lts
-use Rattle.request.proofs.bytes_in.Reads as bytes-in-reads
-use Rattle.request.proofs.extras_span.Reads as extras-span-reads
-use Rattle.request.proofs.fields_of.Reads as fields-of-reads
-use Rattle.request.proofs.key_span.Reads as key-span-reads
-use Rattle.request.proofs.value_span.Reads as value-span-reads
-use Rattle.rules.proofs.meta_size.Reads as meta-size-reads
-use Rattle.shape.proofs.shape_of.Reads as shape-of-reads
 
 -- src/lib.rt:144:9
 extras-span-requires : tie.Need-extras-span-requires

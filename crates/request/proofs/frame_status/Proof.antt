@@ -1,14 +1,8 @@
-use Rattle.request.specs.Reading.{gateOf, extrasSpan, keySpan, valueSpan, fieldsOf, frameOf, frameStatus, wholeReading, reading}
-use mathlib.Core.Path.{_≡_, refl, sym, ap, _∙_}
+use Rattle.request.specs.Reading.{frameStatus}
+use mathlib.Core.Path.{_∙_}
 use borrow.Author.Needs.{needs}
 use Rattle.request.proofs.frame_status.Statement.{statement}
 use Rattle.request.proofs.frame_status.Tie as tie
-use Rattle.request.proofs.frame_status.Reads as reads
-use Rattle.request.proofs.frame_status.Lts as lts
-use Rattle.request.proofs.bytes_in.Reads as bytes-in-reads
-use Rattle.request.proofs.extras_span.Reads as extras-span-reads
-use Rattle.request.proofs.value_span.Reads as value-span-reads
-use Rattle.rules.proofs.status.Reads as status-reads
 
 -- src/lib.rt:159:34
 extras-span-requires : tie.Need-extras-span-requires

@@ -1,12 +1,8 @@
-use borrow.Author.Tests.{le-ltb, lt-ltb, le-leb, lt-leb, eq-eqb, ne-eqb, not-true, not-false}
-use Rattle.request.specs.Reading.{gateOf, extrasSpan, keySpan, valueSpan, fieldsOf, frameOf, frameStatus, wholeReading, reading}
-use mathlib.Core.Path.{_≡_, refl, sym, ap, _∙_}
+use borrow.Author.Tests.{le-ltb, lt-ltb, eq-eqb, ne-eqb}
+use Rattle.request.specs.Reading.{gateOf}
 use borrow.Author.Needs.{needs}
 use Rattle.request.proofs.gate_of.Statement.{statement}
 use Rattle.request.proofs.gate_of.Tie as tie
-use Rattle.request.proofs.gate_of.Reads as reads
-use Rattle.request.proofs.gate_of.Lts as lts
-use Rattle.header.proofs.read.Reads as read-reads
 
 -- src/lib.rt:65:9
 returns : tie.Need-returns

@@ -1,10 +1,8 @@
-use Rattle.request.specs.Writing.{headerFor, frameBytes, writing}
-use mathlib.Core.Path.{_≡_, refl, sym, ap, _∙_}
+use Rattle.request.specs.Writing.{headerFor}
+use mathlib.Core.Path.{refl}
 use borrow.Author.Needs.{needs}
 use Rattle.request.proofs.header_for.Statement.{statement}
 use Rattle.request.proofs.header_for.Tie as tie
-use Rattle.request.proofs.header_for.Reads as reads
-use Rattle.request.proofs.header_for.Lts as lts
 
 -- src/lib.rt:209:17
 cast-t6 : tie.Need-cast-t6

@@ -1,10 +1,8 @@
-use Rattle.request.specs.Reading.{gateOf, extrasSpan, keySpan, valueSpan, fieldsOf, frameOf, frameStatus, wholeReading, reading}
-use mathlib.Core.Path.{_≡_, refl, sym, ap, _∙_}
+use Rattle.request.specs.Reading.{keySpan}
+use mathlib.Core.Path.{refl}
 use borrow.Author.Needs.{needs}
 use Rattle.request.proofs.key_span.Statement.{statement}
 use Rattle.request.proofs.key_span.Tie as tie
-use Rattle.request.proofs.key_span.Reads as reads
-use Rattle.request.proofs.key_span.Lts as lts
 
 -- src/lib.rt:104:18
 cast-t2 : tie.Need-cast-t2

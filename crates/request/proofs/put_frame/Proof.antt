@@ -1,6 +1,6 @@
-use Prim.Native.Nat.{ℕ, _+_, _≤_}
+use Prim.Native.Nat.{_+_}
 use lib.ListN.{length-append}
-use mathlib.Core.List.{List, _++_, append-assoc}
+use mathlib.Core.List.{_++_, append-assoc}
 use Rattle.header.proofs.HeaderLaws.{length-header}
 use Rattle.header.specs.Header.{headerBytes}
 use Rattle.octets.proofs.Lists.{then, then-two}
@@ -8,14 +8,10 @@ use mathlib.Core.List.{_++_, append-assoc}
 use denote.Ref.{now}
 use lib.ListN.{length}
 use native.Mathlib.Omega.{arith}
-use mathlib.Core.Path.{_≡_, refl, sym, ap, _∙_}
+use mathlib.Core.Path.{_≡_, refl}
 use borrow.Author.Needs.{needs}
 use Rattle.request.proofs.put_frame.Statement.{statement}
 use Rattle.request.proofs.put_frame.Tie as tie
-use Rattle.request.proofs.put_frame.Reads as reads
-use Rattle.request.proofs.put_frame.Lts as lts
-use Rattle.header.proofs.put.Reads as put-reads
-use Rattle.octets.proofs.put_bytes.Reads as put-bytes-reads
 
 -- src/lib.rt:225:5
 put-requires : tie.Need-put-requires

@@ -1,12 +1,7 @@
-use Rattle.request.specs.Reading.{gateOf, extrasSpan, keySpan, valueSpan, fieldsOf, frameOf, frameStatus, wholeReading, reading}
-use mathlib.Core.Path.{_≡_, refl, sym, ap, _∙_}
+use Rattle.request.specs.Reading.{reading}
 use borrow.Author.Needs.{needs}
 use Rattle.request.proofs.read.Statement.{statement}
 use Rattle.request.proofs.read.Tie as tie
-use Rattle.request.proofs.read.Reads as reads
-use Rattle.request.proofs.read.Lts as lts
-use Rattle.request.proofs.gate_of.Reads as gate-of-reads
-use Rattle.request.proofs.read_whole.Reads as read-whole-reads
 
 -- src/lib.rt:176:11
 gate-of-requires : tie.Need-gate-of-requires

@@ -1,13 +1,8 @@
-use borrow.Author.Tests.{le-ltb, lt-ltb, le-leb, lt-leb, eq-eqb, ne-eqb, not-true, not-false}
-use Rattle.request.specs.Reading.{gateOf, extrasSpan, keySpan, valueSpan, fieldsOf, frameOf, frameStatus, wholeReading, reading}
-use mathlib.Core.Path.{_≡_, refl, sym, ap, _∙_}
+use borrow.Author.Tests.{eq-eqb, ne-eqb}
+use Rattle.request.specs.Reading.{wholeReading}
 use borrow.Author.Needs.{needs}
 use Rattle.request.proofs.read_whole.Statement.{statement}
 use Rattle.request.proofs.read_whole.Tie as tie
-use Rattle.request.proofs.read_whole.Reads as reads
-use Rattle.request.proofs.read_whole.Lts as lts
-use Rattle.request.proofs.frame_of.Reads as frame-of-reads
-use Rattle.request.proofs.frame_status.Reads as frame-status-reads
 
 -- src/lib.rt:165:9
 frame-status-requires : tie.Need-frame-status-requires

@@ -1,11 +1,7 @@
-use Rattle.request.specs.Reading.{gateOf, extrasSpan, keySpan, valueSpan, fieldsOf, frameOf, frameStatus, wholeReading, reading}
-use mathlib.Core.Path.{_≡_, refl, sym, ap, _∙_}
+use Rattle.request.specs.Reading.{valueSpan}
 use borrow.Author.Needs.{needs}
 use Rattle.request.proofs.value_span.Statement.{statement}
 use Rattle.request.proofs.value_span.Tie as tie
-use Rattle.request.proofs.value_span.Reads as reads
-use Rattle.request.proofs.value_span.Lts as lts
-use Rattle.request.proofs.minus.Reads as minus-reads
 
 -- src/lib.rt:112:13
 cast-e : tie.Need-cast-e

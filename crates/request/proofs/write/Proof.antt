@@ -2,25 +2,18 @@ use mathlib.Core.List.{_++_}
 use Rattle.octets.specs.Parts.{written}
 use Rattle.header.specs.Header.{headerBytes}
 use Rattle.request.specs.declared.Written.the-variants.{Wrote}
-use Rattle.request.specs.Writing.{headerFor, frameBytes}
+use Rattle.request.specs.Writing.{frameBytes}
 use Rattle.header.specs.declared.Header.{Header}
 use Rattle.rules.specs.Rules.{status}
-use Rattle.request.proofs.WriterLaws.{too-long, wide-extras, against-rules, no-room, wrote, over-sum, small-sum, frame-size}
-use borrow.Author.Tests.{le-ltb, lt-ltb, le-leb, lt-leb, eq-eqb, ne-eqb, not-true, not-false}
+use Rattle.request.proofs.WriterLaws.{too-long, wide-extras, against-rules, no-room, wrote, over-sum, small-sum}
 use denote.Ref.{now}
 use lib.ListN.{length}
-use Prim.Native.Nat.{ℕ, _+_, _-_, _≤_, _<_}
+use Prim.Native.Nat.{ℕ, _+_, _-_}
 use native.Mathlib.Omega.{arith}
-use mathlib.Core.Path.{_≡_, refl, sym, ap, _∙_}
+use mathlib.Core.Path.{refl, sym, ap, _∙_}
 use borrow.Author.Needs.{needs}
 use Rattle.request.proofs.write.Statement.{statement}
 use Rattle.request.proofs.write.Tie as tie
-use Rattle.request.proofs.write.Reads as reads
-use Rattle.request.proofs.write.Lts as lts
-use Rattle.request.proofs.body_size.Reads as body-size-reads
-use Rattle.request.proofs.header_for.Reads as header-for-reads
-use Rattle.request.proofs.put_frame.Reads as put-frame-reads
-use Rattle.rules.proofs.status.Reads as status-reads
 
 -- src/lib.rt:237:9
 body-size-requires : tie.Need-body-size-requires

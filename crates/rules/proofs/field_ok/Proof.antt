@@ -1,13 +1,8 @@
-use borrow.Author.Tests.{le-ltb, lt-ltb, le-leb, lt-leb, eq-eqb, ne-eqb, not-true, not-false}
-use Rattle.rules.specs.Section.{fieldOk, fieldSize, fieldsOk, sectionOk}
-use mathlib.Core.Path.{_≡_, refl, sym, ap, _∙_}
+use borrow.Author.Tests.{le-leb, lt-leb}
+use Rattle.rules.specs.Section.{fieldOk}
 use borrow.Author.Needs.{needs}
 use Rattle.rules.proofs.field_ok.Statement.{statement}
 use Rattle.rules.proofs.field_ok.Tie as tie
-use Rattle.rules.proofs.field_ok.Reads as reads
-use Rattle.rules.proofs.field_ok.Lts as lts
-use Rattle.octets.proofs.be16.Reads as be16-reads
-use Rattle.octets.proofs.byte.Reads as byte-reads
 
 -- src/lib.rt:71:9
 returns : tie.Need-returns

@@ -1,13 +1,9 @@
-use borrow.Author.Tests.{le-ltb, lt-ltb, le-leb, lt-leb, eq-eqb, ne-eqb, not-true, not-false}
-use Rattle.rules.specs.Rules.{formOk, numbersOk, bodyOk, withMetaOk, metaSize, fieldRulesOk, judged, status}
-use mathlib.Core.Path.{_≡_, refl, sym, ap, _∙_}
+use borrow.Author.Tests.{eq-eqb, ne-eqb}
+use Rattle.rules.specs.Rules.{fieldRulesOk}
+use mathlib.Core.Path.{_∙_}
 use borrow.Author.Needs.{needs}
 use Rattle.rules.proofs.field_rules_ok.Statement.{statement}
 use Rattle.rules.proofs.field_rules_ok.Tie as tie
-use Rattle.rules.proofs.field_rules_ok.Reads as reads
-use Rattle.rules.proofs.field_rules_ok.Lts as lts
-use Rattle.rules.proofs.with_meta.Reads as with-meta-reads
-use Rattle.rules.proofs.with_meta_ok.Reads as with-meta-ok-reads
 
 -- src/lib.rt:156:9
 returns : tie.Need-returns

@@ -1,10 +1,8 @@
-use Rattle.rules.specs.Rules.{formOk, numbersOk, bodyOk, withMetaOk, metaSize, fieldRulesOk, judged, status}
-use mathlib.Core.Path.{_≡_, refl, sym, ap, _∙_}
+use Rattle.rules.specs.Rules.{formOk}
+use mathlib.Core.Path.{refl}
 use borrow.Author.Needs.{needs}
 use Rattle.rules.proofs.form_ok.Statement.{statement}
 use Rattle.rules.proofs.form_ok.Tie as tie
-use Rattle.rules.proofs.form_ok.Reads as reads
-use Rattle.rules.proofs.form_ok.Lts as lts
 
 -- src/lib.rt:103:17
 cast-parts : tie.Need-cast-parts

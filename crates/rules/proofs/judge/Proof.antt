@@ -1,15 +1,8 @@
-use borrow.Author.Tests.{le-ltb, lt-ltb, le-leb, lt-leb, eq-eqb, ne-eqb, not-true, not-false}
-use Rattle.rules.specs.Rules.{formOk, numbersOk, bodyOk, withMetaOk, metaSize, fieldRulesOk, judged, status}
-use mathlib.Core.Path.{_≡_, refl, sym, ap, _∙_}
+use borrow.Author.Tests.{eq-eqb, ne-eqb}
+use Rattle.rules.specs.Rules.{judged}
 use borrow.Author.Needs.{needs}
 use Rattle.rules.proofs.judge.Statement.{statement}
 use Rattle.rules.proofs.judge.Tie as tie
-use Rattle.rules.proofs.judge.Reads as reads
-use Rattle.rules.proofs.judge.Lts as lts
-use Rattle.rules.proofs.field_rules_ok.Reads as field-rules-ok-reads
-use Rattle.rules.proofs.form_ok.Reads as form-ok-reads
-use Rattle.rules.proofs.meta_size.Reads as meta-size-reads
-use Rattle.rules.proofs.too_large.Reads as too-large-reads
 
 -- src/lib.rt:175:9
 returns : tie.Need-returns

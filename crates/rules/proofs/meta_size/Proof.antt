@@ -1,12 +1,8 @@
-use borrow.Author.Tests.{le-ltb, lt-ltb, le-leb, lt-leb, eq-eqb, ne-eqb, not-true, not-false}
-use Rattle.rules.specs.Rules.{formOk, numbersOk, bodyOk, withMetaOk, metaSize, fieldRulesOk, judged, status}
-use mathlib.Core.Path.{_≡_, refl, sym, ap, _∙_}
+use borrow.Author.Tests.{eq-eqb, ne-eqb}
+use Rattle.rules.specs.Rules.{metaSize}
 use borrow.Author.Needs.{needs}
 use Rattle.rules.proofs.meta_size.Statement.{statement}
 use Rattle.rules.proofs.meta_size.Tie as tie
-use Rattle.rules.proofs.meta_size.Reads as reads
-use Rattle.rules.proofs.meta_size.Lts as lts
-use Rattle.rules.proofs.section_of.Reads as section-of-reads
 
 -- src/lib.rt:147:9
 returns : tie.Need-returns

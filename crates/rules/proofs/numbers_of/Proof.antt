@@ -1,12 +1,7 @@
-use Rattle.rules.specs.WithMeta.{numbersOf, optionsOf, sectionOf, withMeta}
-use mathlib.Core.Path.{_≡_, refl, sym, ap, _∙_}
+use Rattle.rules.specs.WithMeta.{numbersOf}
 use borrow.Author.Needs.{needs}
 use Rattle.rules.proofs.numbers_of.Statement.{statement}
 use Rattle.rules.proofs.numbers_of.Tie as tie
-use Rattle.rules.proofs.numbers_of.Reads as reads
-use Rattle.rules.proofs.numbers_of.Lts as lts
-use Rattle.octets.proofs.be32.Reads as be32-reads
-use Rattle.octets.proofs.be64.Reads as be64-reads
 
 -- src/lib.rt:28:16
 be32-requires : tie.Need-be32-requires

@@ -1,9 +1,7 @@
-use Rattle.rules.specs.Rules.{formOk, numbersOk, bodyOk, withMetaOk, metaSize, fieldRulesOk, judged, status}
-use mathlib.Core.Path.{_≡_, refl, sym, ap, _∙_}
+use Rattle.rules.specs.Rules.{numbersOk}
+use mathlib.Core.Path.{refl}
 use Rattle.rules.proofs.numbers_ok.Statement.{statement}
 use Rattle.rules.proofs.numbers_ok.Tie as tie
-use Rattle.rules.proofs.numbers_ok.Reads as reads
-use Rattle.rules.proofs.numbers_ok.Lts as lts
 
 -- src/lib.rt:112:1
 returns : tie.Need-returns

@@ -1,12 +1,8 @@
-use borrow.Author.Tests.{le-ltb, lt-ltb, le-leb, lt-leb, eq-eqb, ne-eqb, not-true, not-false}
-use Rattle.rules.specs.WithMeta.{numbersOf, optionsOf, sectionOf, withMeta}
-use mathlib.Core.Path.{_≡_, refl, sym, ap, _∙_}
+use borrow.Author.Tests.{le-leb, lt-leb}
+use Rattle.rules.specs.WithMeta.{optionsOf}
 use borrow.Author.Needs.{needs}
 use Rattle.rules.proofs.options_of.Statement.{statement}
 use Rattle.rules.proofs.options_of.Tie as tie
-use Rattle.rules.proofs.options_of.Reads as reads
-use Rattle.rules.proofs.options_of.Lts as lts
-use Rattle.octets.proofs.be32.Reads as be32-reads
 
 -- src/lib.rt:39:9
 be32-requires : tie.Need-be32-requires

@@ -1,12 +1,8 @@
-use borrow.Author.Tests.{le-ltb, lt-ltb, le-leb, lt-leb, eq-eqb, ne-eqb, not-true, not-false}
-use Rattle.rules.specs.WithMeta.{numbersOf, optionsOf, sectionOf, withMeta}
-use mathlib.Core.Path.{_≡_, refl, sym, ap, _∙_}
+use borrow.Author.Tests.{eq-eqb, ne-eqb}
+use Rattle.rules.specs.WithMeta.{sectionOf}
 use borrow.Author.Needs.{needs}
 use Rattle.rules.proofs.section_of.Statement.{statement}
 use Rattle.rules.proofs.section_of.Tie as tie
-use Rattle.rules.proofs.section_of.Reads as reads
-use Rattle.rules.proofs.section_of.Lts as lts
-use Rattle.octets.proofs.be16.Reads as be16-reads
 
 -- src/lib.rt:48:9
 be16-requires : tie.Need-be16-requires

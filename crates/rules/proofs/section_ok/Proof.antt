@@ -1,13 +1,7 @@
-use Rattle.rules.specs.Section.{fieldOk, fieldSize, fieldsOk, sectionOk}
-use mathlib.Core.Path.{_≡_, refl, sym, ap, _∙_}
+use Rattle.rules.specs.Section.{sectionOk}
 use borrow.Author.Needs.{needs}
 use Rattle.rules.proofs.section_ok.Statement.{statement}
 use Rattle.rules.proofs.section_ok.Tie as tie
-use Rattle.rules.proofs.section_ok.Reads as reads
-use Rattle.rules.proofs.section_ok.Lts as lts
-use Rattle.octets.proofs.byte.Reads as byte-reads
-use Rattle.octets.proofs.rest.Reads as rest-reads
-use Rattle.rules.proofs.fields_ok.Reads as fields-ok-reads
 
 -- src/lib.rt:96:28
 rest-requires : tie.Need-rest-requires

@@ -1,12 +1,8 @@
-use Rattle.rules.specs.Rules.{formOk, numbersOk, bodyOk, withMetaOk, metaSize, fieldRulesOk, judged, status}
-use mathlib.Core.Path.{_≡_, refl, sym, ap, _∙_}
+use Rattle.rules.specs.Rules.{status}
+use mathlib.Core.Path.{_∙_}
 use borrow.Author.Needs.{needs}
 use Rattle.rules.proofs.status.Statement.{statement}
 use Rattle.rules.proofs.status.Tie as tie
-use Rattle.rules.proofs.status.Reads as reads
-use Rattle.rules.proofs.status.Lts as lts
-use Rattle.rules.proofs.judge.Reads as judge-reads
-use Rattle.shape.proofs.shape_of.Reads as shape-of-reads
 
 -- src/lib.rt:193:11
 shape-of-requires : tie.Need-shape-of-requires

@@ -1,12 +1,9 @@
 use Prim.Native.Nat.{_-_}
 use native.Mathlib.Omega.{arith}
-use borrow.Author.Tests.{le-ltb, lt-ltb, le-leb, lt-leb, eq-eqb, ne-eqb, not-true, not-false}
-use mathlib.Core.Path.{_≡_, refl, sym, ap, _∙_}
-use borrow.Author.Needs.{needs}
+use borrow.Author.Tests.{le-ltb}
+use mathlib.Core.Path.{refl, sym}
 use Rattle.rules.proofs.too_large.Statement.{statement}
 use Rattle.rules.proofs.too_large.Tie as tie
-use Rattle.rules.proofs.too_large.Reads as reads
-use Rattle.rules.proofs.too_large.Lts as lts
 
 -- src/lib.rt:166:9
 returns : tie.Need-returns

@@ -1,13 +1,7 @@
-use Rattle.rules.specs.WithMeta.{numbersOf, optionsOf, sectionOf, withMeta}
-use mathlib.Core.Path.{_≡_, refl, sym, ap, _∙_}
+use Rattle.rules.specs.WithMeta.{withMeta}
 use borrow.Author.Needs.{needs}
 use Rattle.rules.proofs.with_meta.Statement.{statement}
 use Rattle.rules.proofs.with_meta.Tie as tie
-use Rattle.rules.proofs.with_meta.Reads as reads
-use Rattle.rules.proofs.with_meta.Lts as lts
-use Rattle.rules.proofs.numbers_of.Reads as numbers-of-reads
-use Rattle.rules.proofs.options_of.Reads as options-of-reads
-use Rattle.rules.proofs.section_of.Reads as section-of-reads
 
 -- src/lib.rt:60:18
 numbers-of-requires : tie.Need-numbers-of-requires

@@ -1,15 +1,8 @@
-use borrow.Author.Tests.{le-ltb, lt-ltb, le-leb, lt-leb, eq-eqb, ne-eqb, not-true, not-false}
-use Rattle.rules.specs.Rules.{formOk, numbersOk, bodyOk, withMetaOk, metaSize, fieldRulesOk, judged, status}
-use mathlib.Core.Path.{_≡_, refl, sym, ap, _∙_}
+use borrow.Author.Tests.{le-leb, lt-leb}
+use Rattle.rules.specs.Rules.{withMetaOk}
 use borrow.Author.Needs.{needs}
 use Rattle.rules.proofs.with_meta_ok.Statement.{statement}
 use Rattle.rules.proofs.with_meta_ok.Tie as tie
-use Rattle.rules.proofs.with_meta_ok.Reads as reads
-use Rattle.rules.proofs.with_meta_ok.Lts as lts
-use Rattle.octets.proofs.rest.Reads as rest-reads
-use Rattle.rules.proofs.body_ok.Reads as body-ok-reads
-use Rattle.rules.proofs.numbers_ok.Reads as numbers-ok-reads
-use Rattle.rules.proofs.section_ok.Reads as section-ok-reads
 
 -- src/lib.rt:134:19
 cast-section : tie.Need-cast-section

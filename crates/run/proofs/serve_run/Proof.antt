@@ -8,11 +8,6 @@ use Rattle.run.specs.Run.{begun, runEnd}
 use Rattle.run.proofs.Runs.{turn-told, turn-on, turn-ends}
 use Rattle.run.proofs.serve_run.Statement.{statement}
 use Rattle.run.proofs.serve_run.Tie as tie
-use Rattle.run.proofs.serve_run.Reads as reads
-use Rattle.run.proofs.serve_run.Lts as lts
-use Rattle.octets.proofs.rest.Reads as rest-reads
-use Rattle.serve.proofs.serve_one.Reads as serve-one-reads
-use Rattle.tally.proofs.counted.Reads as counted-reads
 
 abbrev Inv-loop : tie.InvT-loop
 Inv-loop b₀ clock run out₀ at₀ filled₀ tally₀ b out at filled tally =

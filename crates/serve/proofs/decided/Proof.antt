@@ -1,20 +1,10 @@
 use Rattle.digits.specs.Decimal.{numberOf}
-use mathlib.Core.List.{List}
 use denote.Ref.{now}
-use Rattle.serve.proofs.Joint.{decided-is, status-is, reply-is, answer-is, table-is, refused-reply, refused-table, refused-answer}
-use mathlib.Core.Path.{_≡_, refl, sym, ap, _∙_}
+use Rattle.serve.proofs.Joint.{decided-is}
+use mathlib.Core.Path.{ap, _∙_}
 use borrow.Author.Needs.{needs}
 use Rattle.serve.proofs.decided.Statement.{statement}
 use Rattle.serve.proofs.decided.Tie as tie
-use Rattle.serve.proofs.decided.Reads as reads
-use Rattle.serve.proofs.decided.Lts as lts
-use Rattle.asks.proofs.ask_of.Reads as ask-of-reads
-use Rattle.commands.proofs.decide.Reads as decide-reads
-use Rattle.digits.proofs.parse.Reads as parse-reads
-use Rattle.serve.proofs.change.held_at.Reads as held-at-reads
-use Rattle.serve.proofs.change.value_in.Reads as value-in-reads
-use Rattle.serve.proofs.is_place.Reads as is-place-reads
-use Rattle.table.proofs.head_of.Reads as head-of-reads
 
 -- src/lib.rt:64:32
 value-in-requires : tie.Need-value-in-requires

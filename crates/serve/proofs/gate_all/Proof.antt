@@ -1,13 +1,8 @@
-use Rattle.serving.specs.Serve.{gateAll, decisionOn}
+use Rattle.serving.specs.Serve.{gateAll}
 use borrow.Author.Tests.{lt-ltb, le-ltb}
-use mathlib.Core.Path.{_≡_, refl, sym, ap, _∙_}
 use borrow.Author.Needs.{needs}
 use Rattle.serve.proofs.gate_all.Statement.{statement}
 use Rattle.serve.proofs.gate_all.Tie as tie
-use Rattle.serve.proofs.gate_all.Reads as reads
-use Rattle.serve.proofs.gate_all.Lts as lts
-use Rattle.request.proofs.gate_of.Reads as gate-of-reads
-use Rattle.table.proofs.damage.is_sound.Reads as is-sound-reads
 
 -- src/lib.rt:38:9
 is-sound-requires : tie.Need-is-sound-requires

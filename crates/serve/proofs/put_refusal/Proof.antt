@@ -1,18 +1,9 @@
 use Rattle.serve.proofs.Joint.{refusal-length}
-use mathlib.Core.List.{append-nil}
-use Rattle.serving.specs.Reply.{replyBytes, replyHeader}
-use Rattle.header.proofs.HeaderLaws.{length-header}
-use lib.ListN.{length}
-use denote.Ref.{now}
-use Prim.Native.Nat.{ℕ, _+_, _≤_}
 use native.Mathlib.Omega.{arith}
-use mathlib.Core.Path.{_≡_, refl, sym, ap, _∙_}
+use mathlib.Core.Path.{_∙_}
 use borrow.Author.Needs.{needs}
 use Rattle.serve.proofs.put_refusal.Statement.{statement}
 use Rattle.serve.proofs.put_refusal.Tie as tie
-use Rattle.serve.proofs.put_refusal.Reads as reads
-use Rattle.serve.proofs.put_refusal.Lts as lts
-use Rattle.serve.proofs.reply.put_reply.Reads as put-reply-reads
 
 -- src/lib.rt:116:50
 slice-aggregate-put-reply : tie.Need-slice-aggregate-put-reply

@@ -1,32 +1,18 @@
 use Rattle.octets.specs.Parts.{written}
-use Rattle.table.specs.declared.Found.{Found}
-use Rattle.serving.specs.Change.{valueIn}
 use mathlib.Core.List.{List}
 use Rattle.table.specs.Table.{tableOf}
 use Rattle.table.specs.Lookup.{findIn}
-use Rattle.request.specs.Reading.{bytesIn, keySpan}
+use Rattle.request.specs.Reading.{bytesIn}
 use Rattle.serve.proofs.Lookups.{value-short, key-short}
-use Rattle.serve.proofs.Joint.{decided-is, status-is, reply-is, answer-is, table-is, refused-reply, refused-table, refused-answer}
+use Rattle.serve.proofs.Joint.{reply-is, answer-is, table-is}
 use lib.ListN.{length}
 use denote.Ref.{now}
-use Prim.Native.Nat.{ℕ, _+_, _≤_}
+use Prim.Native.Nat.{ℕ}
 use native.Mathlib.Omega.{arith}
-use mathlib.Core.Path.{_≡_, refl, sym, ap, _∙_}
+use mathlib.Core.Path.{ap, _∙_}
 use borrow.Author.Needs.{needs}
 use Rattle.serve.proofs.serve_formed.Statement.{statement}
 use Rattle.serve.proofs.serve_formed.Tie as tie
-use Rattle.serve.proofs.serve_formed.Reads as reads
-use Rattle.serve.proofs.serve_formed.Lts as lts
-use Rattle.asks.proofs.value_of.Reads as value-of-reads
-use Rattle.request.proofs.bytes_in.Reads as bytes-in-reads
-use Rattle.request.proofs.key_span.Reads as key-span-reads
-use Rattle.serve.proofs.change.change.Reads as change-reads
-use Rattle.serve.proofs.change.value_in.Reads as value-in-reads
-use Rattle.serve.proofs.decided.Reads as decided-reads
-use Rattle.serve.proofs.reply.put_reply.Reads as put-reply-reads
-use Rattle.table.proofs.lookup.either.Reads as either-reads
-use Rattle.table.proofs.lookup.find.Reads as find-reads
-use Rattle.table.proofs.lookup.free.Reads as free-reads
 
 -- src/lib.rt:83:36
 key-span-requires : tie.Need-key-span-requires

@@ -1,18 +1,12 @@
-use Rattle.serve.proofs.Joint.{gate-whole}
+use Rattle.serving.proofs.Gated.{was-open}
 use Rattle.serving.specs.Serve.{answerBy, tableBy, replyBy}
 use Rattle.serving.specs.Serve.{served, servedTable, servedReply}
 use lib.ListN.{length}
 use denote.Ref.{now}
-use Prim.Native.Nat.{ℕ, _+_, _≤_}
-use native.Mathlib.Omega.{arith}
-use mathlib.Core.Path.{_≡_, refl, sym, ap, _∙_}
+use mathlib.Core.Path.{sym, ap, _∙_}
 use borrow.Author.Needs.{needs}
 use Rattle.serve.proofs.serve_one.Statement.{statement}
 use Rattle.serve.proofs.serve_one.Tie as tie
-use Rattle.serve.proofs.serve_one.Reads as reads
-use Rattle.serve.proofs.serve_one.Lts as lts
-use Rattle.serve.proofs.gate_all.Reads as gate-all-reads
-use Rattle.serve.proofs.serve_whole.Reads as serve-whole-reads
 
 -- src/lib.rt:139:11
 gate-all-requires : tie.Need-gate-all-requires
@@ -28,7 +22,7 @@ enum-known-h c = search needs
 
 -- src/lib.rt:141:27
 serve-whole-requires : tie.Need-serve-whole-requires
-serve-whole-requires c κs = gate-whole (now ((c .before .before .before .before .before .before .before .before .before .before .args) .b)) (now ((c .before .before .before .before .before .before .before .before .before .before .args) .s)) (length (now ((c .before .before .before .before .before .before .before .before .before .before .args) .out))) ((c .before .before .before .h) .given .0 .0) (sym ((c .before .before .before .before .before .gate-all) .ensures) ∙ (c .before .before .before .h) .given .1)
+serve-whole-requires c κs = let w = was-open (now ((c .before .before .before .before .before .before .before .before .before .before .args) .b)) (now ((c .before .before .before .before .before .before .before .before .before .before .args) .s)) (length (now ((c .before .before .before .before .before .before .before .before .before .before .args) .out))) ((c .before .before .before .h) .given .0 .0) (sym ((c .before .before .before .before .before .gate-all) .ensures) ∙ (c .before .before .before .h) .given .1) in (w .undamaged, w .roomy)
 
 -- src/lib.rt:134:1
 same-length : tie.Need-same-length

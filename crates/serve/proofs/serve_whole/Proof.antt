@@ -4,26 +4,14 @@ use Rattle.table.specs.Table.{headOf}
 use Rattle.serving.specs.Serve.{refusal}
 use Rattle.serving.specs.Reply.{replyBytes}
 use mathlib.Core.List.{[]}
-use mathlib.Core.List.{List}
 use Rattle.octets.specs.Parts.{written}
-use mathlib.Core.Bool.{true, false}
-use Rattle.serve.proofs.Joint.{decided-is, status-is, reply-is, answer-is, table-is, refused-reply, refused-table, refused-answer}
-use lib.ListN.{length}
+use Rattle.serve.proofs.Joint.{refused-reply, refused-table, refused-answer}
 use denote.Ref.{now}
-use Prim.Native.Nat.{ℕ, _+_, _≤_}
-use native.Mathlib.Omega.{arith}
-use mathlib.Core.Path.{_≡_, refl, sym, ap, _∙_}
+use mathlib.Core.Path.{_≡_, sym, ap, _∙_}
 use Rattle.serving.specs.Serve.{goesOn}
 use borrow.Author.Needs.{needs}
 use Rattle.serve.proofs.serve_whole.Statement.{statement}
 use Rattle.serve.proofs.serve_whole.Tie as tie
-use Rattle.serve.proofs.serve_whole.Reads as reads
-use Rattle.serve.proofs.serve_whole.Lts as lts
-use Rattle.request.proofs.frame_status.Reads as frame-status-reads
-use Rattle.serve.proofs.goes_on.Reads as goes-on-reads
-use Rattle.serve.proofs.put_refusal.Reads as put-refusal-reads
-use Rattle.serve.proofs.serve_formed.Reads as serve-formed-reads
-use Rattle.table.proofs.head_of.Reads as head-of-reads
 
 -- src/lib.rt:125:9
 frame-status-requires : tie.Need-frame-status-requires

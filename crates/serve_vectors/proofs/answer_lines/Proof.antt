@@ -1,5 +1,5 @@
 -- `answer_lines` is safe and ends: each turn moves past a line of the input.
-use Prim.Native.Nat.{_-_, _+_}
+use Prim.Native.Nat.{_-_}
 use borrow.Author.Needs.{needs}
 use lib.ListN.{length}
 use mathlib.Core.Path.{_≡_}

@@ -4,15 +4,6 @@ use native.Mathlib.Omega.{arith}
 use borrow.Author.Needs.{needs}
 use Rattle.table_vectors.proofs.answer_line.Statement.{statement}
 use Rattle.table_vectors.proofs.answer_line.Tie as tie
-use Rattle.table_vectors.proofs.answer_line.Reads as reads
-use Rattle.table_vectors.proofs.answer_line.Lts as lts
-use Rattle.octets.proofs.byte.Reads as byte-reads
-use Rattle.table_vectors.proofs.answer_call.Reads as answer-call-reads
-use Rattle.table_vectors.proofs.show.text.Reads as text-reads
-use Rattle.table_vectors.proofs.size_for.Reads as size-for-reads
-use Rattle.table_vectors.proofs.text.after.Reads as after-reads
-use Rattle.table_vectors.proofs.text.before.Reads as before-reads
-use Rattle.table_vectors.proofs.text.numbers.Reads as numbers-reads
 
 -- src/main.rt:88:29
 byte-requires : tie.Need-byte-requires

@@ -4,12 +4,6 @@ use lib.ListN.{length}
 use borrow.Author.Needs.{needs}
 use Rattle.table_vectors.proofs.answer_lines.Statement.{statement}
 use Rattle.table_vectors.proofs.answer_lines.Tie as tie
-use Rattle.table_vectors.proofs.answer_lines.Reads as reads
-use Rattle.table_vectors.proofs.answer_lines.Lts as lts
-use Rattle.octets.proofs.rest.Reads as rest-reads
-use Rattle.table_vectors.proofs.answer_line.Reads as answer-line-reads
-use Rattle.table_vectors.proofs.show.text.Reads as text-reads
-use Rattle.table_vectors.proofs.text.before.Reads as before-reads
 
 abbrev Inv-loop : tie.InvT-loop
 Inv-loop input memory₀ space₀ at₀ size₀ t7 memory space at size = (length memory ≡ length memory₀) × (length space ≡ length space₀)

@@ -2,9 +2,6 @@ use borrow.Author.Needs.{needs}
 use Rattle.tally.specs.Counts.{countedOf}
 use Rattle.tally.proofs.counted.Statement.{statement}
 use Rattle.tally.proofs.counted.Tie as tie
-use Rattle.tally.proofs.counted.Reads as reads
-use Rattle.tally.proofs.counted.Lts as lts
-use Rattle.tally.proofs.more_if.Reads as more-if-reads
 
 enum-known-r : tie.Need-enum-known-r
 enum-known-r c = search needs

@@ -1,14 +1,6 @@
-use mathlib.Core.Path.{_≡_, refl, sym, ap, _∙_}
 use borrow.Author.Needs.{needs}
 use Rattle.commands.proofs.effects.count_done.Statement.{statement}
 use Rattle.commands.proofs.effects.count_done.Tie as tie
-use Rattle.commands.proofs.effects.count_done.Reads as reads
-use Rattle.commands.proofs.effects.count_done.Lts as lts
-use Rattle.commands.proofs.effects.counted.Reads as counted-reads
-use Rattle.commands.proofs.effects.sum.Reads as sum-reads
-use Rattle.engine.proofs.live.Reads as live-reads
-use Rattle.engine.proofs.numbers_of.Reads as numbers-of-reads
-use Rattle.numbers.proofs.absolute.Reads as absolute-reads
 
 -- src/effects.rt:129:9
 numbers-of-requires : tie.Need-numbers-of-requires

@@ -1,11 +1,6 @@
-use mathlib.Core.Path.{_≡_, refl, sym, ap, _∙_}
 use borrow.Author.Needs.{needs}
 use Rattle.commands.proofs.effects.counted.Statement.{statement}
 use Rattle.commands.proofs.effects.counted.Tie as tie
-use Rattle.commands.proofs.effects.counted.Reads as reads
-use Rattle.commands.proofs.effects.counted.Lts as lts
-use Rattle.commands.proofs.effects.kept.Reads as kept-reads
-use Rattle.commands.proofs.effects.plain_numbers.Reads as plain-numbers-reads
 
 -- src/effects.rt:93:9
 plain-numbers-requires : tie.Need-plain-numbers-requires

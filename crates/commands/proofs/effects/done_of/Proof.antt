@@ -1,15 +1,7 @@
-use Rattle.commands.specs.Done.{doneOf, decision}
-use mathlib.Core.Path.{_≡_, refl, sym, ap, _∙_}
+use Rattle.commands.specs.Done.{doneOf}
 use borrow.Author.Needs.{needs}
 use Rattle.commands.proofs.effects.done_of.Statement.{statement}
 use Rattle.commands.proofs.effects.done_of.Tie as tie
-use Rattle.commands.proofs.effects.done_of.Reads as reads
-use Rattle.commands.proofs.effects.done_of.Lts as lts
-use Rattle.commands.proofs.effects.count_done.Reads as count-done-reads
-use Rattle.commands.proofs.effects.found.Reads as found-reads
-use Rattle.commands.proofs.effects.meta_done.Reads as meta-done-reads
-use Rattle.commands.proofs.effects.nothing.Reads as nothing-reads
-use Rattle.commands.proofs.effects.write_done.Reads as write-done-reads
 
 -- src/effects.rt:180:22
 enum-known-c : tie.Need-enum-known-c

@@ -1,11 +1,6 @@
-use mathlib.Core.Path.{_≡_, refl, sym, ap, _∙_}
 use borrow.Author.Needs.{needs}
 use Rattle.commands.proofs.effects.found.Statement.{statement}
 use Rattle.commands.proofs.effects.found.Tie as tie
-use Rattle.commands.proofs.effects.found.Reads as reads
-use Rattle.commands.proofs.effects.found.Lts as lts
-use Rattle.commands.proofs.effects.nothing.Reads as nothing-reads
-use Rattle.engine.proofs.numbers_of.Reads as numbers-of-reads
 
 -- src/effects.rt:171:9
 numbers-of-requires : tie.Need-numbers-of-requires

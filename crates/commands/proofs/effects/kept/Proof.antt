@@ -1,11 +1,6 @@
-use mathlib.Core.Path.{_≡_, refl, sym, ap, _∙_}
 use borrow.Author.Needs.{needs}
 use Rattle.commands.proofs.effects.kept.Statement.{statement}
 use Rattle.commands.proofs.effects.kept.Tie as tie
-use Rattle.commands.proofs.effects.kept.Reads as reads
-use Rattle.commands.proofs.effects.kept.Lts as lts
-use Rattle.commands.proofs.effects.marked.Reads as marked-reads
-use Rattle.numbers.proofs.larger.Reads as larger-reads
 
 -- src/effects.rt:51:26
 larger-requires : tie.Need-larger-requires

@@ -1,10 +1,6 @@
-use mathlib.Core.Path.{_≡_, refl, sym, ap, _∙_}
 use borrow.Author.Needs.{needs}
 use Rattle.commands.proofs.effects.meta_numbers.Statement.{statement}
 use Rattle.commands.proofs.effects.meta_numbers.Tie as tie
-use Rattle.commands.proofs.effects.meta_numbers.Reads as reads
-use Rattle.commands.proofs.effects.meta_numbers.Lts as lts
-use Rattle.numbers.proofs.next.Reads as next-reads
 
 -- src/effects.rt:143:13
 next-requires : tie.Need-next-requires

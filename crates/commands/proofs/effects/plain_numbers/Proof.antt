@@ -1,11 +1,6 @@
-use mathlib.Core.Path.{_≡_, refl, sym, ap, _∙_}
 use borrow.Author.Needs.{needs}
 use Rattle.commands.proofs.effects.plain_numbers.Statement.{statement}
 use Rattle.commands.proofs.effects.plain_numbers.Tie as tie
-use Rattle.commands.proofs.effects.plain_numbers.Reads as reads
-use Rattle.commands.proofs.effects.plain_numbers.Lts as lts
-use Rattle.engine.proofs.numbers_of.Reads as numbers-of-reads
-use Rattle.numbers.proofs.next.Reads as next-reads
 
 -- src/effects.rt:65:9
 numbers-of-requires : tie.Need-numbers-of-requires

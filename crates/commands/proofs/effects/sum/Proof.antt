@@ -1,11 +1,6 @@
-use mathlib.Core.Path.{_≡_, refl, sym, ap, _∙_}
 use borrow.Author.Needs.{needs}
 use Rattle.commands.proofs.effects.sum.Statement.{statement}
 use Rattle.commands.proofs.effects.sum.Tie as tie
-use Rattle.commands.proofs.effects.sum.Reads as reads
-use Rattle.commands.proofs.effects.sum.Lts as lts
-use Rattle.commands.proofs.effects.less.Reads as less-reads
-use Rattle.std.proofs.num.wrapping_add_u64.Reads as wrapping-add-u64-reads
 
 -- src/effects.rt:115:23
 enum-known-n : tie.Need-enum-known-n

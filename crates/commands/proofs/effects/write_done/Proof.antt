@@ -1,14 +1,6 @@
-use mathlib.Core.Path.{_≡_, refl, sym, ap, _∙_}
 use borrow.Author.Needs.{needs}
 use Rattle.commands.proofs.effects.write_done.Statement.{statement}
 use Rattle.commands.proofs.effects.write_done.Tie as tie
-use Rattle.commands.proofs.effects.write_done.Reads as reads
-use Rattle.commands.proofs.effects.write_done.Lts as lts
-use Rattle.commands.proofs.effects.kept.Reads as kept-reads
-use Rattle.commands.proofs.effects.plain_numbers.Reads as plain-numbers-reads
-use Rattle.commands.proofs.rules.is_delete.Reads as is-delete-reads
-use Rattle.commands.proofs.rules.source_of.Reads as source-of-reads
-use Rattle.numbers.proofs.absolute.Reads as absolute-reads
 
 -- src/effects.rt:80:9
 is-delete-requires : tie.Need-is-delete-requires

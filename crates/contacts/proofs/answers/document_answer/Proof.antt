@@ -1,10 +1,6 @@
 use borrow.Author.Needs.{needs}
 use Rattle.contacts.proofs.answers.document_answer.Statement.{statement}
 use Rattle.contacts.proofs.answers.document_answer.Tie as tie
-use Rattle.contacts.proofs.answers.document_answer.Reads as reads
-use Rattle.contacts.proofs.answers.document_answer.Lts as lts
-use Rattle.contacts.proofs.answers.live_answer.Reads as live-answer-reads
-use Rattle.contacts.proofs.answers.no_document.Reads as no-document-reads
 
 -- src/answers.rt:160:30
 enum-told : tie.Need-enum-told

@@ -1,8 +1,6 @@
 use borrow.Author.Needs.{needs}
 use Rattle.contacts.proofs.answers.purged_answer.Statement.{statement}
 use Rattle.contacts.proofs.answers.purged_answer.Tie as tie
-use Rattle.contacts.proofs.answers.purged_answer.Reads as reads
-use Rattle.contacts.proofs.answers.purged_answer.Lts as lts
 
 -- src/answers.rt:170:28
 enum-told : tie.Need-enum-told

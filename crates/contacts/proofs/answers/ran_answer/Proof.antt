@@ -1,9 +1,6 @@
 use borrow.Author.Needs.{needs}
 use Rattle.contacts.proofs.answers.ran_answer.Statement.{statement}
 use Rattle.contacts.proofs.answers.ran_answer.Tie as tie
-use Rattle.contacts.proofs.answers.ran_answer.Reads as reads
-use Rattle.contacts.proofs.answers.ran_answer.Lts as lts
-use Rattle.contacts.proofs.answers.served_answer.Reads as served-answer-reads
 
 -- src/answers.rt:106:9
 served-answer-requires : tie.Need-served-answer-requires

@@ -1,10 +1,6 @@
 use borrow.Author.Needs.{needs}
 use Rattle.contacts.proofs.answers.request_answer.Statement.{statement}
 use Rattle.contacts.proofs.answers.request_answer.Tie as tie
-use Rattle.contacts.proofs.answers.request_answer.Reads as reads
-use Rattle.contacts.proofs.answers.request_answer.Lts as lts
-use Rattle.contacts.proofs.answers.request_refused.Reads as request-refused-reads
-use Rattle.contacts.proofs.answers.request_shown.Reads as request-shown-reads
 
 -- src/answers.rt:215:26
 enum-known-r : tie.Need-enum-known-r

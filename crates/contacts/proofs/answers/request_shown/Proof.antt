@@ -1,9 +1,6 @@
 use borrow.Author.Needs.{needs}
 use Rattle.contacts.proofs.answers.request_shown.Statement.{statement}
 use Rattle.contacts.proofs.answers.request_shown.Tie as tie
-use Rattle.contacts.proofs.answers.request_shown.Reads as reads
-use Rattle.contacts.proofs.answers.request_shown.Lts as lts
-use Rattle.contacts.proofs.answers.part_of.Reads as part-of-reads
 
 -- src/answers.rt:204:17
 part-of-requires : tie.Need-part-of-requires

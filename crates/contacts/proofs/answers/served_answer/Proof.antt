@@ -1,8 +1,6 @@
 use borrow.Author.Needs.{needs}
 use Rattle.contacts.proofs.answers.served_answer.Statement.{statement}
 use Rattle.contacts.proofs.answers.served_answer.Tie as tie
-use Rattle.contacts.proofs.answers.served_answer.Reads as reads
-use Rattle.contacts.proofs.answers.served_answer.Lts as lts
 
 -- src/answers.rt:85:25
 enum-known-r : tie.Need-enum-known-r

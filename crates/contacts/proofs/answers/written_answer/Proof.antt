@@ -1,8 +1,6 @@
 use borrow.Author.Needs.{needs}
 use Rattle.contacts.proofs.answers.written_answer.Statement.{statement}
 use Rattle.contacts.proofs.answers.written_answer.Tie as tie
-use Rattle.contacts.proofs.answers.written_answer.Reads as reads
-use Rattle.contacts.proofs.answers.written_answer.Lts as lts
 
 -- src/answers.rt:225:29
 enum-told : tie.Need-enum-told

@@ -6,11 +6,6 @@ use Prim.Native.Nat.{_≤_}
 use borrow.Author.Needs.{needs}
 use Rattle.run.proofs.Cursor.serve.Statement.{statement}
 use Rattle.run.proofs.Cursor.serve.Tie as tie
-use Rattle.run.proofs.Cursor.serve.Reads as reads
-use Rattle.run.proofs.Cursor.serve.Lts as lts
-use Rattle.octets.proofs.rest.Reads as rest-reads
-use Rattle.run.proofs.used_of.Reads as used-of-reads
-use Rattle.serve.proofs.serve_one.Reads as serve-one-reads
 
 -- src/lib.rt:35:44
 rest-requires : tie.Need-rest-requires

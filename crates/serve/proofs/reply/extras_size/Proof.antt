@@ -2,8 +2,6 @@ use Rattle.octets.specs.BigEndian.{bytesOf}
 use borrow.Author.Needs.{needs}
 use Rattle.serve.proofs.reply.extras_size.Statement.{statement}
 use Rattle.serve.proofs.reply.extras_size.Tie as tie
-use Rattle.serve.proofs.reply.extras_size.Reads as reads
-use Rattle.serve.proofs.reply.extras_size.Lts as lts
 
 -- src/reply.rt:61:24
 enum-told : tie.Need-enum-told

@@ -3,9 +3,6 @@ use mathlib.Core.Path.{ap}
 use borrow.Author.Needs.{needs}
 use Rattle.serve.proofs.reply.key_size.Statement.{statement}
 use Rattle.serve.proofs.reply.key_size.Tie as tie
-use Rattle.serve.proofs.reply.key_size.Reads as reads
-use Rattle.serve.proofs.reply.key_size.Lts as lts
-use Rattle.serve.proofs.reply.shown_key.Reads as shown-key-reads
 
 -- src/reply.rt:72:24
 enum-told : tie.Need-enum-told

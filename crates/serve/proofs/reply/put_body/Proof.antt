@@ -7,12 +7,6 @@ use mathlib.Core.Path.{refl, sym}
 use borrow.Author.Needs.{needs}
 use Rattle.serve.proofs.reply.put_body.Statement.{statement}
 use Rattle.serve.proofs.reply.put_body.Tie as tie
-use Rattle.serve.proofs.reply.put_body.Reads as reads
-use Rattle.serve.proofs.reply.put_body.Lts as lts
-use Rattle.octets.proofs.put_be.Reads as put-be-reads
-use Rattle.octets.proofs.put_bytes.Reads as put-bytes-reads
-use Rattle.serve.proofs.reply.put_found.Reads as put-found-reads
-use Rattle.serve.proofs.reply.shown_key.Reads as shown-key-reads
 
 -- src/reply.rt:44:24
 enum-told : tie.Need-enum-told

@@ -8,10 +8,6 @@ use mathlib.Core.Path.{refl}
 use borrow.Author.Needs.{needs}
 use Rattle.serve.proofs.reply.put_found.Statement.{statement}
 use Rattle.serve.proofs.reply.put_found.Tie as tie
-use Rattle.serve.proofs.reply.put_found.Reads as reads
-use Rattle.serve.proofs.reply.put_found.Lts as lts
-use Rattle.octets.proofs.put_be.Reads as put-be-reads
-use Rattle.octets.proofs.put_bytes.Reads as put-bytes-reads
 
 -- src/reply.rt:31:5
 put-be-requires : tie.Need-put-be-requires

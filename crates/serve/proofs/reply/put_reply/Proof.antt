@@ -4,11 +4,6 @@ use native.Mathlib.Omega.{arith}
 use borrow.Author.Needs.{needs}
 use Rattle.serve.proofs.reply.put_reply.Statement.{statement}
 use Rattle.serve.proofs.reply.put_reply.Tie as tie
-use Rattle.serve.proofs.reply.put_reply.Reads as reads
-use Rattle.serve.proofs.reply.put_reply.Lts as lts
-use Rattle.header.proofs.put.Reads as put-reads
-use Rattle.serve.proofs.reply.put_body.Reads as put-body-reads
-use Rattle.serve.proofs.reply.reply_header.Reads as reply-header-reads
 
 -- src/reply.rt:113:9
 returns : tie.Need-returns

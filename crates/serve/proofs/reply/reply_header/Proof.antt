@@ -5,10 +5,6 @@ use native.Mathlib.Omega.{arith}
 use borrow.Author.Needs.{needs}
 use Rattle.serve.proofs.reply.reply_header.Statement.{statement}
 use Rattle.serve.proofs.reply.reply_header.Tie as tie
-use Rattle.serve.proofs.reply.reply_header.Reads as reads
-use Rattle.serve.proofs.reply.reply_header.Lts as lts
-use Rattle.serve.proofs.reply.extras_size.Reads as extras-size-reads
-use Rattle.serve.proofs.reply.key_size.Reads as key-size-reads
 
 -- src/reply.rt:89:17
 key-size-requires : tie.Need-key-size-requires

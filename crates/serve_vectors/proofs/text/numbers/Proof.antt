@@ -3,11 +3,6 @@ use lib.ListN.{length}
 use borrow.Author.Needs.{needs}
 use Rattle.serve_vectors.proofs.text.numbers.Statement.{statement}
 use Rattle.serve_vectors.proofs.text.numbers.Tie as tie
-use Rattle.serve_vectors.proofs.text.numbers.Reads as reads
-use Rattle.serve_vectors.proofs.text.numbers.Lts as lts
-use Rattle.digits.proofs.parse.Reads as parse-reads
-use Rattle.octets.proofs.rest.Reads as rest-reads
-use Rattle.serve_vectors.proofs.text.before.Reads as before-reads
 
 abbrev Inv-loop : tie.InvT-loop
 Inv-loop s numbers₀ count₀ at₀ numbers count at = Unit {0}

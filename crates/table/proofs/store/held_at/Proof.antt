@@ -1,11 +1,7 @@
 use Rattle.table.specs.Row.{docOf}
-use mathlib.Core.Path.{_≡_, refl}
 use borrow.Author.Needs.{needs}
 use Rattle.table.proofs.store.held_at.Statement.{statement}
 use Rattle.table.proofs.store.held_at.Tie as tie
-use Rattle.table.proofs.store.held_at.Reads as reads
-use Rattle.table.proofs.store.held_at.Lts as lts
-use Rattle.table.proofs.store.slot_at.Reads as slot-at-reads
 
 -- src/store.rt:34:9
 slot-at-requires : tie.Need-slot-at-requires

@@ -1,37 +1,29 @@
-use Rattle.commands.specs.Rules.{ruleOf, testsOf, statusOf, firstFailure}
-use mathlib.Core.Path.{_≡_, refl, sym, ap, _∙_}
+use Rattle.commands.specs.Rules.{testsOf}
 use borrow.Author.Needs.{needs}
-use Rattle.commands.proofs.rules.tests_of.Statement.{statement}
-use Rattle.commands.proofs.rules.tests_of.Tie as tie
-use Rattle.commands.proofs.rules.tests_of.Reads as reads
-use Rattle.commands.proofs.rules.tests_of.Lts as lts
-use Rattle.commands.proofs.rules.is_number.Reads as is-number-reads
-use Rattle.commands.proofs.rules.taken.Reads as taken-reads
-use Rattle.engine.proofs.has_row.Reads as has-row-reads
-use Rattle.engine.proofs.live.Reads as live-reads
-use Rattle.engine.proofs.numbers_of.Reads as numbers-of-reads
+use Rattle.commands.proofs.judging.tests_of.Statement.{statement}
+use Rattle.commands.proofs.judging.tests_of.Tie as tie
 
--- src/rules.rt:214:9
+-- src/judging.rt:214:9
 live-requires : tie.Need-live-requires
 live-requires c κs = search needs
 
--- src/rules.rt:215:9
+-- src/judging.rt:215:9
 numbers-of-requires : tie.Need-numbers-of-requires
 numbers-of-requires c κs = search needs
 
--- src/rules.rt:216:9
+-- src/judging.rt:216:9
 has-row-requires : tie.Need-has-row-requires
 has-row-requires c κs = search needs
 
--- src/rules.rt:217:9
+-- src/judging.rt:217:9
 is-number-requires : tie.Need-is-number-requires
 is-number-requires c κs = search needs
 
--- src/rules.rt:218:9
+-- src/judging.rt:218:9
 taken-requires : tie.Need-taken-requires
 taken-requires c κs = search needs
 
--- src/rules.rt:203:1
+-- src/judging.rt:203:1
 returns : tie.Need-returns
 unfolding testsOf
 returns c = simp ((c .before .before .before .before .before .before .before .before .before .before .before .before .before .before .taken) .ensures, (c .before .before .before .before .before .before .before .before .before .before .before .before .before .before .before .is-number) .ensures, (c .before .before .before .before .before .before .before .before .before .before .before .before .before .before .before .before .has-row) .ensures, (c .before .before .before .before .before .before .before .before .before .before .before .before .before .before .before .before .before .numbers-of) .ensures, (c .before .before .before .before .before .before .before .before .before .before .before .before .before .before .before .before .before .before .live) .ensures)

@@ -1,26 +1,20 @@
-use mathlib.Core.Path.{_≡_, refl, sym, ap, _∙_}
 use borrow.Author.Needs.{needs}
-use Rattle.commands.proofs.rules.meta_rule.Statement.{statement}
-use Rattle.commands.proofs.rules.meta_rule.Tie as tie
-use Rattle.commands.proofs.rules.meta_rule.Reads as reads
-use Rattle.commands.proofs.rules.meta_rule.Lts as lts
-use Rattle.commands.proofs.rules.is_add.Reads as is-add-reads
-use Rattle.commands.proofs.rules.is_last.Reads as is-last-reads
-use Rattle.engine.proofs.accepted.Reads as accepted-reads
+use Rattle.commands.proofs.judging.meta_rule.Statement.{statement}
+use Rattle.commands.proofs.judging.meta_rule.Tie as tie
 
--- src/rules.rt:131:9
+-- src/judging.rt:131:9
 is-last-requires : tie.Need-is-last-requires
 is-last-requires c κs = search needs
 
--- src/rules.rt:134:9
+-- src/judging.rt:134:9
 accepted-requires : tie.Need-accepted-requires
 accepted-requires c κs = search needs
 
--- src/rules.rt:135:9
+-- src/judging.rt:135:9
 is-add-requires : tie.Need-is-add-requires
 is-add-requires c κs = search needs
 
--- src/rules.rt:128:1
+-- src/judging.rt:128:1
 returns : tie.Need-returns
 returns c = simp ((c .before .before .before .is-add) .ensures, (c .before .before .before .before .accepted) .ensures, (c .before .before .before .before .before .before .is-last) .ensures)
 

@@ -1,0 +1,91 @@
+// What the program's arguments ask for.
+ghost use Prim.Native.Nat.{_≤_};
+ghost use Rattle.contact_box.specs.Arguments.{Allowed};
+use crate::report;
+use digits::Number;
+
+const REVISION: u8 = 1;
+
+const LAST_WRITE_WINS: u8 = 2;
+
+// What is wrong: that the arguments are not three, or one of them.
+pub(crate) enum Fault {
+    Count,
+    Rows,
+    Vbucket,
+    Mode,
+}
+
+pub(crate) enum Asked {
+    Table { rows: usize, vbucket: u16, mode: u8 },
+    Wrong(Fault),
+}
+
+// The number that an argument spells.
+fn number_at(i: usize) -> Number {
+    let mut word = [0u8; 32];
+    let n = os::arg(i, &mut word);
+    digits::parse(&word[..n])
+}
+
+// The mode that an argument names, or 0.
+fn mode_at(i: usize) -> u8
+    ensures { λ r. ⌜ r ≤ 2 ⌝ }
+{
+    let mut word = [0u8; 32];
+    let n = os::arg(i, &mut word);
+    if octets::same(&word[..n], b"revision") {
+        return REVISION;
+    }
+    if octets::same(&word[..n], b"last-write-wins") {
+        return LAST_WRITE_WINS;
+    }
+    0
+}
+
+fn asked_of(rows: Number, vbucket: Number, mode: u8) -> Asked
+    requires { ⌜ mode ≤ 2 ⌝ }
+    ensures { λ r. ⌜ Allowed r ⌝ }
+{
+    let Number::Value(r) = rows else {
+        return Asked::Wrong(Fault::Rows);
+    };
+    if r < 1 {
+        return Asked::Wrong(Fault::Rows);
+    }
+    if 256 < r {
+        return Asked::Wrong(Fault::Rows);
+    }
+    let Number::Value(v) = vbucket else {
+        return Asked::Wrong(Fault::Vbucket);
+    };
+    if 65535 < v {
+        return Asked::Wrong(Fault::Vbucket);
+    }
+    if mode < 1 {
+        return Asked::Wrong(Fault::Mode);
+    }
+    Asked::Table {
+        rows: r as usize,
+        vbucket: v as u16,
+        mode,
+    }
+}
+
+pub(crate) fn read() -> Asked
+    ensures { λ r. ⌜ Allowed r ⌝ }
+{
+    if os::arg_count() != 4 {
+        return Asked::Wrong(Fault::Count);
+    }
+    asked_of(number_at(1), number_at(2), mode_at(3))
+}
+
+pub(crate) fn complain(f: Fault) {
+    match f {
+        Fault::Count => report::wrong(b"three arguments are wanted"),
+        Fault::Rows => report::wrong(b"ROWS is 1 to 256"),
+        Fault::Vbucket => report::wrong(b"VBUCKET is 0 to 65535"),
+        Fault::Mode => report::wrong(b"MODE is revision or last-write-wins"),
+    }
+}

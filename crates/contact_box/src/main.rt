@@ -1,0 +1,69 @@
+// The box: serves the frames that come on standard input on a fresh, active table, by the system's clock, and writes the replies to
+// standard output.
+//
+//     contact_box ROWS VBUCKET MODE
+//
+//     ROWS        1 to 256
+//     VBUCKET     0 to 65535
+//     MODE        revision or last-write-wins
+//
+// It ends where the input ends, at a frame with outcome 2 or 3, which have the caller close, and where reading or writing fails. Then it
+// says its tally on standard error. Arguments that it can't serve by get a line there and nothing else. The exit status is 0 in every
+// case, since a Rattle program has no other.
+mod arguments;
+mod clock;
+mod report;
+mod session;
+
+ghost use mathlib.Core.Path.{_≡_};
+ghost use lib.ListN.{length};
+ghost use Rattle.table.specs.Table.{tableBytes, fresh};
+ghost use Rattle.owner.specs.Owner.{sizeOf};
+ghost use Rattle.contact_box.specs.Arguments.{Makes};
+use arguments::Asked;
+
+const ACTIVE: u8 = 1;
+
+// Room for a table of 256 rows. The contract gives only the length, which lending a part needs.
+fn memory() -> [u8; 335888]
+    ensures { λ r. ⌜ 335888 ≡ length r ⌝ }
+{
+    [0; 335888]
+}
+
+// Room for received bytes, or for replies.
+fn area() -> [u8; 16384]
+    ensures { λ r. ⌜ 16384 ≡ length r ⌝ }
+{
+    [0; 16384]
+}
+
+fn make_table(table: &mut [u8], rows: usize, vbucket: u16, mode: u8)
+    requires { ⌜ (length (now table) ≡ sizeOf rows) × Makes rows mode ⌝ }
+    ensures { λ _. ⌜ now (table .exit) ≡ tableBytes (fresh rows 1 mode vbucket) ⌝ }
+{
+    owner::make(table, rows, ACTIVE, mode, vbucket);
+}
+
+fn serve(rows: usize, vbucket: u16, mode: u8)
+    requires { ⌜ Makes rows mode ⌝ }
+{
+    let mut memory = memory();
+    let mut received = area();
+    let mut replies = area();
+    let size = owner::size(rows);
+    let table = &mut memory[..size];
+    make_table(table, rows, vbucket, mode);
+    report::tally(session::serve_input(table, &mut received, &mut replies));
+}
+
+fn main() {
+    match arguments::read() {
+        Asked::Table {
+            rows,
+            vbucket,
+            mode,
+        } => serve(rows, vbucket, mode),
+        Asked::Wrong(why) => arguments::complain(why),
+    }
+}

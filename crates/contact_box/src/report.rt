@@ -1,0 +1,42 @@
+// What is said on standard error: lines, each written at once, since the boxes of several connections may share it.
+ghost use Prim.Native.Nat.{_+_, _≤_};
+ghost use lib.ListN.{length};
+use libc::STDERR_FILENO;
+use tally::Tally;
+
+// Puts a count after its name, and answers where it ends.
+fn put_count(line: &mut [u8], at: usize, name: &[u8], n: u64) -> usize
+    requires { ⌜ at + length (now name) ≤ length (now line) ⌝ }
+    ensures { λ r. ⌜ r ≤ at + length (now (name .entry)) + 20 ⌝ }
+{
+    let mut spelled = [0u8; 20];
+    let k = digits::put_number(&mut spelled, n);
+    let start = at + name.len();
+    octets::put_bytes(line, at, name);
+    octets::put_bytes(line, start, octets::part(&spelled, 0, k));
+    start + k
+}
+
+pub(crate) fn tally(t: Tally) {
+    let mut line = [0u8; 100];
+    let served = put_count(&mut line, 0, b"contact_box: served ", t.served);
+    let refused = put_count(&mut line, served, b", refused ", t.refused);
+    let silent = put_count(&mut line, refused, b", silent ", t.silent);
+    octets::put_bytes(&mut line, silent, b"\n");
+    io::write_all(STDERR_FILENO, octets::part(&line, 0, silent + 1));
+}
+
+// What is wrong with the arguments.
+pub(crate) fn wrong(what: &[u8])
+    requires { ⌜ length (now what) ≤ 40 ⌝ }
+{
+    let usage = b"; usage: contact_box ROWS VBUCKET MODE\n";
+    let mut line = [0u8; 100];
+    octets::put_bytes(&mut line, 0, b"contact_box: ");
+    octets::put_bytes(&mut line, 13, what);
+    octets::put_bytes(&mut line, 13 + what.len(), usage);
+    io::write_all(
+        STDERR_FILENO,
+        octets::part(&line, 0, 13 + what.len() + usage.len()),
+    );
+}
