@@ -1,6 +1,6 @@
 //! Asks both sides the same and compares what they answer.
 
-use std::collections::{BTreeMap, HashMap};
+use std::collections::BTreeMap;
 use std::io;
 
 use crate::differences::{Field, Seen, Side, DIFFERENCES};
@@ -15,7 +15,7 @@ pub struct Found {
     pub requests: usize,
     /// Requests with the same status on both sides, that of silence included.
     pub same_status: usize,
-    /// Requests with the same answer in every field.
+    /// Requests with the same replies in every field.
     pub alike: usize,
     /// How often each listed difference showed.
     pub differences: BTreeMap<&'static str, usize>,
@@ -108,39 +108,39 @@ impl Bench {
     /// requests for such a key after that aren't compared.
     fn compare(&mut self, asked: &[Asked], theirs: &Answer) -> Vec<Vec<u8>> {
         let mut parted = vec![];
-        let mut replies = by_opaque(&theirs.replies);
-        let taken: usize = asked.iter().map(|one| one.answer.taken).sum();
-        for (i, one) in asked.iter().enumerate() {
-            let their_replies = replies.remove(&one.opaque).unwrap_or_default();
+        for one in asked {
             if parted.contains(&one.request.key) {
                 continue;
             }
-            let mut fields = self.fields(one, &their_replies);
+            let fields = self.fields(one, theirs);
+            self.found.requests += 1;
+            self.found.same_status += usize::from(!fields.contains(&Field::Status));
+            self.found.alike += usize::from(fields.is_empty());
+            self.explain(one, theirs, &fields);
             if fields.contains(&Field::Status) && !one.request.key.is_empty() {
                 parted.push(one.request.key.clone());
             }
-            if i + 1 == asked.len() {
-                fields.extend(ends(&one.answer, taken, theirs));
-            }
-            self.record(one, &their_replies, &fields);
         }
-        if let Some(opaque) = replies.keys().next() {
-            self.found.unexplained.push(format!("memcached replies opaque {opaque}, which nobody sent"));
+        if let Some(last) = asked.last() {
+            self.explain(last, theirs, &ends(asked, last, theirs));
+        }
+        if let Some(stray) = theirs.replies.iter().find(|reply| asked.iter().all(|one| one.opaque != reply.opaque)) {
+            self.found.unexplained.push(format!("memcached replies to what nobody sent: {stray:02x?}"));
         }
         parted
     }
 
     /// The fields in which two answers differ.
-    fn fields(&mut self, one: &Asked, theirs: &[Reply]) -> Vec<Field> {
-        let ours = &one.answer.replies;
-        if status(one.request, ours) != status(one.request, theirs) {
+    fn fields(&mut self, one: &Asked, theirs: &Answer) -> Vec<Field> {
+        if status(one, &one.answer) != status(one, theirs) {
             return vec![Field::Status];
         }
+        let (ours, theirs) = (&one.answer.replies, replies_to(one, theirs));
         if ours.len() != theirs.len() {
             return vec![Field::Replies];
         }
         let mut fields = vec![];
-        for (o, t) in ours.iter().zip(theirs) {
+        for (o, t) in ours.iter().zip(&theirs) {
             let same = [
                 (Field::Head, (o.magic, o.opcode, o.datatype, o.opaque) == (t.magic, t.opcode, t.datatype, t.opaque)),
                 (Field::Extras, o.extras == t.extras),
@@ -153,36 +153,36 @@ impl Bench {
         fields
     }
 
-    /// Counts a request, and holds each field that differs to the list.
-    fn record(&mut self, one: &Asked, theirs: &[Reply], fields: &[Field]) {
-        self.found.requests += 1;
-        self.found.same_status += usize::from(!fields.contains(&Field::Status));
-        self.found.alike += usize::from(fields.is_empty());
-        let ours = &one.answer.replies;
+    /// Holds each field that differs to the list.
+    fn explain(&mut self, one: &Asked, theirs: &Answer, fields: &[Field]) {
+        let replies = replies_to(one, theirs);
         for &field in fields {
             let seen = Seen {
                 field,
                 request: one.request,
                 cas: one.cas,
                 before: &one.before,
-                ours: Side { status: status(one.request, ours), reply: ours.first() },
-                theirs: Side { status: status(one.request, theirs), reply: theirs.first() },
+                ours: Side { status: status(one, &one.answer), reply: one.answer.replies.first() },
+                theirs: Side { status: status(one, theirs), reply: replies.first() },
             };
             match DIFFERENCES.iter().find(|difference| (difference.explains)(&seen)) {
                 Some(listed) => *self.found.differences.entry(listed.name).or_default() += 1,
-                None => self.found.unexplained.push(told(one, theirs, field)),
+                None => self.found.unexplained.push(told(one, &replies, field)),
             }
         }
     }
 }
 
-/// The fields of the end of an exchange that differ.
-fn ends(ours: &Answer, taken: usize, theirs: &Answer) -> Vec<Field> {
-    match (ours.open, theirs.open) {
-        (true, true) if taken != theirs.taken => vec![Field::Taken],
-        (ours, theirs) if ours != theirs => vec![Field::Open],
-        _ => vec![],
+/// What differs at the end of an exchange.
+fn ends(asked: &[Asked], last: &Asked, theirs: &Answer) -> Vec<Field> {
+    if last.answer.open != theirs.open {
+        return vec![Field::Open];
     }
+    let taken: usize = asked.iter().map(|one| one.answer.taken).sum();
+    if theirs.open && taken != theirs.taken {
+        return vec![Field::Taken];
+    }
+    vec![]
 }
 
 /// How many bytes memcached takes too many of a request that it doesn't know: extras and key, once more.
@@ -193,17 +193,14 @@ fn read_twice(request: &Request) -> usize {
     }
 }
 
-fn by_opaque(replies: &[Reply]) -> HashMap<u32, Vec<Reply>> {
-    let mut sorted: HashMap<u32, Vec<Reply>> = HashMap::new();
-    for reply in replies {
-        sorted.entry(reply.opaque).or_default().push(reply.clone());
-    }
-    sorted
+fn replies_to(one: &Asked, answer: &Answer) -> Vec<Reply> {
+    answer.replies.iter().filter(|reply| reply.opaque == one.opaque).cloned().collect()
 }
 
-/// The status of the first reply, or that of silence.
-fn status(request: &Request, replies: &[Reply]) -> Option<u16> {
-    replies.first().map(|reply| reply.status).or(request.silence())
+/// The status of the first reply, or that of silence on a connection that stays open.
+fn status(one: &Asked, answer: &Answer) -> Option<u16> {
+    let silence = one.request.silence().filter(|_| answer.open);
+    replies_to(one, answer).first().map(|reply| reply.status).or(silence)
 }
 
 fn told(one: &Asked, theirs: &[Reply], field: Field) -> String {

@@ -47,9 +47,11 @@ fn compare() -> io::Result<Found> {
         run(&mut bench, &case)?;
         run(&mut bench, &case.quiet())?;
     }
-    println!("{}: scripted, {} requests", server::version()?, bench.found.requests);
+    let scripted = bench.found.requests;
     bench.renew(&table(8, State::Active))?;
     random(&mut bench)?;
+    let random = bench.found.requests - scripted;
+    println!("{}: {scripted} scripted and {random} random requests", server::version()?);
     Ok(bench.found)
 }
 
@@ -79,7 +81,10 @@ fn random(bench: &mut Bench) -> io::Result<()> {
 }
 
 fn report(found: &Found) -> ExitCode {
-    println!("{} requests, {} with the same status, {} alike in all", found.requests, found.same_status, found.alike);
+    println!(
+        "{} requests, {} with the same status, {} with replies alike",
+        found.requests, found.same_status, found.alike
+    );
     let mut good = found.unexplained.is_empty();
     for difference in &DIFFERENCES {
         let shown = found.differences.get(difference.name).copied().unwrap_or(0);

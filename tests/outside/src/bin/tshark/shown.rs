@@ -59,7 +59,7 @@ fn field(line: &str, start: usize) -> Option<Shown> {
         return Some(Shown { name: name.to_string(), at: 0, size: 0, said: Said::Text(text) });
     }
     let name = name.strip_prefix("couchbase.")?;
-    let at = place(line)? - start;
+    let at = place(line)?.checked_sub(start)?;
     let size = attribute(line, "size")?.parse().ok()?;
     let said = number(attribute(line, "show")?).map(Said::Number).filter(|_| !is_text(name));
     let said = said.unwrap_or_else(|| Said::Bytes(bytes(attribute(line, "value").unwrap_or_default())));
