@@ -1,4 +1,4 @@
--- How an entry of the constant table spells a shape, and the law that turns a computed test of the whole table into its rule at each entry.
+-- How the kinds of the constant table spell a shape, and the law that turns a computed test of the whole table into its rule at each entry.
 use Prim.Native.Nat.{ℕ, zero, suc, _+_, _/_, _%_, _<_}
 use mathlib.Core.Path.{_≡_, sym, ap, _∙_}
 use mathlib.Core.List.{List, [], _∷_, map}
@@ -8,7 +8,7 @@ use lib.Dec.{eqb}
 use Rattle.shape.specs.declared.Shape.{Shape}
 use Rattle.shape.specs.Shapes.{shapeOf}
 
--- an entry's hexadecimal digits: status 2, extras 2, key, value, meta, quiet
+-- a kind's hexadecimal digits: status 2, extras 2, key, value, meta, quiet
 abbrev pub spelled : ℕ → Shape
 spelled n = record {
   status = n / 0x1000000 % 256;
@@ -30,7 +30,7 @@ getD-build f d zero i k h = absurd (not-suc-le-zero h)
 getD-build f d (suc n) i zero h = ap f (sym (add-zero i))
 getD-build f d (suc n) i (suc k) h = getD-build f d n (suc i) k (le-of-suc-le-suc h) ∙ ap f (suc-add i k ∙ sym (add-suc i k))
 
--- a table that spells every opcode's shape spells it at each entry
-pub at-each : (table : List ℕ) (n : ℕ) → map spelled table ≡ build shapeOf 0 n → (op : ℕ) → op < n → spelled (getD table op 0) ≡ shapeOf op
-at-each table n e op h =
-    sym (List·getD-map spelled table op 0) ∙ ap (λ (l : List Shape). getD l op (spelled 0)) e ∙ getD-build shapeOf (spelled 0) n 0 op h ∙ ap shapeOf (zero-add op)
+-- a table whose every entry stands for its opcode's shape does so at each
+pub at-each : (entry : ℕ → Shape) (table : List ℕ) (n : ℕ) → map entry table ≡ build shapeOf 0 n → (op : ℕ) → op < n → entry (getD table op 0) ≡ shapeOf op
+at-each entry table n e op h =
+    sym (List·getD-map entry table op 0) ∙ ap (λ (l : List Shape). getD l op (entry 0)) e ∙ getD-build shapeOf (entry 0) n 0 op h ∙ ap shapeOf (zero-add op)

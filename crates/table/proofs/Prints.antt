@@ -6,7 +6,7 @@ use mathlib.Core.List.{List, [], _∷_, map}
 use mathlib.Core.Option.{none, some}
 use native.Mathlib.Omega.{arith}
 use lib.Dec.{eqb}
-use lib.ListN.{length, drop, set}
+use lib.ListN.{length, take, drop, set}
 use borrow.Author.Tests.{eq-eqb}
 use Rattle.octets.specs.Parts.{part}
 use Rattle.octets.specs.BigEndian.{num}
@@ -56,6 +56,16 @@ distinct-unprinted s at later u e =
     let k = part r 32 (num r 2 2) in
     let m = not-among k 0 (rowsOf later (drop (at + 1312) s)) (ap (λ (p : ℕ). among p (map rowPrint (rowsOf later (drop (at + 1312) s)))) (sym (print-used r u)) ∙ e) in
     sym (ap (λ (t : Bool). t && distinct (rowsOf later (drop (at + 1312) s))) m) ∙ distinct-used s at later u
+
+-- one row alone has no other's key
+alone : (w : Row) → distinct (w ∷ []) ≡ true
+alone none = refl
+alone (some x) = refl
+
+pub few-distinct : (n : ℕ) (b : List ℕ) → n < 2 → distinct (rowsOf n b) ≡ true
+few-distinct zero b h = refl
+few-distinct (suc zero) b h = alone (rowOf (take 1312 b))
+few-distinct (suc (suc n)) b h = absurd (let z : ⊥ = omega arith in z)
 
 -- ---- one more row seen
 drop-set : (xs : List ℕ) (i v : ℕ) → i < length xs → drop i (set xs i v) ≡ v ∷ drop (suc i) xs

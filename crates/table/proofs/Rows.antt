@@ -40,13 +40,6 @@ module _ (s : List ℕ) (at n : ℕ) (h : 0 < n) where
   pub free-row : (i : ℕ) → freeIn i (rowsOf n (drop at s)) ≡ cond (isFree (rowOf (part s at 1312))) (At i) (freeIn (i + 1) (rowsOf (n - 1) (drop (at + 1312) s)))
   free-row i = ap (λ (l : List (List ℕ)). freeIn i (map rowOf l)) one-row
 
--- the two bytes of a number that is 0
-zeros-two : (r : List ℕ) → num r 0 2 ≡ 0 → zeros r ≡ zeros (drop 2 r)
-unfolding be beFrom zeros
-zeros-two [] e = refl
-zeros-two (x ∷ []) e = let z : x ≡ 0 = omega arith in rw z
-zeros-two (x ∷ y ∷ r) e = let z : x ≡ 0 = omega arith in let w : y ≡ 0 = omega arith in rw (z, w)
-
 -- a row is free where its kind is 0
 module _ (r : List ℕ) where
   pub row-free : num r 0 2 ≡ 0 → rowOf r ≡ none
@@ -70,10 +63,9 @@ module _ (r : List ℕ) where
       (λ t. rw (row-free (eqb-true (num r 0 2) 0 t), t))
       (λ f. rw (row-used (eqb-false (num r 0 2) 0 f), f))
 
-  -- the zero check of a free row passes over its kind, which was looked at before
-  pub sound-free : (mark : ℕ) → num r 0 2 ≡ 0 → rowSound mark r ≡ zeros (drop 2 r)
+  pub sound-free : (mark : ℕ) → num r 0 2 ≡ 0 → rowSound mark r ≡ zeros r
   unfolding rowSound slotOf
-  sound-free mark e = rw e (zeros-two r e)
+  sound-free mark e = rw e
 
   pub sound-used : (mark : ℕ) → (num r 0 2 ≡ 0 → ⊥) → rowSound mark r ≡ (usedOk mark (slotOf r) && zeros (drop (32 + (num r 2 2 + num r 4 4)) r))
   unfolding rowSound slotOf

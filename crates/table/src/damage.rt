@@ -30,7 +30,7 @@ fn row_sound(r: &[u8], mark: u64) -> bool
     ensures { λ b. ⌜ b ≡ rowSound mark (now (r .entry)) ⌝ }
 {
     if octets::be16(r, 0) == 0 {
-        return octets::all_zero(octets::rest(r, 2));
+        return octets::all_zero(r);
     }
     let s = crate::row::slot(r);
     let used = s.keylen as usize + s.vallen as usize;
@@ -95,6 +95,9 @@ fn rows_distinct(s: &[u8], n: usize) -> bool
     requires { ⌜ (16 + n * 1312 ≤ length (now s)) × (n ≤ 256) ⌝ }
     ensures { λ r. ⌜ r ≡ distinct (rowsOf n (drop 16 (now (s .entry)))) ⌝ }
 {
+    if n < 2 {
+        return true;
+    }
     let mut prints = [0u32; 256];
     let mut at: usize = 16 + n * 1312;
     let mut later: usize = 0;

@@ -14,14 +14,11 @@ use Rattle.table.proofs.damage.row_sound.Tie as tie
 be16-requires : tie.Need-be16-requires
 be16-requires c κs = search needs
 
-rest-requires : tie.Need-rest-requires
-rest-requires c κs = search needs
-
 all-zero-requires : tie.Need-all-zero-requires
 all-zero-requires c κs = search needs
 
 returns : tie.Need-returns
-returns c = c .all-zero .ensures ∙ ap zeros (c .before .rest .ensures) ∙ sym (sound-free (c .before .before .before .before .before .args .r .now) (c .before .before .before .before .before .args .mark) (sym (c .before .before .before .be16 .ensures) ∙ c .before .before .if1 .taken))
+returns c = let a = c .before .before .before .before .args in c .all-zero .ensures ∙ sym (sound-free (a .r .now) (a .mark) (sym (c .before .before .be16 .ensures) ∙ c .before .if1 .taken))
 
 slot-requires : tie.Need-slot-requires
 slot-requires c κs = search needs
@@ -41,8 +38,8 @@ used-ok-requires c κs = search needs
 add-rest : tie.Need-add-rest
 add-rest c = search needs
 
-rest-requires-2 : tie.Need-rest-requires-2
-rest-requires-2 c κs = search needs
+rest-requires : tie.Need-rest-requires
+rest-requires c κs = search needs
 
 all-zero-requires-2 : tie.Need-all-zero-requires-2
 all-zero-requires-2 c κs = search needs
@@ -52,7 +49,7 @@ unfolding slotOf
 returns-2 c =
     let r = c .before .before .before .before .before .before .before .before .before .args .r .now in
     let mark = c .before .before .before .before .before .before .before .before .before .args .mark in
-    (λ i. c .before .before .used-ok .ensures i && (c .all-zero2 .ensures ∙ ap zeros (c .before .rest2 .ensures)) i)
+    (λ i. c .before .before .used-ok .ensures i && (c .all-zero2 .ensures ∙ ap zeros (c .before .rest .ensures)) i)
     ∙ ap (λ (h : Slot). usedOk mark h && zeros (drop (32 + (h .keylen + h .vallen)) r)) (c .before .before .before .before .before .slot .ensures)
     ∙ sym (sound-used r mark (λ z. c .before .before .before .before .before .before .if1 .left (c .before .before .before .before .before .before .before .be16 .ensures ∙ z)))
 
@@ -61,7 +58,6 @@ row-sound-spec =
     tie.close
     (tie.spec
     be16-requires
-    rest-requires
     all-zero-requires
     returns
     slot-requires
@@ -70,6 +66,6 @@ row-sound-spec =
     add-used
     used-ok-requires
     add-rest
-    rest-requires-2
+    rest-requires
     all-zero-requires-2
     returns-2)

@@ -8,7 +8,7 @@ use Rattle.table.specs.Row.{rowOf}
 use Rattle.table.specs.Damage.{distinct}
 use Rattle.table.specs.Table.{rowsOf}
 use Rattle.table.specs.Print.{rowPrint}
-use Rattle.table.proofs.Prints.{prints-next, apart-next}
+use Rattle.table.proofs.Prints.{few-distinct, prints-next, apart-next}
 use borrow.Author.Needs.{needs}
 use Rattle.table.proofs.damage.rows_distinct.Statement.{statement}
 use Rattle.table.proofs.damage.rows_distinct.Tie as tie
@@ -20,6 +20,9 @@ Inv-loop s n prints₀ at₀ later₀ apart₀ prints at later apart =
 
 abbrev μ-loop : tie.MeasureT-loop
 μ-loop s n prints₀ at₀ later₀ apart₀ prints at later apart = n - later
+
+returns : tie.Need-returns Inv-loop μ-loop
+returns c = let a = c .before .before .args in sym (few-distinct (a .n) (drop 16 (a .s .now)) (omega arith))
 
 mul-at : tie.Need-mul-at Inv-loop μ-loop
 mul-at c = search needs
@@ -58,9 +61,9 @@ first-distinct-requires : tie.Need-first-distinct-requires Inv-loop μ-loop
 first-distinct-requires c κs =
     let q = c .before .before .before .before .before in
     let l = q .loop in
-    let s = q .before .before .args .s .now in
+    let s = q .before .before .before .args .s .now in
     let inv = l .inv in
-    let there = q .before .before .pre in
+    let there = q .before .before .before .pre in
     let a : l .at - 1312 + 1312 ≡ l .at = omega (arith, inv .0 .1) in (
       omega (arith, inv .0 .1, there .0),
       (
@@ -89,9 +92,9 @@ loop-again : tie.Need-loop-again Inv-loop μ-loop
 loop-again c =
     let q = c .before .before .before .before .before .before in
     let l = q .loop in
-    let s = q .before .before .args .s .now in
+    let s = q .before .before .before .args .s .now in
     let inv = l .inv in
-    let there = q .before .before .pre in
+    let there = q .before .before .before .pre in
     let low : 1312 ≤ l .at = omega (arith, inv .0 .1) in
     let few : l .later < 256 = omega (arith, there .1) in
     let p = c .before .before .before .row-print .ensures ∙ ap (λ (r : List ℕ). rowPrint (rowOf r)) (c .before .before .before .before .part .ensures) in (
@@ -105,11 +108,11 @@ loop-again c =
       ),
     )
 
-returns : tie.Need-returns Inv-loop μ-loop
-returns c =
+returns-2 : tie.Need-returns-2 Inv-loop μ-loop
+returns-2 c =
     let l = c .before .loop in
-    let s = c .before .before .before .args .s .now in
-    let n = c .before .before .before .args .n in
+    let s = c .before .before .before .before .args .s .now in
+    let n = c .before .before .before .before .args .n in
     let inv = l .inv in
     let e : l .later ≡ n = omega (arith, inv .0 .0) in
     let a : l .at ≡ 16 = omega (arith, inv .0 .1) in
@@ -121,6 +124,7 @@ rows-distinct-spec =
     (tie.spec
     Inv-loop
     μ-loop
+    returns
     mul-at
     add-at
     loop-holds
@@ -139,4 +143,4 @@ rows-distinct-spec =
     array-write-prints
     loop-less
     loop-again
-    returns)
+    returns-2)
