@@ -1,0 +1,227 @@
+//! Tables and calls at random, biased to the limits of document 01.
+
+pub mod faults;
+mod parts;
+mod requests;
+pub mod tables;
+
+use crate::answers::Tally;
+use crate::frame::Frame;
+use crate::random::Random;
+use crate::rendering::numbers::Mode;
+use crate::rendering::request::{HEADER as FRAME_HEADER, MAX_BODY};
+use crate::rendering::serving::ROOM;
+use crate::rendering::table::{Row, Table, HEADER, ROW};
+use crate::session::Call;
+use faults::Fault;
+use std::collections::BTreeMap;
+use tables::Damage;
+
+/// The opcodes that are built.
+pub const BUILT: [u8; 24] = [
+    0x00, 0x01, 0x02, 0x03, 0x04, 0x05, 0x06, 0x09, 0x0a, 0x0b, 0x0c, 0x0d, 0x11, 0x12, 0x13, 0x14, 0x15, 0x16, 0xa2,
+    0xa3, 0xa4, 0xa5, 0xa8, 0xa9,
+];
+
+/// What of a table shapes the next call: its rows, and a stand-in for the header of a damaged one.
+struct Sight<'t> {
+    mode: Mode,
+    vbucket: u16,
+    mark: u64,
+    rows: Vec<Row<'t>>,
+}
+
+impl<'t> Sight<'t> {
+    fn of(memory: &'t [u8]) -> Sight<'t> {
+        match Table::read(memory) {
+            Ok(Table { head, rows }) => Sight {
+                mode: head.mode,
+                vbucket: head.vbucket,
+                mark: head.mark.0,
+                rows: rows.into_iter().flatten().collect(),
+            },
+            Err(_) => Sight { mode: Mode::LastWriteWins, vbucket: 0, mark: 0, rows: Vec::new() },
+        }
+    }
+
+    fn row(&self, key: &[u8]) -> Option<&Row<'t>> {
+        self.rows.iter().find(|row| row.key == key)
+    }
+}
+
+/// Deals sessions: a start, then calls that fit the table as it is by then.
+pub struct Generator {
+    random: Random,
+    /// The session's keys and clock.
+    keys: Vec<Vec<u8>>,
+    clock: u32,
+    /// How often each opcode met each fault, and each damage was dealt.
+    pub faults: BTreeMap<(u8, Fault), u64>,
+    pub damages: BTreeMap<Damage, u64>,
+}
+
+/// Where a session starts, and how many calls it has.
+pub struct Start {
+    pub table: Vec<u8>,
+    pub tally: Tally,
+    pub calls: usize,
+}
+
+impl Generator {
+    pub fn new(seed: u64) -> Generator {
+        Generator {
+            random: Random::new(seed),
+            keys: Vec::new(),
+            clock: 0,
+            faults: BTreeMap::new(),
+            damages: BTreeMap::new(),
+        }
+    }
+
+    pub fn start(&mut self) -> Start {
+        let rows = self.row_count();
+        self.clock = self.session_clock();
+        self.keys = self.session_keys(rows);
+        let mut table = self.table(rows);
+        let mut calls = if rows > 16 { 8 } else { self.random.between(10, 60) };
+        if self.random.percent(12) {
+            self.damage(&mut table);
+            calls = 5;
+        }
+        Start { table, tally: self.tally(), calls }
+    }
+
+    fn tally(&mut self) -> Tally {
+        let random = &mut self.random;
+        let mut count = || match random.below(4) {
+            0 => u64::MAX - random.below(4) as u64,
+            1 => random.u64(),
+            _ => 0,
+        };
+        Tally { served: count(), refused: count(), silent: count() }
+    }
+
+    /// The next call on a table.
+    pub fn call(&mut self, table: &[u8]) -> Call {
+        let sight = Sight::of(table);
+        match self.random.below(100) {
+            0..=69 => self.serve(&sight),
+            70..=77 => self.run(&sight),
+            78..=82 => Call::Read { clock: self.clock_near(&sight), key: self.any_key(&sight) },
+            83..=86 => Call::Purge { clock: self.clock_near(&sight), bound: self.bound(&sight) },
+            87..=91 => Call::ReadRequest { received: self.received(&sight).1 },
+            92..=96 => self.write_request(&sight),
+            97 => Call::Sound,
+            98 => self.make(table),
+            _ => Call::Size { rows: self.rows_near(0) },
+        }
+    }
+
+    fn serve(&mut self, sight: &Sight) -> Call {
+        let (clock, received) = self.received(sight);
+        let room = match self.random.below(40) {
+            0 => 0,
+            1 => ROOM - 1,
+            2 => ROOM + 1,
+            3 => self.random.below(4 * ROOM),
+            _ => ROOM,
+        };
+        Call::Serve { clock, room, received }
+    }
+
+    /// Frames one after another; some runs are cut, some hold a frame that is refused, some run out of room.
+    fn run(&mut self, sight: &Sight) -> Call {
+        let frames = self.random.between(0, 6);
+        let mut received: Vec<u8> = (0..frames).flat_map(|_| self.run_frame(sight)).collect();
+        if self.random.percent(30) {
+            received.truncate(self.random.below(received.len() + 1));
+        }
+        received.shrink_to_fit();
+        let replies = self.random.below(frames + 1) * *self.random.pick(&[24, 32, 33, 100, ROOM]);
+        let room = match self.random.below(3) {
+            0 => ROOM * (frames + 1),
+            1 => ROOM + replies,
+            _ => (ROOM + replies).saturating_sub(self.random.below(3)),
+        };
+        Call::Run { clock: self.clock_near(sight), room, received }
+    }
+
+    fn run_frame(&mut self, sight: &Sight) -> Vec<u8> {
+        if self.random.percent(6) {
+            self.received(sight).1
+        } else {
+            let clock = self.clock;
+            self.request(sight, clock).bytes()
+        }
+    }
+
+    /// A purge's bound, around the CAS numbers in the table.
+    fn bound(&mut self, sight: &Sight) -> u64 {
+        match self.random.below(6) {
+            0 => 0,
+            1 => u64::MAX,
+            2 => sight.mark,
+            _ if sight.rows.is_empty() => self.random.u64(),
+            _ => {
+                let cas = self.random.pick(&sight.rows).numbers.cas.0;
+                self.nudged(cas)
+            }
+        }
+    }
+
+    fn write_request(&mut self, sight: &Sight) -> Call {
+        let clock = self.clock_near(sight);
+        let mut frame = self.request(sight, clock);
+        if self.random.percent(50) {
+            frame = self.misshapen(frame);
+        }
+        if self.random.percent(10) {
+            self.stretch(&mut frame);
+        }
+        let length = FRAME_HEADER + frame.extras.len() + frame.key.len() + frame.value.len();
+        let room = match self.random.below(8) {
+            0 => 0,
+            1 | 2 => length - 1,
+            3 => length + 1,
+            4 => FRAME_HEADER + MAX_BODY,
+            5 => self.random.below(2 * length),
+            _ => length,
+        };
+        Call::WriteRequest { room, frame }
+    }
+
+    /// Gives a part a length that its header field can't hold, or can just hold.
+    fn stretch(&mut self, frame: &mut Frame) {
+        match self.random.below(3) {
+            0 => {
+                let length = *self.random.pick(&[255, 256, 264, 276, 280]);
+                frame.extras.resize(length, 0);
+            }
+            1 => {
+                let length = *self.random.pick(&[65_535, 65_536, 65_537, 65_541, 131_073]);
+                frame.key.resize(length, b'k');
+            }
+            _ => {
+                let length = *self.random.pick(&[65_536, 65_541, 100_000]);
+                frame.value.resize(length, b'v');
+            }
+        }
+    }
+
+    fn make(&mut self, table: &[u8]) -> Call {
+        let fitting = table.len().saturating_sub(HEADER) / ROW;
+        let state = if self.random.percent(80) { self.random.between(1, 4) as u8 } else { self.random.byte() };
+        let mode = if self.random.percent(80) { self.random.between(1, 2) as u8 } else { self.random.byte() % 4 };
+        Call::Make { rows: self.rows_near(fitting), state, mode, vbucket: self.vbucket() }
+    }
+
+    fn rows_near(&mut self, fitting: usize) -> usize {
+        match self.random.below(8) {
+            0 => *self.random.pick(&[0, 1, 255, 256, 257, usize::MAX, usize::MAX / ROW + 1, 1 << 32]),
+            1 => self.random.below(300),
+            2 => fitting.wrapping_add(1),
+            3 => fitting.wrapping_sub(1),
+            _ => fitting,
+        }
+    }
+}

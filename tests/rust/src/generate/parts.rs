@@ -1,0 +1,209 @@
+//! Clocks, expiries, numbers, keys and values.
+
+use super::{Generator, Sight};
+use crate::rendering::request::MAX_GIVEN;
+use crate::rendering::table::Kind;
+
+/// The largest relative expiry.
+const MONTH: u32 = 2_592_000;
+
+/// Texts that are counters, or nearly.
+const DIGITS: [&[u8]; 26] = [
+    b"0",
+    b"1",
+    b"3",
+    b"9",
+    b"10",
+    b"007",
+    b"99999",
+    b"18446744073709551614",
+    b"18446744073709551615",
+    b"18446744073709551616",
+    b"18446744073709551620",
+    b"28446744073709551615",
+    b"99999999999999999999",
+    b"00000000000000000000",
+    b"00000000000000000007",
+    b"000000000000000000000",
+    b"000000000000000000001",
+    b"184467440737095516150",
+    b"",
+    b" 1",
+    b"1 ",
+    b"-1",
+    b"+1",
+    b"1a",
+    b"/:",
+    b"1\0",
+];
+
+/// Keys that share prefixes and differ in the last byte or in length.
+const KEYS: [&[u8]; 12] = [
+    b"a",
+    b"b",
+    b"\0",
+    b"\xff",
+    b"aa",
+    b"ab",
+    b"ab\0",
+    b"contact-0001",
+    b"contact-0002",
+    b"contact-001",
+    b"contact-0001\0",
+    b"1",
+];
+
+impl Generator {
+    pub(super) fn session_clock(&mut self) -> u32 {
+        let late = u32::MAX;
+        let clocks = [1_000, 1_000_000, 1_700_000_000, 0, late, late - 5, late - MONTH, late - MONTH + 1];
+        *self.random.pick(&clocks)
+    }
+
+    /// The session's clock, or one around the expiries in the table, or one at a limit.
+    pub(super) fn clock_near(&mut self, sight: &Sight) -> u32 {
+        self.clock = self.clock.saturating_add(self.random.below(2) as u32);
+        match self.random.below(10) {
+            0..=4 => self.clock,
+            5..=7 if !sight.rows.is_empty() => {
+                let expiry = self.random.pick(&sight.rows).numbers.expiry;
+                expiry.wrapping_add(self.random.below(3) as u32).wrapping_sub(1)
+            }
+            8 => self.random.u32(),
+            _ => self.session_clock(),
+        }
+    }
+
+    pub(super) fn plain_expiry(&mut self, clock: u32) -> u32 {
+        let left = u32::MAX - clock;
+        match self.random.below(12) {
+            0 => *self.random.pick(&[1, 5, MONTH - 1, MONTH, MONTH + 1]),
+            1 => *self.random.pick(&[u32::MAX, u32::MAX - 1]),
+            2 => left,
+            3 => left.wrapping_add(1),
+            4 | 5 => clock.wrapping_add(self.random.below(3) as u32).wrapping_sub(1),
+            6 | 7 => self.random.between(1, 20) as u32,
+            8 => self.random.u32(),
+            _ => 0,
+        }
+    }
+
+    pub(super) fn absolute_expiry(&mut self, clock: u32) -> u32 {
+        match self.random.below(8) {
+            0 => u32::MAX,
+            1 => self.random.u32(),
+            2 => self.random.between(1, 20) as u32,
+            3 | 4 => clock.wrapping_add(self.random.below(3) as u32).wrapping_sub(1),
+            _ => 0,
+        }
+    }
+
+    pub(super) fn flags(&mut self) -> u32 {
+        match self.random.below(6) {
+            0 => u32::MAX,
+            1 => self.random.u32(),
+            2 => 0,
+            _ => self.random.between(6, 8) as u32,
+        }
+    }
+
+    /// A revision or CAS, near the mark or a limit.
+    pub(super) fn number_near(&mut self, mark: u64) -> u64 {
+        match self.random.below(12) {
+            0 => *self.random.pick(&[0, u64::MAX, u64::MAX - 1]),
+            1 => {
+                let limit = MAX_GIVEN;
+                self.nudged(limit)
+            }
+            2..=4 => self.nudged(mark),
+            5 => self.random.u64(),
+            6 => self.random.u64() >> 32,
+            _ => self.random.between(0, 30) as u64,
+        }
+    }
+
+    /// The number, or the one before or after it.
+    pub(super) fn nudged(&mut self, number: u64) -> u64 {
+        number.wrapping_add(self.random.below(3) as u64).wrapping_sub(1)
+    }
+
+    pub(super) fn vbucket(&mut self) -> u16 {
+        match self.random.below(4) {
+            0 => 0xffff,
+            1 => self.random.u32() as u16,
+            2 => 3,
+            _ => 0,
+        }
+    }
+
+    /// At least one key more than the rows can hold.
+    pub(super) fn session_keys(&mut self, rows: usize) -> Vec<Vec<u8>> {
+        if rows + 2 > KEYS.len() {
+            return (0..rows + 2).map(|number| format!("contact-{number:04}").into_bytes()).collect();
+        }
+        let mut keys: Vec<Vec<u8>> = KEYS.iter().map(|key| key.to_vec()).collect();
+        let longest = vec![b'x'; 250];
+        let mut other = longest.clone();
+        other[249] = b'y';
+        keys.extend([longest[..249].to_vec(), longest, other]);
+        self.random.shuffle(&mut keys);
+        keys.truncate(rows + self.random.between(1, 3));
+        keys
+    }
+
+    /// A key that a request may have, more often one with a row.
+    pub(super) fn key_near(&mut self, sight: &Sight) -> Vec<u8> {
+        match self.random.below(10) {
+            0..=4 if !sight.rows.is_empty() => self.random.pick(&sight.rows).key.to_vec(),
+            5 if self.random.percent(20) => {
+                let length = self.random.between(1, 250);
+                self.random.bytes(length)
+            }
+            _ => self.random.pick(&self.keys).clone(),
+        }
+    }
+
+    /// A key for the owner's read: any bytes at all.
+    pub(super) fn any_key(&mut self, sight: &Sight) -> Vec<u8> {
+        let mut key = self.key_near(sight);
+        match self.random.below(12) {
+            0 => key.clear(),
+            1 => key.resize(250, b'x'),
+            2 => key.resize(251, b'x'),
+            3 => key.truncate(key.len() - 1),
+            4 => key.push(0),
+            5 => key.resize(2_000, 0),
+            _ => {}
+        }
+        key
+    }
+
+    pub(super) fn value(&mut self) -> Vec<u8> {
+        match self.random.below(20) {
+            0..=10 => self.random.pick(&DIGITS).to_vec(),
+            11 => self.random.bytes(1_024),
+            12 => self.random.bytes(1_023),
+            13 => {
+                let length = self.random.between(0, 1_024);
+                self.random.bytes(length)
+            }
+            14 => Vec::new(),
+            _ => {
+                let length = self.random.between(1, 8);
+                self.random.bytes(length)
+            }
+        }
+    }
+
+    /// The CAS in a request's header: none, the document's, or another.
+    pub(super) fn header_cas(&mut self, sight: &Sight, key: &[u8]) -> u64 {
+        let stored = sight.row(key).filter(|row| row.kind == Kind::Document).map(|row| row.numbers.cas.0);
+        match (self.random.below(20), stored) {
+            (0..=11, _) => 0,
+            (12..=16, Some(cas)) => cas,
+            (17, Some(cas)) => self.nudged(cas),
+            (18, _) => self.random.u64(),
+            _ => sight.mark,
+        }
+    }
+}

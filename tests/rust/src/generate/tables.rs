@@ -1,0 +1,276 @@
+//! Tables made directly in memory: sound ones row by row, and damaged ones with one rule broken.
+
+use super::Generator;
+use crate::random::Random;
+use crate::rendering::bytes::{put, u16_at, u32_at, u64_at};
+use crate::rendering::numbers::{Cas, Numbers, Revision};
+use crate::rendering::table::{row_at, write_head, write_row, Kind, Row, HEADER, KEY_AT, ROW};
+
+/// One cause of damage.
+#[derive(Clone, Copy, Debug, PartialEq, Eq, PartialOrd, Ord)]
+pub enum Damage {
+    ByteShort,
+    ByteLong,
+    NoBytes,
+    HeaderOnly,
+    Rows257,
+    State,
+    Mode,
+    Kept,
+    Kind,
+    KindHighByte,
+    NoKey,
+    Key251,
+    KeyHighByte,
+    Value1025,
+    ValueHighByte,
+    TombstoneValue,
+    TombstoneFlags,
+    TombstoneExpiry,
+    CasZero,
+    CasAboveMark,
+    UnusedByte,
+    LastByte,
+    FreeRowByte,
+    OneKeyTwice,
+}
+
+impl Damage {
+    pub const ALL: [Damage; 24] = [
+        Damage::ByteShort,
+        Damage::ByteLong,
+        Damage::NoBytes,
+        Damage::HeaderOnly,
+        Damage::Rows257,
+        Damage::State,
+        Damage::Mode,
+        Damage::Kept,
+        Damage::Kind,
+        Damage::KindHighByte,
+        Damage::NoKey,
+        Damage::Key251,
+        Damage::KeyHighByte,
+        Damage::Value1025,
+        Damage::ValueHighByte,
+        Damage::TombstoneValue,
+        Damage::TombstoneFlags,
+        Damage::TombstoneExpiry,
+        Damage::CasZero,
+        Damage::CasAboveMark,
+        Damage::UnusedByte,
+        Damage::LastByte,
+        Damage::FreeRowByte,
+        Damage::OneKeyTwice,
+    ];
+}
+
+/// A row's fields by no rule but the layout, to break one rule at a time.
+#[derive(Clone, Default)]
+struct RawRow {
+    kind: u16,
+    key: Vec<u8>,
+    value: Vec<u8>,
+    /// Added to the lengths as the row says them.
+    key_length_excess: u16,
+    value_length_excess: u32,
+    flags: u32,
+    expiry: u32,
+    revision: u64,
+    cas: u64,
+}
+
+impl RawRow {
+    /// A sound row's fields.
+    fn read(row: &[u8]) -> RawRow {
+        let value_at = KEY_AT + usize::from(u16_at(row, 2));
+        RawRow {
+            kind: u16_at(row, 0),
+            key: row[KEY_AT..value_at].to_vec(),
+            value: row[value_at..value_at + u32_at(row, 4) as usize].to_vec(),
+            key_length_excess: 0,
+            value_length_excess: 0,
+            flags: u32_at(row, 8),
+            expiry: u32_at(row, 12),
+            revision: u64_at(row, 16),
+            cas: u64_at(row, 24),
+        }
+    }
+
+    fn write(&self, row: &mut [u8]) {
+        row.fill(0);
+        put(row, 0, &self.kind.to_be_bytes());
+        put(row, 2, &(self.key.len() as u16 + self.key_length_excess).to_be_bytes());
+        put(row, 4, &(self.value.len() as u32 + self.value_length_excess).to_be_bytes());
+        put(row, 8, &self.flags.to_be_bytes());
+        put(row, 12, &self.expiry.to_be_bytes());
+        put(row, 16, &self.revision.to_be_bytes());
+        put(row, 24, &self.cas.to_be_bytes());
+        put(row, KEY_AT, &self.key);
+        put(row, KEY_AT + self.key.len(), &self.value);
+    }
+}
+
+impl Generator {
+    pub(super) fn row_count(&mut self) -> usize {
+        match self.random.below(400) {
+            0 => 256,
+            1..=20 => self.random.between(5, 12),
+            _ => self.random.between(1, 4),
+        }
+    }
+
+    /// A sound table; some are fresh, some full.
+    pub(super) fn table(&mut self, rows: usize) -> Vec<u8> {
+        let mut memory = vec![0; HEADER + rows * ROW];
+        let state = if self.random.percent(80) { 1 } else { self.random.between(2, 4) as u8 };
+        let mode = self.random.between(1, 2) as u8;
+        let free = *self.random.pick(&[0, 0, 20, 50, 100]);
+        let mark = if free == 100 { 0 } else { self.mark() };
+        write_head(&mut memory, state, mode, self.vbucket(), Cas(mark));
+        for place in 0..rows {
+            if !self.random.percent(free) {
+                self.put_row(&mut memory, place, mark);
+            }
+        }
+        memory
+    }
+
+    fn mark(&mut self) -> u64 {
+        match self.number_near(40) {
+            0 => u64::MAX,
+            mark => mark,
+        }
+    }
+
+    fn put_row(&mut self, memory: &mut [u8], place: usize, mark: u64) {
+        let cas = match self.random.below(4) {
+            0 => mark,
+            1 => 1,
+            _ => 1 + self.random.u64() % mark,
+        };
+        let revision = self.number_near(mark);
+        let key = self.keys[place].clone();
+        let tombstone = self.random.percent(25);
+        let (kind, flags, expiry, value) = if tombstone {
+            (Kind::Tombstone, 0, 0, Vec::new())
+        } else {
+            (Kind::Document, self.flags(), self.absolute_expiry(self.clock), self.value())
+        };
+        let numbers = Numbers { flags, expiry, revision: Revision(revision), cas: Cas(cas) };
+        write_row(memory, place, &Row { kind, numbers, key: &key, value: &value });
+    }
+
+    /// Breaks one rule of a sound table, or several bytes of it.
+    pub(super) fn damage(&mut self, memory: &mut Vec<u8>) {
+        if self.random.percent(10) {
+            for _ in 0..self.random.between(1, 3) {
+                let at = self.random.below(memory.len());
+                memory[at] = self.random.byte();
+            }
+            return;
+        }
+        loop {
+            let damage = *self.random.pick(&Damage::ALL);
+            if damage.applied(memory, &mut self.random) {
+                *self.damages.entry(damage).or_default() += 1;
+                return;
+            }
+        }
+    }
+}
+
+impl Damage {
+    /// Breaks this rule of a sound table; false, with nothing changed, where the table has no place for it.
+    pub fn applied(self, memory: &mut Vec<u8>, random: &mut Random) -> bool {
+        match self {
+            Damage::ByteShort => memory.truncate(memory.len() - 1),
+            Damage::ByteLong => memory.push(0),
+            Damage::NoBytes => memory.clear(),
+            Damage::HeaderOnly => memory.truncate(HEADER),
+            Damage::Rows257 => memory.resize(HEADER + 257 * ROW, 0),
+            Damage::State => memory[0] = *random.pick(&[0, 5, 0x81, 0xff]),
+            Damage::Mode => memory[1] = *random.pick(&[0, 3, 0x81, 0xff]),
+            Damage::Kept => memory[4 + random.below(4)] = 1 << random.below(8),
+            Damage::FreeRowByte => return in_free_row(memory, random),
+            Damage::OneKeyTwice => return one_key_twice(memory, random),
+            _ => return self.in_used_row(memory, random),
+        }
+        true
+    }
+
+    fn in_used_row(self, memory: &mut [u8], random: &mut Random) -> bool {
+        let mark = u64_at(memory, 8);
+        let Some(row) = pick_row(memory, random, |kind| kind != 0) else {
+            return false;
+        };
+        let mut raw = RawRow::read(row);
+        if !self.in_fields(&mut raw, mark, random) {
+            return false;
+        }
+        raw.write(row);
+        let end = KEY_AT + raw.key.len() + raw.value.len();
+        match self {
+            Damage::UnusedByte => row[end] = 1,
+            Damage::LastByte => row[ROW - 1] = 0x80,
+            _ => {}
+        }
+        true
+    }
+
+    /// Breaks the rule in a row's fields; the two that break an unused byte leave them.
+    fn in_fields(self, raw: &mut RawRow, mark: u64, random: &mut Random) -> bool {
+        let tombstone = raw.kind == 2;
+        match self {
+            Damage::Kind => raw.kind = *random.pick(&[3, 4, 0xff]),
+            Damage::KindHighByte => raw.kind |= 0x0100,
+            Damage::NoKey => raw.key.clear(),
+            Damage::Key251 => raw.key.resize(251, b'x'),
+            Damage::KeyHighByte => raw.key_length_excess = 1 << random.between(8, 15),
+            Damage::Value1025 if !tombstone => raw.value.resize(1_025, b'v'),
+            Damage::ValueHighByte if !tombstone => raw.value_length_excess = 1 << random.between(11, 31),
+            Damage::TombstoneValue if tombstone => raw.value = b"v".to_vec(),
+            Damage::TombstoneFlags if tombstone => raw.flags = 1 << random.below(32),
+            Damage::TombstoneExpiry if tombstone => raw.expiry = 1 << random.below(32),
+            Damage::CasZero => raw.cas = 0,
+            Damage::CasAboveMark if mark < u64::MAX => raw.cas = mark + 1,
+            Damage::UnusedByte | Damage::LastByte => {}
+            _ => return false,
+        }
+        true
+    }
+}
+
+/// A row whose kind is wanted, if there is any.
+fn pick_row<'m>(memory: &'m mut [u8], random: &mut Random, wanted: fn(u16) -> bool) -> Option<&'m mut [u8]> {
+    let rows = (memory.len() - HEADER) / ROW;
+    let places: Vec<usize> = (0..rows).filter(|&place| wanted(u16_at(memory, row_at(place)))).collect();
+    let place = *places.get(random.below(places.len()))?;
+    Some(&mut memory[row_at(place)..][..ROW])
+}
+
+fn in_free_row(memory: &mut [u8], random: &mut Random) -> bool {
+    let Some(row) = pick_row(memory, random, |kind| kind == 0) else {
+        return false;
+    };
+    let anywhere = random.between(2, ROW - 1);
+    let at = *random.pick(&[2, 7, 8, 24, 31, 32, ROW - 1, anywhere]);
+    row[at] = 1 << random.below(8);
+    true
+}
+
+/// Copies one used row over another, with other numbers.
+fn one_key_twice(memory: &mut [u8], random: &mut Random) -> bool {
+    let rows = (memory.len() - HEADER) / ROW;
+    let Some(row) = pick_row(memory, random, |kind| kind != 0) else {
+        return false;
+    };
+    let mut raw = RawRow::read(row);
+    let place = random.below(rows);
+    let other = &mut memory[row_at(place)..][..ROW];
+    if u16_at(other, 0) != 0 && RawRow::read(other).key == raw.key {
+        return false;
+    }
+    raw.revision = random.u64();
+    raw.write(other);
+    true
+}

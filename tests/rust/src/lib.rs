@@ -1,0 +1,18 @@
+//! The proved contact store compared with an independent rendering of document 01.
+
+pub mod answers;
+pub mod comparison;
+pub mod coverage;
+pub mod frame;
+pub mod generate;
+mod library;
+pub mod merge;
+pub mod random;
+pub mod rendering;
+pub mod replay;
+pub mod session;
+pub mod settings;
+pub mod shrink;
+pub mod sweep;
+
+pub use library::Library;

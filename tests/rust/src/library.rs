@@ -1,0 +1,129 @@
+//! The proved library, `libcontacts.a`, behind the same calls.
+
+use crate::answers::{Document, Fields, Purged, Ran, Request, Served, Store, Tally, Written};
+
+/// The library as a store.
+#[derive(Clone, Copy, Debug)]
+pub struct Library;
+
+extern "C" {
+    fn contacts_size(rows: usize) -> usize;
+    fn contacts_make(table: *mut u8, table_len: usize, rows: usize, state: u8, mode: u8, vbucket: u16) -> u8;
+    fn contacts_sound(table: *const u8, table_len: usize) -> bool;
+    fn contacts_read(table: *const u8, table_len: usize, clock: u32, key: *const u8, key_len: usize) -> Document;
+    fn contacts_purge(table: *mut u8, table_len: usize, clock: u32, bound: u64) -> Purged;
+    fn contacts_serve(
+        table: *mut u8,
+        table_len: usize,
+        clock: u32,
+        received: *const u8,
+        received_len: usize,
+        reply: *mut u8,
+        reply_len: usize,
+        tally: *mut Tally,
+    ) -> Served;
+    fn contacts_serve_run(
+        table: *mut u8,
+        table_len: usize,
+        clock: u32,
+        received: *const u8,
+        received_len: usize,
+        reply: *mut u8,
+        reply_len: usize,
+        tally: *mut Tally,
+    ) -> Ran;
+    fn contacts_read_request(received: *const u8, received_len: usize) -> Request;
+    fn contacts_write_request(
+        opcode: u8,
+        datatype: u8,
+        vbucket: u16,
+        opaque: u32,
+        cas: u64,
+        extras: *const u8,
+        extras_len: usize,
+        key: *const u8,
+        key_len: usize,
+        value: *const u8,
+        value_len: usize,
+        out: *mut u8,
+        out_len: usize,
+    ) -> Written;
+}
+
+// Each call lends whole slices: the pointer is never null and the length is that of the slice, so the library may read
+// all of it, and write all of it where it is lent for change.
+impl Store for Library {
+    fn size(&self, rows: usize) -> usize {
+        unsafe { contacts_size(rows) }
+    }
+
+    fn make(&self, table: &mut [u8], rows: usize, state: u8, mode: u8, vbucket: u16) -> u8 {
+        unsafe { contacts_make(table.as_mut_ptr(), table.len(), rows, state, mode, vbucket) }
+    }
+
+    fn sound(&self, table: &[u8]) -> bool {
+        unsafe { contacts_sound(table.as_ptr(), table.len()) }
+    }
+
+    fn read(&self, table: &[u8], clock: u32, key: &[u8]) -> Document {
+        unsafe { contacts_read(table.as_ptr(), table.len(), clock, key.as_ptr(), key.len()) }
+    }
+
+    fn purge(&self, table: &mut [u8], clock: u32, bound: u64) -> Purged {
+        unsafe { contacts_purge(table.as_mut_ptr(), table.len(), clock, bound) }
+    }
+
+    fn serve(&self, table: &mut [u8], clock: u32, received: &[u8], reply: &mut [u8], tally: &mut Tally) -> Served {
+        unsafe {
+            contacts_serve(
+                table.as_mut_ptr(),
+                table.len(),
+                clock,
+                received.as_ptr(),
+                received.len(),
+                reply.as_mut_ptr(),
+                reply.len(),
+                tally,
+            )
+        }
+    }
+
+    fn serve_run(&self, table: &mut [u8], clock: u32, received: &[u8], reply: &mut [u8], tally: &mut Tally) -> Ran {
+        unsafe {
+            contacts_serve_run(
+                table.as_mut_ptr(),
+                table.len(),
+                clock,
+                received.as_ptr(),
+                received.len(),
+                reply.as_mut_ptr(),
+                reply.len(),
+                tally,
+            )
+        }
+    }
+
+    fn read_request(&self, received: &[u8]) -> Request {
+        unsafe { contacts_read_request(received.as_ptr(), received.len()) }
+    }
+
+    fn write_request(&self, fields: &Fields, out: &mut [u8]) -> Written {
+        unsafe {
+            contacts_write_request(
+                fields.opcode,
+                fields.datatype,
+                fields.vbucket,
+                fields.opaque,
+                fields.cas,
+                fields.extras.as_ptr(),
+                fields.extras.len(),
+                fields.key.as_ptr(),
+                fields.key.len(),
+                fields.value.as_ptr(),
+                fields.value.len(),
+                out.as_mut_ptr(),
+                out.len(),
+            )
+        }
+    }
+}

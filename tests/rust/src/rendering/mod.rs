@@ -1,0 +1,68 @@
+//! Document 01 in plain Rust, written from the papers alone, to be read with 01 beside it.
+//!
+//! | Section of 01 | Module |
+//! |---|---|
+//! | Table and owner calls | [`table`], [`numbers`], [`owner`], [`tally`] |
+//! | Outcomes of serving | [`serving`] |
+//! | Statuses, first that applies | [`status`], [`request`] (1 to 3), [`commands`] (2 to 8) |
+//! | Commands, With-meta | [`shape`], [`commands`], [`numbers`] |
+//! | How strict the promises are: reader and writer | [`request`] |
+
+pub mod bytes;
+pub mod commands;
+pub mod numbers;
+pub mod owner;
+pub mod request;
+pub mod serving;
+pub mod shape;
+pub mod status;
+pub mod table;
+pub mod tally;
+
+pub use owner::{make, purge, read, size, sound};
+pub use request::{read_request, write_request};
+pub use serving::{serve, serve_run};
+
+use crate::answers::{Document, Fields, Purged, Ran, Request, Served, Store, Tally, Written};
+
+/// The rendering as a store.
+#[derive(Clone, Copy, Debug)]
+pub struct Rendering;
+
+impl Store for Rendering {
+    fn size(&self, rows: usize) -> usize {
+        size(rows)
+    }
+
+    fn make(&self, table: &mut [u8], rows: usize, state: u8, mode: u8, vbucket: u16) -> u8 {
+        make(table, rows, state, mode, vbucket)
+    }
+
+    fn sound(&self, table: &[u8]) -> bool {
+        sound(table)
+    }
+
+    fn read(&self, table: &[u8], clock: u32, key: &[u8]) -> Document {
+        read(table, clock, key)
+    }
+
+    fn purge(&self, table: &mut [u8], clock: u32, bound: u64) -> Purged {
+        purge(table, clock, bound)
+    }
+
+    fn serve(&self, table: &mut [u8], clock: u32, received: &[u8], reply: &mut [u8], tally: &mut Tally) -> Served {
+        serve(table, clock, received, reply, tally)
+    }
+
+    fn serve_run(&self, table: &mut [u8], clock: u32, received: &[u8], reply: &mut [u8], tally: &mut Tally) -> Ran {
+        serve_run(table, clock, received, reply, tally)
+    }
+
+    fn read_request(&self, received: &[u8]) -> Request {
+        read_request(received)
+    }
+
+    fn write_request(&self, fields: &Fields, out: &mut [u8]) -> Written {
+        write_request(fields, out)
+    }
+}

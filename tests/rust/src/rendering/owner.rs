@@ -1,0 +1,75 @@
+//! The owner's calls: size, make, sound, read and purge.
+
+use super::numbers::{Cas, Mode};
+use super::status::Status;
+use super::table::{free_row, row_at, write_head, Damaged, Row, Table, HEADER, KEY_AT, ROW, ROWS, STATES};
+use crate::answers::{Document, Part, Purged};
+
+pub const DAMAGED: u8 = 5;
+
+/// "The size is a fixed header plus a fixed row size times the rows"; 0 where no table has so many.
+pub fn size(rows: usize) -> usize {
+    if ROWS.contains(&rows) {
+        HEADER + rows * ROW
+    } else {
+        0
+    }
+}
+
+/// "A fresh table is all free, mark 0. Making one is refused with 5, lent memory unchanged, exactly if the row count,
+/// state or mode is out of range or the memory isn't exactly as large as that row count needs."
+pub fn make(memory: &mut [u8], rows: usize, state: u8, mode: u8, vbucket: u16) -> u8 {
+    let in_range = ROWS.contains(&rows) && STATES.contains(&state) && Mode::read(mode).is_some();
+    if !in_range || memory.len() != size(rows) {
+        return DAMAGED;
+    }
+    memory.fill(0);
+    write_head(memory, state, mode, vbucket, Cas(0));
+    0
+}
+
+pub fn sound(memory: &[u8]) -> bool {
+    Table::read(memory).is_ok()
+}
+
+/// "Reading a document takes a clock and a key: the live document's four numbers and where its value stands in the
+/// table memory, or status 0x01 exactly if there is none (so for a key of 0 or over 250 bytes too)."
+pub fn read(memory: &[u8], clock: u32, key: &[u8]) -> Document {
+    let Ok(table) = Table::read(memory) else {
+        return Document { outcome: DAMAGED, ..Document::default() };
+    };
+    match table.find(key) {
+        Some((place, row)) if row.live(clock) => shown(place, &row),
+        _ => Document { status: Status::NotFound as u8, ..Document::default() },
+    }
+}
+
+fn shown(place: usize, row: &Row) -> Document {
+    Document {
+        outcome: 0,
+        status: 0,
+        flags: row.numbers.flags,
+        expiry: row.numbers.expiry,
+        revision: row.numbers.revision.0,
+        cas: row.numbers.cas.0,
+        value: Part { at: row_at(place) + KEY_AT + row.key.len(), len: row.value.len() },
+    }
+}
+
+/// "Purge takes a clock and a CAS bound. It frees exactly the tombstones and expired documents with CAS at or below
+/// the bound, reports how many, and leaves the mark."
+pub fn purge(memory: &mut [u8], clock: u32, bound: u64) -> Purged {
+    let places = match Table::read(memory) {
+        Ok(table) => purged(&table, clock, Cas(bound)),
+        Err(Damaged) => return Purged { outcome: DAMAGED, freed: 0 },
+    };
+    for &place in &places {
+        free_row(memory, place);
+    }
+    Purged { outcome: 0, freed: places.len() }
+}
+
+fn purged(table: &Table, clock: u32, bound: Cas) -> Vec<usize> {
+    let goes = |row: &Row| !row.live(clock) && row.numbers.cas <= bound;
+    (0..table.rows.len()).filter(|&place| table.rows[place].as_ref().is_some_and(goes)).collect()
+}

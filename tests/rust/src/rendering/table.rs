@@ -1,0 +1,174 @@
+//! The table in lent memory, laid out as docs/LAYOUT.md says.
+
+use super::bytes::{put, u16_at, u32_at, u64_at};
+use super::numbers::{Cas, Mode, Numbers, Revision};
+use std::ops::RangeInclusive;
+
+/// "The size is a fixed header plus a fixed row size times the rows."
+pub const HEADER: usize = 16;
+pub const ROW: usize = 1_312;
+
+/// Where a row's key stands; its value follows.
+pub const KEY_AT: usize = 32;
+
+/// "A table has 1 to 256 rows", and its state is "1 active, 2 replica, 3 pending, 4 dead".
+pub const ROWS: RangeInclusive<usize> = 1..=256;
+pub const STATES: RangeInclusive<u8> = 1..=4;
+pub const ACTIVE: u8 = 1;
+pub const DEAD: u8 = 4;
+
+/// "A used row has a key (1 to 250 bytes), value (0 to 1,024)."
+pub const KEY: RangeInclusive<usize> = 1..=250;
+pub const MAX_VALUE: usize = 1_024;
+
+const ZEROS: [u8; ROW] = [0; ROW];
+
+/// "Damaged: wrong size, a header field out of range, a row against these rules, a used row with CAS 0 or above the
+/// mark, or two used rows with one key."
+#[derive(Clone, Copy, Debug, PartialEq, Eq)]
+pub struct Damaged;
+
+/// Nothing where the rule is kept.
+fn require(kept: bool) -> Result<(), Damaged> {
+    if kept {
+        Ok(())
+    } else {
+        Err(Damaged)
+    }
+}
+
+#[derive(Clone, Copy, Debug)]
+pub struct Head {
+    pub state: u8,
+    pub mode: Mode,
+    pub vbucket: u16,
+    pub mark: Cas,
+}
+
+#[derive(Clone, Copy, Debug, PartialEq, Eq)]
+pub enum Kind {
+    Document,
+    Tombstone,
+}
+
+/// A used row.
+#[derive(Clone, Copy, Debug)]
+pub struct Row<'a> {
+    pub kind: Kind,
+    pub numbers: Numbers,
+    pub key: &'a [u8],
+    pub value: &'a [u8],
+}
+
+impl Row<'_> {
+    /// "It is *live* when it is a document and not expired."
+    pub fn live(&self, clock: u32) -> bool {
+        self.kind == Kind::Document && !self.numbers.expired(clock)
+    }
+}
+
+/// What sound memory holds; the rows by place, the free ones as `None`.
+#[derive(Debug)]
+pub struct Table<'a> {
+    pub head: Head,
+    pub rows: Vec<Option<Row<'a>>>,
+}
+
+impl<'a> Table<'a> {
+    pub fn read(memory: &'a [u8]) -> Result<Table<'a>, Damaged> {
+        let head = read_head(memory)?;
+        let rows = memory[HEADER..].chunks_exact(ROW).map(read_row).collect::<Result<Vec<_>, _>>()?;
+        require(rows.iter().flatten().all(|row| Cas(1) <= row.numbers.cas && row.numbers.cas <= head.mark))?;
+        require(keys_differ(&rows))?;
+        Ok(Table { head, rows })
+    }
+
+    /// The used row of a key, with its place.
+    pub fn find(&self, key: &[u8]) -> Option<(usize, Row<'a>)> {
+        let place = self.rows.iter().position(|row| row.is_some_and(|row| row.key == key))?;
+        self.rows[place].map(|row| (place, row))
+    }
+
+    /// "A new key takes the lowest free row."
+    pub fn lowest_free(&self) -> Option<usize> {
+        self.rows.iter().position(Option::is_none)
+    }
+}
+
+fn read_head(memory: &[u8]) -> Result<Head, Damaged> {
+    let rows = memory.len().saturating_sub(HEADER) / ROW;
+    require(ROWS.contains(&rows) && memory.len() == HEADER + rows * ROW)?;
+    require(STATES.contains(&memory[0]))?;
+    let mode = Mode::read(memory[1]).ok_or(Damaged)?;
+    require(u32_at(memory, 4) == 0)?;
+    Ok(Head { state: memory[0], mode, vbucket: u16_at(memory, 2), mark: Cas(u64_at(memory, 8)) })
+}
+
+/// "A row is free, a document, or a tombstone. [...] A tombstone has no value, flags 0, expiry 0. [...] Unused bytes
+/// are zero."
+fn read_row(row: &[u8]) -> Result<Option<Row<'_>>, Damaged> {
+    let kind = match u16_at(row, 0) {
+        0 => return require(is_zero(row)).map(|()| None),
+        1 => Kind::Document,
+        2 => Kind::Tombstone,
+        _ => return Err(Damaged),
+    };
+    let key_length = usize::from(u16_at(row, 2));
+    let value_length = u32_at(row, 4) as usize;
+    require(KEY.contains(&key_length) && value_length <= MAX_VALUE)?;
+    let (key, rest) = row[KEY_AT..].split_at(key_length);
+    let (value, unused) = rest.split_at(value_length);
+    require(is_zero(unused))?;
+    let (flags, expiry) = (u32_at(row, 8), u32_at(row, 12));
+    require(kind == Kind::Document || (value.is_empty() && flags == 0 && expiry == 0))?;
+    let numbers = Numbers { flags, expiry, revision: Revision(u64_at(row, 16)), cas: Cas(u64_at(row, 24)) };
+    Ok(Some(Row { kind, numbers, key, value }))
+}
+
+fn is_zero(bytes: &[u8]) -> bool {
+    bytes == &ZEROS[..bytes.len()]
+}
+
+fn keys_differ(rows: &[Option<Row>]) -> bool {
+    let mut keys: Vec<&[u8]> = rows.iter().flatten().map(|row| row.key).collect();
+    keys.sort_unstable();
+    keys.windows(2).all(|pair| pair[0] != pair[1])
+}
+
+/// Where a row's first byte stands in the table's memory.
+pub fn row_at(place: usize) -> usize {
+    HEADER + place * ROW
+}
+
+pub fn write_head(memory: &mut [u8], state: u8, mode: u8, vbucket: u16, mark: Cas) {
+    memory[..HEADER].fill(0);
+    put(memory, 0, &[state, mode]);
+    put(memory, 2, &vbucket.to_be_bytes());
+    write_mark(memory, mark);
+}
+
+pub fn write_mark(memory: &mut [u8], mark: Cas) {
+    put(memory, 8, &mark.0.to_be_bytes());
+}
+
+pub fn write_row(memory: &mut [u8], place: usize, row: &Row) {
+    free_row(memory, place);
+    let bytes = &mut memory[row_at(place)..][..ROW];
+    let kind = match row.kind {
+        Kind::Document => 1u16,
+        Kind::Tombstone => 2,
+    };
+    put(bytes, 0, &kind.to_be_bytes());
+    put(bytes, 2, &(row.key.len() as u16).to_be_bytes());
+    put(bytes, 4, &(row.value.len() as u32).to_be_bytes());
+    put(bytes, 8, &row.numbers.flags.to_be_bytes());
+    put(bytes, 12, &row.numbers.expiry.to_be_bytes());
+    put(bytes, 16, &row.numbers.revision.0.to_be_bytes());
+    put(bytes, 24, &row.numbers.cas.0.to_be_bytes());
+    put(bytes, KEY_AT, row.key);
+    put(bytes, KEY_AT + row.key.len(), row.value);
+}
+
+pub fn free_row(memory: &mut [u8], place: usize) {
+    memory[row_at(place)..][..ROW].fill(0);
+}

@@ -1,0 +1,212 @@
+//! Sessions: calls on one table, each made on two stores and compared in every byte.
+
+use crate::answers::{Document, Fields, Purged, Ran, Request, Served, Store, Tally, Written};
+use crate::frame::Frame;
+use std::time::{Duration, Instant};
+
+/// What the reply area and the writer's output hold before each call.
+const FILLING: u8 = 0xc5;
+
+#[derive(Clone, Debug, PartialEq, Eq)]
+pub enum Call {
+    Serve { clock: u32, room: usize, received: Vec<u8> },
+    Run { clock: u32, room: usize, received: Vec<u8> },
+    Read { clock: u32, key: Vec<u8> },
+    Purge { clock: u32, bound: u64 },
+    Sound,
+    Make { rows: usize, state: u8, mode: u8, vbucket: u16 },
+    Size { rows: usize },
+    ReadRequest { received: Vec<u8> },
+    WriteRequest { room: usize, frame: Frame },
+}
+
+#[derive(Clone, Copy, Debug, PartialEq, Eq)]
+pub enum Answer {
+    Served(Served),
+    Ran(Ran),
+    Document(Document),
+    Purged(Purged),
+    Sound(bool),
+    Made(u8),
+    Size(usize),
+    Request(Request),
+    Written(Written),
+}
+
+/// Calls on a table, from its memory and tally at the start.
+#[derive(Clone, Debug, Default, PartialEq, Eq)]
+pub struct Session {
+    pub table: Vec<u8>,
+    pub tally: Tally,
+    pub calls: Vec<Call>,
+}
+
+/// All the memory that one store's calls may change.
+#[derive(Clone, Debug, Default, PartialEq, Eq)]
+struct State {
+    table: Vec<u8>,
+    tally: Tally,
+    /// The reply area of serving, or the output of the writer.
+    out: Vec<u8>,
+}
+
+impl State {
+    /// Lends a reply area or an output of the call's size, filled.
+    fn lend(&mut self, call: &Call) {
+        let room = match call {
+            Call::Serve { room, .. } | Call::Run { room, .. } | Call::WriteRequest { room, .. } => *room,
+            _ => 0,
+        };
+        self.out = vec![FILLING; room];
+    }
+
+    fn perform(&mut self, store: &dyn Store, call: &Call) -> Answer {
+        let State { table, tally, out } = self;
+        match call {
+            Call::Serve { clock, received, .. } => Answer::Served(store.serve(table, *clock, received, out, tally)),
+            Call::Run { clock, received, .. } => Answer::Ran(store.serve_run(table, *clock, received, out, tally)),
+            Call::Read { clock, key } => Answer::Document(store.read(table, *clock, key)),
+            Call::Purge { clock, bound } => Answer::Purged(store.purge(table, *clock, *bound)),
+            Call::Sound => Answer::Sound(store.sound(table)),
+            Call::Make { rows, state, mode, vbucket } => {
+                Answer::Made(store.make(table, *rows, *state, *mode, *vbucket))
+            }
+            Call::Size { rows } => Answer::Size(store.size(*rows)),
+            Call::ReadRequest { received } => Answer::Request(store.read_request(received)),
+            Call::WriteRequest { frame, .. } => Answer::Written(store.write_request(&frame.fields(), out)),
+        }
+    }
+}
+
+/// Two stores that are given the same calls; the first is the one to go by.
+pub struct Pair<'s> {
+    stores: [&'s dyn Store; 2],
+    states: [State; 2],
+    before: State,
+    /// The time spent in each store's calls.
+    pub spent: [Duration; 2],
+}
+
+impl<'s> Pair<'s> {
+    pub fn new(stores: [&'s dyn Store; 2]) -> Pair<'s> {
+        Pair { stores, states: Default::default(), before: State::default(), spent: Default::default() }
+    }
+
+    pub fn start(&mut self, table: &[u8], tally: Tally) {
+        self.states = [0, 1].map(|_| State { table: table.to_vec(), tally, out: Vec::new() });
+    }
+
+    pub fn table(&self) -> &[u8] {
+        &self.states[0].table
+    }
+
+    /// One call on both, or how they differ or which promise is broken.
+    pub fn call(&mut self, call: &Call) -> Result<Answer, String> {
+        self.before.table.clone_from(&self.states[0].table);
+        self.before.tally = self.states[0].tally;
+        let [first, second] = [0, 1].map(|which| self.perform(which, call));
+        same("answer", &first, &second)?;
+        let [one, two] = &self.states;
+        same("tally", &one.tally, &two.tally)?;
+        same_bytes("reply or output", &one.out, &two.out)?;
+        same_bytes("table", &one.table, &two.table)?;
+        changes_within_the_answer(&first, &self.before, one)?;
+        for store in self.stores {
+            round_trip(store, call, &first, &one.out)?;
+        }
+        Ok(first)
+    }
+
+    fn perform(&mut self, which: usize, call: &Call) -> Answer {
+        self.states[which].lend(call);
+        let start = Instant::now();
+        let answer = self.states[which].perform(self.stores[which], call);
+        self.spent[which] += start.elapsed();
+        answer
+    }
+}
+
+/// The first difference of two stores over a session: the call's number, counted from 0, and what differs.
+pub fn difference(stores: [&dyn Store; 2], session: &Session) -> Option<(usize, String)> {
+    let mut pair = Pair::new(stores);
+    pair.start(&session.table, session.tally);
+    session.calls.iter().enumerate().find_map(|(number, call)| pair.call(call).err().map(|what| (number, what)))
+}
+
+/// A failing session's last call alone, on the table and tally as they were by then.
+pub fn failing_call(stores: [&dyn Store; 2], session: &Session) -> Option<Session> {
+    let mut pair = Pair::new(stores);
+    pair.start(&session.table, session.tally);
+    let call = session.calls.iter().find(|call| pair.call(call).is_err())?;
+    Some(Session { table: pair.before.table, tally: pair.before.tally, calls: vec![call.clone()] })
+}
+
+fn same<T: PartialEq + std::fmt::Debug>(what: &str, first: &T, second: &T) -> Result<(), String> {
+    if first == second {
+        Ok(())
+    } else {
+        Err(format!("{what} differs:\n  {first:?}\n  {second:?}"))
+    }
+}
+
+fn same_bytes(what: &str, first: &[u8], second: &[u8]) -> Result<(), String> {
+    if first == second {
+        return Ok(());
+    }
+    let at = first.iter().zip(second).position(|(one, two)| one != two).unwrap_or(0);
+    Err(format!("{what} differs at byte {at}: {:#04x} and {:#04x}", first[at], second[at]))
+}
+
+/// "A refused call changes nothing", and what a reply or a frame doesn't fill stays as it was.
+fn changes_within_the_answer(answer: &Answer, before: &State, after: &State) -> Result<(), String> {
+    let (may_store, may_count, filled) = match *answer {
+        Answer::Served(served) => (served.outcome == 0 && served.status == 0, served.outcome == 0, served.reply),
+        Answer::Ran(ran) => (ran.used > 0, ran.used > 0, ran.reply),
+        Answer::Purged(purged) => (purged.freed > 0, false, 0),
+        Answer::Made(outcome) => (outcome == 0, false, 0),
+        Answer::Written(written) => (false, false, written.len),
+        Answer::Document(_) | Answer::Sound(_) | Answer::Size(_) | Answer::Request(_) => (false, false, 0),
+    };
+    let kept = [
+        ("the table", may_store || before.table == after.table),
+        ("the tally", may_count || before.tally == after.tally),
+        ("the output past its end", after.out[filled..].iter().all(|&byte| byte == FILLING)),
+    ];
+    match kept.iter().find(|(_, kept)| !kept) {
+        Some((what, _)) => Err(format!("{what} was changed by a call that may not: {answer:?}")),
+        None => Ok(()),
+    }
+}
+
+/// A request that was written reads back the same; one that was read is the same bytes when written again.
+fn round_trip(store: &dyn Store, call: &Call, answer: &Answer, out: &[u8]) -> Result<(), String> {
+    match (call, answer) {
+        (Call::WriteRequest { frame, .. }, Answer::Written(Written { outcome: 0, status: 0, len })) => {
+            let written = &out[..*len];
+            let read = store.read_request(written);
+            same("the written request read back", &(0, 0), &(read.outcome, read.status))?;
+            same("the written request read back", &frame.fields(), &fields_of(&read, written))
+        }
+        (Call::ReadRequest { received }, Answer::Request(read @ Request { outcome: 0, status: 0, .. })) => {
+            let mut again = vec![FILLING; received.len()];
+            let written = store.write_request(&fields_of(read, received), &mut again);
+            same("the read request written again", &(0, 0), &(written.outcome, written.status))?;
+            same("the read request written again", &&received[..written.len], &&again[..written.len])
+        }
+        _ => Ok(()),
+    }
+}
+
+/// The fields that a request read from these bytes shows.
+fn fields_of<'a>(read: &Request, received: &'a [u8]) -> Fields<'a> {
+    Fields {
+        opcode: read.opcode,
+        datatype: read.datatype,
+        vbucket: read.vbucket,
+        opaque: read.opaque,
+        cas: read.cas,
+        extras: read.extras.of(received),
+        key: read.key.of(received),
+        value: read.value.of(received),
+    }
+}

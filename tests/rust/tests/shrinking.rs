@@ -1,0 +1,71 @@
+//! A fault injected into the rendering is found, and its session is made small.
+
+use contact_tests::answers::{Document, Fields, Purged, Ran, Request, Served, Store, Tally, Written};
+use contact_tests::comparison::Comparison;
+use contact_tests::rendering::Rendering;
+use contact_tests::replay::{from_text, to_text};
+use contact_tests::session::{difference, Call};
+
+/// The rendering, but for a Delete's reply, which carries CAS 0.
+struct Faulty;
+
+const DELETE: u8 = 0x04;
+
+impl Store for Faulty {
+    fn serve(&self, table: &mut [u8], clock: u32, received: &[u8], reply: &mut [u8], tally: &mut Tally) -> Served {
+        let served = Rendering.serve(table, clock, received, reply, tally);
+        if served.outcome == 0 && received[1] == DELETE {
+            reply[16..24].fill(0);
+        }
+        served
+    }
+
+    fn size(&self, rows: usize) -> usize {
+        Rendering.size(rows)
+    }
+
+    fn make(&self, table: &mut [u8], rows: usize, state: u8, mode: u8, vbucket: u16) -> u8 {
+        Rendering.make(table, rows, state, mode, vbucket)
+    }
+
+    fn sound(&self, table: &[u8]) -> bool {
+        Rendering.sound(table)
+    }
+
+    fn read(&self, table: &[u8], clock: u32, key: &[u8]) -> Document {
+        Rendering.read(table, clock, key)
+    }
+
+    fn purge(&self, table: &mut [u8], clock: u32, bound: u64) -> Purged {
+        Rendering.purge(table, clock, bound)
+    }
+
+    fn serve_run(&self, table: &mut [u8], clock: u32, received: &[u8], reply: &mut [u8], tally: &mut Tally) -> Ran {
+        Rendering.serve_run(table, clock, received, reply, tally)
+    }
+
+    fn read_request(&self, received: &[u8]) -> Request {
+        Rendering.read_request(received)
+    }
+
+    fn write_request(&self, fields: &Fields, out: &mut [u8]) -> Written {
+        Rendering.write_request(fields, out)
+    }
+}
+
+#[test]
+fn a_failing_session_is_made_small() {
+    let stores: [&dyn Store; 2] = [&Rendering, &Faulty];
+    let mut comparison = Comparison::new(stores, 1);
+    let session = comparison.run(100_000).expect_err("the fault is found");
+    let (small, what) = comparison.shrunk(session);
+
+    assert!(what.starts_with("call 0: reply or output differs at byte "), "{what}");
+    assert_eq!(small.table.len(), Rendering.size(1));
+    assert_eq!(small.tally, Tally::default());
+    assert!(matches!(&small.calls[..], [Call::Serve { clock: 0, room: 1_302, received }] if received[1] == DELETE));
+
+    let replayed = from_text(&to_text(&small)).expect("the text reads back");
+    assert_eq!(replayed, small);
+    assert!(difference(stores, &replayed).is_some());
+}
