@@ -28,11 +28,8 @@ fn main() -> Result<(), Box<dyn Error>> {
     let part = format!("{machine} Best of {rounds} rounds.\n\n{}", figures.markdown());
     fs::write(PAGE, with_figures(&page, &part).ok_or("docs/BENCHMARK.md has no place for the figures")?)?;
     fs::write(PLOT, plot::plot(&figures.serving))?;
-    for verdict in figures.verdicts() {
-        println!("{verdict}");
-    }
-    figures.keep_the_limit().then_some(()).ok_or("the damage test takes too long")?;
-    Ok(())
+    println!("{}\n{}", figures.on_serving(), figures.on_damage());
+    figures.within_limit().then_some(()).ok_or("the damage test takes too long".into())
 }
 
 fn measure(rounds: usize) -> Figures {

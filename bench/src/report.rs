@@ -1,10 +1,9 @@
-//! The figures as Markdown.
+//! The figures in words and as Markdown.
 
 use crate::cases::{Case, Fill, Table};
 use crate::race::Times;
-use std::fmt::Write;
 
-/// The damage test on 256 free rows is promised to take at most this many times the plain pass.
+/// The damage test on 256 free rows is promised to take at most this many plain passes.
 const DAMAGE_LIMIT: f64 = 4.0;
 
 pub struct Figures {
@@ -13,90 +12,85 @@ pub struct Figures {
 }
 
 impl Figures {
-    /// The damage test's time on 256 free rows, in plain passes.
-    fn damage_ratio(&self) -> f64 {
-        let (_, times) =
-            self.damage.iter().find(|(table, _)| table.rows == 256 && table.is_free()).expect("it is timed");
-        times.to_floor()
+    pub fn within_limit(&self) -> bool {
+        self.damage_in_passes() <= DAMAGE_LIMIT
     }
 
-    pub fn keep_the_limit(&self) -> bool {
-        self.damage_ratio() <= DAMAGE_LIMIT
+    /// The damage test's time on 256 free rows.
+    fn damage_in_passes(&self) -> f64 {
+        let free = self.damage.iter().find(|(table, _)| table.rows == 256 && table.is_free());
+        free.map_or(f64::NAN, |(_, times)| times.over_floor())
     }
 
-    /// What is said in one line each: of serving, and of the damage test.
-    pub fn verdicts(&self) -> [String; 2] {
+    pub fn on_serving(&self) -> String {
         let cases = self.serving.len();
-        let slower = self.serving.iter().filter(|(_, times)| times.to_rendering() > 1.0).count();
-        let serving = match slower {
+        match self.serving.iter().filter(|(_, times)| times.is_slower()).count() {
             0 => format!("The library is at least as fast as the rendering in all {cases} cases."),
-            _ => format!("The library is slower than the rendering in {slower} of {cases} cases, whose ratio is bold."),
-        };
-        let kept = if self.keep_the_limit() { "kept" } else { "BROKEN" };
-        let ratio = self.damage_ratio();
-        let damage = format!(
-            "On 256 free rows the damage test takes {ratio:.2} times the plain pass: the limit of {DAMAGE_LIMIT} is {kept}."
-        );
-        [serving, damage]
+            slower => format!("The library is slower than the rendering in {slower} of {cases} cases."),
+        }
     }
 
-    pub fn markdown(&self) -> String {
-        let [serving, damage] = self.verdicts();
+    pub fn on_damage(&self) -> String {
+        let passes = self.damage_in_passes();
+        let kept = if self.within_limit() { "kept" } else { "broken" };
         format!(
-            "### Serving\n\n{serving}\n\n{}\n### The damage test\n\n{damage}\n\n{}",
-            self.serving_table(),
-            self.damage_table()
+            "On 256 free rows the damage test takes {passes:.2} plain passes. The limit of {DAMAGE_LIMIT} is {kept}."
         )
     }
 
-    fn serving_table(&self) -> String {
-        let mut lines = String::from(
-            "| Request | Rows | Used | Key, bytes | Floor, ns | Rendering, ns | Library, ns | Library / rendering | Library / floor |\n\
-             |---|---|---|---|---|---|---|---|---|\n",
-        );
-        for (Case { table, request }, times) in &self.serving {
-            let (rows, used, key) = (table.rows, table.used(), table.key);
-            let _ = writeln!(lines, "| {} | {rows} | {used} | {key} | {}", request.name(), cells(times));
-        }
-        lines
-    }
+    pub fn markdown(&self) -> String {
+        let serving = self.serving.iter().map(|(case, times)| serving_line(case, times)).collect::<String>();
+        let damage = self.damage.iter().map(|(table, times)| damage_line(table, times)).collect::<String>();
+        format!(
+            "### Serving
 
-    fn damage_table(&self) -> String {
-        let mut lines = String::from(
-            "| Rows | Keys | Floor, GB/s | Floor, ns | Rendering, ns | Library, ns | Library / rendering | Library / floor |\n\
-             |---|---|---|---|---|---|---|---|\n",
-        );
-        for (table, times) in &self.damage {
-            let keys = match table.fill {
-                Fill::Free => "none".to_string(),
-                Fill::Rising => format!("{} of {} bytes, rising", table.rows, table.key),
-                Fill::Scattered => format!("{} of {} bytes, scattered", table.rows, table.key),
-            };
-            let speed = table.memory().len() as f64 / times.floor;
-            let _ = writeln!(lines, "| {} | {keys} | {speed:.0} | {}", table.rows, cells(times));
-        }
-        lines
+{}
+
+| Request | Rows | Used | Key, bytes | {TIMES} |
+|---|---|---|---|---|---|---|---|---|
+{serving}
+### The damage test
+
+{}
+
+| Rows | Keys | Floor, GB/s | {TIMES} |
+|---|---|---|---|---|---|---|---|
+{damage}",
+            self.on_serving(),
+            self.on_damage(),
+        )
     }
 }
+
+fn serving_line(Case { table, request }: &Case, times: &Times) -> String {
+    let (name, rows, used, key) = (request.name(), table.rows, table.used(), table.key);
+    format!("| {name} | {rows} | {used} | {key} | {} |\n", cells(times))
+}
+
+fn damage_line(table: &Table, times: &Times) -> String {
+    let Table { rows, fill, key } = *table;
+    let keys = match fill {
+        Fill::Free => "none".to_string(),
+        Fill::Rising => format!("{rows} of {key} bytes, rising"),
+        Fill::Scattered => format!("{rows} of {key} bytes, scattered"),
+    };
+    let speed = table.memory().len() as f64 / times.floor;
+    format!("| {rows} | {keys} | {speed:.0} | {} |\n", cells(times))
+}
+
+const TIMES: &str = "Floor, ns | Rendering, ns | Library, ns | Library / rendering | Library / floor";
 
 fn cells(times: &Times) -> String {
-    let ratio = match times.to_rendering() {
-        slower if slower > 1.0 => format!("**{slower:.2}**"),
-        ratio => format!("{ratio:.2}"),
-    };
+    let bold = if times.is_slower() { "**" } else { "" };
     let [floor, rendering, library] = [times.floor, times.rendering, times.library].map(grouped);
-    format!("{floor} | {rendering} | {library} | {ratio} | {:.2} |", times.to_floor())
+    let (over_rendering, over_floor) = (times.over_rendering(), times.over_floor());
+    format!("{floor} | {rendering} | {library} | {bold}{over_rendering:.2}{bold} | {over_floor:.2}")
 }
 
-/// A whole number with its thousands apart.
+/// A whole number, its thousands apart.
 fn grouped(number: f64) -> String {
     let digits = format!("{number:.0}");
-    let mut grouped = String::new();
-    for (i, digit) in digits.chars().enumerate() {
-        if i > 0 && (digits.len() - i) % 3 == 0 {
-            grouped.push(',');
-        }
-        grouped.push(digit);
-    }
-    grouped
+    let apart =
+        |(i, digit)| if i > 0 && (digits.len() - i) % 3 == 0 { format!(",{digit}") } else { format!("{digit}") };
+    digits.chars().enumerate().map(apart).collect()
 }
