@@ -25,7 +25,8 @@ pub fn plot(serving: &[(Case, Times)]) -> String {
         }
     }
     let height = y + 40.0;
-    let (title, legend, grid) = (text(MARGIN, 24.0, TITLE, "Serving one request"), legend(), axis.grid(y + 8.0));
+    let (title, legend, grid) =
+        (text(MARGIN, 24.0, TITLE, "Serving one request: time of a call, logarithmic"), legend(), axis.grid(y + 8.0));
     format!(
         r##"<svg xmlns="http://www.w3.org/2000/svg" viewBox="0 0 {WIDTH} {height}" width="{WIDTH}" height="{height}" font-family="sans-serif" font-size="12" fill="#222222">
 <rect width="{WIDTH}" height="{height}" fill="#ffffff"/>
