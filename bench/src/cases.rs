@@ -1,0 +1,181 @@
+//! What is served on what: a table, free or full, and a request.
+
+use contact_tests::answers::Tally;
+use contact_tests::frame::{meta_extras, plain_extras, Frame};
+use contact_tests::rendering;
+use contacts::{opcode, Mode, State, Status};
+
+pub const CLOCK: u32 = 1_000_000;
+
+const ROWS: [usize; 3] = [1, 32, 256];
+const SHORT: usize = 8;
+const LONG: usize = 250;
+const VALUE: [u8; 512] = [b'v'; 512];
+
+#[derive(Clone, Copy, Debug, PartialEq, Eq)]
+pub enum Fill {
+    Free,
+    /// Every row a document, the keys in rising order: the best case of a test for equal keys that sorts.
+    Rising,
+    /// Every row a document, the keys in no order.
+    Scattered,
+}
+
+/// A table of revision mode, filled with keys of one length.
+#[derive(Clone, Copy, Debug)]
+pub struct Table {
+    pub rows: usize,
+    pub fill: Fill,
+    pub key: usize,
+}
+
+impl Table {
+    /// The tables that the damage test is timed on.
+    pub fn damage_tests() -> Vec<Table> {
+        let mut tables = Vec::new();
+        for rows in ROWS {
+            tables.push(Table { rows, fill: Fill::Free, key: SHORT });
+            for key in [SHORT, LONG] {
+                tables.push(Table { rows, fill: Fill::Rising, key });
+                if rows > 1 {
+                    tables.push(Table { rows, fill: Fill::Scattered, key });
+                }
+            }
+        }
+        tables
+    }
+
+    pub fn is_free(&self) -> bool {
+        self.fill == Fill::Free
+    }
+
+    pub fn used(&self) -> usize {
+        if self.is_free() {
+            0
+        } else {
+            self.rows
+        }
+    }
+
+    pub fn memory(&self) -> Vec<u8> {
+        let mut memory = vec![0; rendering::size(self.rows)];
+        rendering::make(&mut memory, self.rows, State::Active.number(), Mode::Revision.number(), 0);
+        let mut reply = [0; contacts::REPLY_ROOM];
+        for place in 0..self.used() {
+            let set = frame(opcode::SET, plain_extras(0, 0), self.key_at(place), &VALUE);
+            rendering::serve(&mut memory, CLOCK, &set, &mut reply, &mut Tally::default());
+        }
+        memory
+    }
+
+    fn key_at(&self, place: usize) -> Vec<u8> {
+        match self.fill {
+            Fill::Free | Fill::Rising => self.key_numbered(place),
+            Fill::Scattered => self.key_numbered(place * 167 % self.rows),
+        }
+    }
+
+    fn absent_key(&self) -> Vec<u8> {
+        self.key_numbered(self.rows)
+    }
+
+    /// Keys differ in their last two bytes alone.
+    fn key_numbered(&self, number: usize) -> Vec<u8> {
+        let mut key = vec![b'k'; self.key];
+        key[self.key - 2..].copy_from_slice(&(number as u16).to_be_bytes());
+        key
+    }
+}
+
+#[derive(Clone, Copy, Debug, PartialEq, Eq)]
+pub enum Request {
+    GetHit,
+    GetMiss,
+    Set,
+    SetWithMeta,
+    SetWithMetaRefused,
+    Noop,
+}
+
+impl Request {
+    const ALL: [Request; 6] = [
+        Request::GetHit,
+        Request::GetMiss,
+        Request::Set,
+        Request::SetWithMeta,
+        Request::SetWithMetaRefused,
+        Request::Noop,
+    ];
+
+    pub fn name(self) -> &'static str {
+        match self {
+            Request::GetHit => "Get, hit",
+            Request::GetMiss => "Get, miss",
+            Request::Set => "Set",
+            Request::SetWithMeta => "Set with meta, stored",
+            Request::SetWithMetaRefused => "Set with meta, refused",
+            Request::Noop => "Noop",
+        }
+    }
+
+    pub fn status(self) -> Status {
+        match self {
+            Request::GetMiss => Status::NotFound,
+            Request::SetWithMetaRefused => Status::Exists,
+            Request::GetHit | Request::Set | Request::SetWithMeta | Request::Noop => Status::Success,
+        }
+    }
+
+    /// A free table has nothing to hit or to lose against, and Noop has no key.
+    fn suits(self, table: &Table) -> bool {
+        match self {
+            Request::GetHit | Request::SetWithMetaRefused => !table.is_free(),
+            Request::Noop => !table.is_free() || table.key == SHORT,
+            Request::GetMiss | Request::Set | Request::SetWithMeta => true,
+        }
+    }
+}
+
+#[derive(Clone, Copy, Debug)]
+pub struct Case {
+    pub table: Table,
+    pub request: Request,
+}
+
+impl Case {
+    pub fn all() -> Vec<Case> {
+        let mut cases = Vec::new();
+        for rows in ROWS {
+            for fill in [Fill::Free, Fill::Rising] {
+                for key in [SHORT, LONG] {
+                    let table = Table { rows, fill, key };
+                    let suited = Request::ALL.into_iter().filter(|request| request.suits(&table));
+                    cases.extend(suited.map(|request| Case { table, request }));
+                }
+            }
+        }
+        cases
+    }
+
+    /// The request's frame; a key that is to be found is the last row's.
+    pub fn frame(&self) -> Vec<u8> {
+        let last = self.table.key_at(self.table.rows - 1);
+        match self.request {
+            Request::GetHit => frame(opcode::GET, vec![], last, &[]),
+            Request::GetMiss => frame(opcode::GET, vec![], self.table.absent_key(), &[]),
+            Request::Set => frame(opcode::SET, plain_extras(0, 0), last, &VALUE),
+            Request::SetWithMeta => set_with_meta(last, 2),
+            Request::SetWithMetaRefused => set_with_meta(last, 0),
+            Request::Noop => frame(opcode::NOOP, vec![], vec![], &[]),
+        }
+    }
+}
+
+/// A set with meta of this revision; the tables' rows have revision 1.
+fn set_with_meta(key: Vec<u8>, revision: u64) -> Vec<u8> {
+    frame(opcode::SET_WITH_META, meta_extras((0, 0, revision, 1_000), None, None), key, &VALUE)
+}
+
+fn frame(opcode: u8, extras: Vec<u8>, key: Vec<u8>, value: &[u8]) -> Vec<u8> {
+    Frame { opcode, extras, key, value: value.to_vec(), ..Frame::default() }.bytes()
+}

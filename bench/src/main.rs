@@ -1,0 +1,46 @@
+//! The proved library timed beside the Rust rendering and a plain pass over the table: `contact-bench MACHINE ROUNDS`
+//! writes the figures into docs/BENCHMARK.md and plots them in docs/benchmark.svg.
+
+mod cases;
+mod floor;
+mod plot;
+mod race;
+mod report;
+mod sides;
+
+use cases::{Case, Table};
+use report::Figures;
+use std::error::Error;
+use std::{env, fs};
+
+const PAGE: &str = concat!(env!("CARGO_MANIFEST_DIR"), "/../docs/BENCHMARK.md");
+const PLOT: &str = concat!(env!("CARGO_MANIFEST_DIR"), "/../docs/benchmark.svg");
+
+/// The lines of the page between which its figures stand.
+const FROM: &str = "<!-- figures of bench/run -->\n";
+const TO: &str = "<!-- end of figures -->\n";
+
+fn main() -> Result<(), Box<dyn Error>> {
+    let mut arguments = env::args().skip(1);
+    let (machine, rounds) = arguments.next().zip(arguments.next()).ok_or("usage: contact-bench MACHINE ROUNDS")?;
+    let figures = measure(rounds.parse()?);
+    let page = fs::read_to_string(PAGE)?;
+    let part = format!("{machine} Best of {rounds} rounds.\n\n{}", figures.markdown());
+    fs::write(PAGE, with_figures(&page, &part).ok_or("docs/BENCHMARK.md has no place for the figures")?)?;
+    fs::write(PLOT, plot::plot(&figures.serving))?;
+    println!("{}\n{}", figures.on_serving(), figures.on_damage());
+    figures.within_limit().then_some(()).ok_or("the damage test takes too long".into())
+}
+
+fn measure(rounds: usize) -> Figures {
+    let serving = Case::all().into_iter().map(|case| (case, sides::serving(&case, rounds)));
+    let damage = Table::damage_tests().into_iter().map(|table| (table, sides::damage_test(&table, rounds)));
+    Figures { serving: serving.collect(), damage: damage.collect() }
+}
+
+/// The page with its figures replaced.
+fn with_figures(page: &str, figures: &str) -> Option<String> {
+    let (before, rest) = page.split_once(FROM)?;
+    let (_, after) = rest.split_once(TO)?;
+    Some(format!("{before}{FROM}\n{figures}\n{TO}{after}"))
+}

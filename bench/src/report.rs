@@ -1,0 +1,96 @@
+//! The figures in words and as Markdown.
+
+use crate::cases::{Case, Fill, Table};
+use crate::race::Times;
+
+/// The damage test on 256 free rows is promised to take at most this many plain passes.
+const DAMAGE_LIMIT: f64 = 4.0;
+
+pub struct Figures {
+    pub serving: Vec<(Case, Times)>,
+    pub damage: Vec<(Table, Times)>,
+}
+
+impl Figures {
+    pub fn within_limit(&self) -> bool {
+        self.damage_in_passes() <= DAMAGE_LIMIT
+    }
+
+    /// The damage test's time on 256 free rows.
+    fn damage_in_passes(&self) -> f64 {
+        let free = self.damage.iter().find(|(table, _)| table.rows == 256 && table.is_free());
+        free.map_or(f64::NAN, |(_, times)| times.over_floor())
+    }
+
+    pub fn on_serving(&self) -> String {
+        let cases = self.serving.len();
+        match self.serving.iter().filter(|(_, times)| times.is_slower()).count() {
+            0 => format!("The library is at least as fast as the rendering in all {cases} cases."),
+            slower => format!("The library is slower than the rendering in {slower} of {cases} cases."),
+        }
+    }
+
+    pub fn on_damage(&self) -> String {
+        let passes = self.damage_in_passes();
+        let kept = if self.within_limit() { "kept" } else { "broken" };
+        format!(
+            "On 256 free rows the damage test takes {passes:.2} plain passes. The limit of {DAMAGE_LIMIT} is {kept}."
+        )
+    }
+
+    pub fn markdown(&self) -> String {
+        let serving = self.serving.iter().map(|(case, times)| serving_line(case, times)).collect::<String>();
+        let damage = self.damage.iter().map(|(table, times)| damage_line(table, times)).collect::<String>();
+        format!(
+            "### Serving
+
+{}
+
+| Request | Rows | Used | Key, bytes | {TIMES} |
+|---|---|---|---|---|---|---|---|---|
+{serving}
+### The damage test
+
+{}
+
+| Rows | Keys | Floor, GB/s | {TIMES} |
+|---|---|---|---|---|---|---|---|
+{damage}",
+            self.on_serving(),
+            self.on_damage(),
+        )
+    }
+}
+
+fn serving_line(Case { table, request }: &Case, times: &Times) -> String {
+    let (name, rows, used, key) = (request.name(), table.rows, table.used(), table.key);
+    format!("| {name} | {rows} | {used} | {key} | {} |\n", cells(times))
+}
+
+fn damage_line(table: &Table, times: &Times) -> String {
+    let Table { rows, fill, key } = *table;
+    let keys = match fill {
+        Fill::Free => "none".to_string(),
+        Fill::Rising => format!("{rows} of {key} bytes, rising"),
+        Fill::Scattered => format!("{rows} of {key} bytes, scattered"),
+    };
+    let speed = table.memory().len() as f64 / times.floor;
+    format!("| {rows} | {keys} | {speed:.0} | {} |\n", cells(times))
+}
+
+const TIMES: &str = "Floor, ns | Rendering, ns | Library, ns | Library / rendering | Library / floor";
+
+fn cells(times: &Times) -> String {
+    let bold = if times.is_slower() { "**" } else { "" };
+    let [floor, rendering, library] = [times.floor, times.rendering, times.library].map(grouped);
+    let (over_rendering, over_floor) = (times.over_rendering(), times.over_floor());
+    format!("{floor} | {rendering} | {library} | {bold}{over_rendering:.2}{bold} | {over_floor:.2}")
+}
+
+/// A whole number, its thousands apart.
+fn grouped(number: f64) -> String {
+    let digits = format!("{number:.0}");
+    let apart =
+        |(i, digit)| if i > 0 && (digits.len() - i) % 3 == 0 { format!(",{digit}") } else { format!("{digit}") };
+    digits.chars().enumerate().map(apart).collect()
+}
