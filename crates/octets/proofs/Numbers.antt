@@ -37,6 +37,37 @@ num-suc s at n h =
     let l : n < length (drop at s) = simp length-drop (omega arith) in
     rw (take-suc (drop at s) n 0 l, getD-drop) (be-snoc (part s at n) (getD s (at + n) 0))
 
+-- eight bytes by halves
+num-none : (s : List ℕ) (at : ℕ) → num s at 0 ≡ 0
+unfolding be beFrom
+num-none s at = refl
+
+joined : (h a b c d : ℕ) → (((h * 256 + a) * 256 + b) * 256 + c) * 256 + d ≡ h * 4294967296 + ((((0 * 256 + a) * 256 + b) * 256 + c) * 256 + d)
+joined h a b c d = omega arith
+
+pub num-halves : (s : List ℕ) (at : ℕ) → at + 8 ≤ length s → num s at 8 ≡ num s at 4 * 4294967296 + num s (at + 4) 4
+num-halves s at h =
+    let e : at + 4 + 0 ≡ at + 4 = omega arith in
+    let f : at + 4 + 1 ≡ at + 5 = omega arith in
+    let g : at + 4 + 2 ≡ at + 6 = omega arith in
+    let k : at + 4 + 3 ≡ at + 7 = omega arith in
+    rw (
+      num-suc s at 7 (omega arith),
+      num-suc s at 6 (omega arith),
+      num-suc s at 5 (omega arith),
+      num-suc s at 4 (omega arith),
+      num-suc s (at + 4) 3 (omega arith),
+      num-suc s (at + 4) 2 (omega arith),
+      num-suc s (at + 4) 1 (omega arith),
+      num-suc s (at + 4) 0 (omega arith),
+      num-none s (at + 4),
+      e,
+      f,
+      g,
+      k,
+    )
+    (joined (num s at 4) (getD s (at + 4) 0) (getD s (at + 5) 0) (getD s (at + 6) 0) (getD s (at + 7) 0))
+
 pub length-bytes : (n v : ℕ) → length (bytesOf n v) ≡ n
 unfolding bytesOf
 length-bytes zero v = refl

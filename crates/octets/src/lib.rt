@@ -89,9 +89,20 @@ pub fn be32(s: &[u8], at: usize) -> u32
     number_there(s, at, 4) as u32
 }
 
+// Eight bytes by halves, which compile to one load.
+fn halves(s: &[u8], at: usize) -> u64
+    requires { ⌜ at + 8 ≤ length (now s) ⌝ }
+    ensures { λ r. ⌜ r ≡ num (now (s .entry)) at 8 ⌝ }
+{
+    number(s, at, 4) * 4294967296 + number(s, at + 4, 4)
+}
+
 pub fn be64(s: &[u8], at: usize) -> u64
     ensures { λ r. ⌜ r ≡ num (now (s .entry)) at 8 ⌝ }
 {
+    if fits(s.len(), at, 8) {
+        return halves(s, at);
+    }
     number_there(s, at, 8)
 }
 
