@@ -3,38 +3,30 @@ use borrow.Author.Needs.{needs}
 use Rattle.asks.proofs.value_of.Statement.{statement}
 use Rattle.asks.proofs.value_of.Tie as tie
 
--- src/lib.rt:127:39
+-- src/lib.rt:147:39
 extras-span-requires : tie.Need-extras-span-requires
 extras-span-requires c κs = search needs
 
--- src/lib.rt:127:9
+-- src/lib.rt:147:9
 bytes-in-requires : tie.Need-bytes-in-requires
 bytes-in-requires c κs = search needs
 
--- src/lib.rt:128:33
+-- src/lib.rt:148:33
 shape-of-requires : tie.Need-shape-of-requires
 shape-of-requires c κs = search needs
 
--- src/lib.rt:128:9
+-- src/lib.rt:148:9
 meta-size-requires : tie.Need-meta-size-requires
 meta-size-requires c κs = search needs
 
--- src/lib.rt:129:9
-value-span-requires : tie.Need-value-span-requires
-value-span-requires c κs = search needs
+-- src/lib.rt:149:5
+value-before-requires : tie.Need-value-before-requires
+value-before-requires c κs = search needs
 
--- src/lib.rt:130:27
-minus-requires : tie.Need-minus-requires
-minus-requires c κs = search needs
-
--- src/lib.rt:130:5
-part-requires : tie.Need-part-requires
-part-requires c κs = search needs
-
--- src/lib.rt:124:1
+-- src/lib.rt:144:1
 returns : tie.Need-returns
 unfolding valueOf
-returns c = simp ((c .part) .ensures, (c .before .minus) .ensures, (c .before .before .value-span) .ensures, (c .before .before .before .meta-size) .ensures, (c .before .before .before .before .shape-of) .ensures, (c .before .before .before .before .before .bytes-in) .ensures, (c .before .before .before .before .before .before .extras-span) .ensures)
+returns c = simp ((c .value-before) .ensures, (c .before .meta-size) .ensures, (c .before .before .shape-of) .ensures, (c .before .before .before .bytes-in) .ensures, (c .before .before .before .before .extras-span) .ensures)
 
 pub value-of-spec : {M : Type 1} → statement M
 value-of-spec =
@@ -44,7 +36,5 @@ value-of-spec =
     bytes-in-requires
     shape-of-requires
     meta-size-requires
-    value-span-requires
-    minus-requires
-    part-requires
+    value-before-requires
     returns)
