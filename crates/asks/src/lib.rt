@@ -80,7 +80,8 @@ fn counted(op: u8, extras: &[u8]) -> Command
     Command::Noop
 }
 
-// A command's extras are read only once the command is known: each read past their end is a slow one.
+// A command's extras are read only once the command is known: each read past their end is a slow one. A Noop, which is
+// what's left in the end, is told early.
 fn plain_command(op: u8, extras: &[u8]) -> Command
     ensures { λ r. ⌜ r ≡ plainCommand op (now (extras .entry)) ⌝ }
 {
@@ -89,6 +90,9 @@ fn plain_command(op: u8, extras: &[u8]) -> Command
     }
     if either(op, 0x0c, 0x0d) {
         return Command::Get(true);
+    }
+    if op == 0x0a {
+        return Command::Noop;
     }
     if either(op, 0x01, 0x11) {
         return plain_of(Kind::Set, extras);
@@ -140,10 +144,14 @@ fn value_before(s: &[u8], h: Header, meta: usize) -> &[u8]
     octets::part(s, v.at, minus(v.len, meta))
 }
 
-// The value before the extended meta, as a part of the received bytes.
+// The value before the extended meta, as a part of the received bytes. No opcode below 0xa2 has one, so that its shape
+// need not be looked up.
 pub fn value_of(s: &[u8], h: Header) -> &[u8]
     ensures { λ r. ⌜ now r ≡ valueOf (now (s .entry)) h ⌝ }
 {
+    if h.opcode < 0xa2 {
+        return value_before(s, h, 0);
+    }
     let extras = request::bytes_in(s, request::extras_span(h));
     let meta = rules::meta_size(shape::shape_of(h.opcode), extras);
     value_before(s, h, meta)
