@@ -109,6 +109,7 @@ fn plain_command(op: u8, extras: &[u8]) -> Command
     counted(op, extras)
 }
 
+// The plain opcodes are all below 0xa2, and the with-meta ones are not.
 pub fn command_of(op: u8, extras: &[u8]) -> Command
     ensures { λ r. ⌜ r ≡ commandOf op (now (extras .entry)) ⌝ }
 {
@@ -124,7 +125,7 @@ pub fn command_of(op: u8, extras: &[u8]) -> Command
     if either(op, 0xa8, 0xa9) {
         return meta_of(Kind::Delete, rules::with_meta(extras));
     }
-    plain_command(op, extras)
+    Command::Noop
 }
 
 fn minus(a: usize, b: usize) -> usize

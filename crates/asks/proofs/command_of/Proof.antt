@@ -1,8 +1,9 @@
 use borrow.Author.Tests.{ne-eqb}
 use native.Mathlib.Omega.{arith}
-use Prim.Native.Nat.{ℕ, _<_}
+use Prim.Native.Nat.{ℕ, _≤_, _<_}
 use mathlib.Core.Path.{_≡_, sym, _∙_}
 use mathlib.Core.List.{List}
+use Rattle.commands.specs.declared.Command.the-variants.{Noop}
 use Rattle.asks.specs.Asks.{commandOf, plainCommand}
 use borrow.Author.Needs.{needs}
 use Rattle.asks.proofs.command_of.Statement.{statement}
@@ -13,6 +14,12 @@ below : (op : ℕ) (extras : List ℕ) → op < 0xa2 → commandOf op extras ≡
 unfolding commandOf
 below op extras l =
     rw (ne-eqb op 0xa2 (λ z. omega arith), ne-eqb op 0xa3 (λ z. omega arith), ne-eqb op 0xa4 (λ z. omega arith), ne-eqb op 0xa5 (λ z. omega arith), ne-eqb op 0xa8 (λ z. omega arith), ne-eqb op 0xa9 (λ z. omega arith))
+
+-- from 0xa2 on no opcode is a plain one
+above : (op : ℕ) → 0xa2 ≤ op → (extras : List ℕ) → plainCommand op extras ≡ Noop
+unfolding plainCommand
+above op l extras =
+    rw (ne-eqb op 0x00 (λ z. omega arith), ne-eqb op 0x09 (λ z. omega arith), ne-eqb op 0x0c (λ z. omega arith), ne-eqb op 0x0d (λ z. omega arith), ne-eqb op 0x01 (λ z. omega arith), ne-eqb op 0x11 (λ z. omega arith), ne-eqb op 0x02 (λ z. omega arith), ne-eqb op 0x12 (λ z. omega arith), ne-eqb op 0x03 (λ z. omega arith), ne-eqb op 0x13 (λ z. omega arith), ne-eqb op 0x04 (λ z. omega arith), ne-eqb op 0x14 (λ z. omega arith), ne-eqb op 0x05 (λ z. omega arith), ne-eqb op 0x15 (λ z. omega arith), ne-eqb op 0x06 (λ z. omega arith), ne-eqb op 0x16 (λ z. omega arith), ne-eqb op 0x0b (λ z. omega arith))
 
 -- src/lib.rt:112:9
 plain-command-requires : tie.Need-plain-command-requires
@@ -73,14 +80,10 @@ returns-4 : tie.Need-returns-4
 unfolding commandOf
 returns-4 c = simp (sym ((c .before .before .before .before .before .before .before .either) .ensures) ∙ (c .before .before .before .before .before .before .if2) .left, sym ((c .before .before .before .before .before .either2) .ensures) ∙ (c .before .before .before .before .if3) .left, sym ((c .before .before .before .either3) .ensures) ∙ (c .before .before .if4) .taken, (c .meta-of3) .ensures, (c .before .with-meta3) .ensures)
 
--- src/lib.rt:123:5
-plain-command-requires-2 : tie.Need-plain-command-requires-2
-plain-command-requires-2 c κs = search needs
-
 -- src/lib.rt:108:1
 returns-5 : tie.Need-returns-5
 unfolding commandOf
-returns-5 c = simp (sym ((c .before .before .before .before .before .before .either) .ensures) ∙ (c .before .before .before .before .before .if2) .left, sym ((c .before .before .before .before .either2) .ensures) ∙ (c .before .before .before .if3) .left, sym ((c .before .before .either3) .ensures) ∙ (c .before .if4) .left, (c .plain-command2) .ensures)
+returns-5 c = simp (sym ((c .before .before .before .before .before .either) .ensures) ∙ (c .before .before .before .before .if2) .left, sym ((c .before .before .before .either2) .ensures) ∙ (c .before .before .if3) .left, sym ((c .before .either3) .ensures) ∙ (c .if4) .left, above _ ((c .before .before .before .before .before .before .if1) .left))
 
 pub command-of-spec : {M : Type 1} → statement M
 command-of-spec =
@@ -100,5 +103,4 @@ command-of-spec =
     with-meta-requires-3
     meta-of-requires-3
     returns-4
-    plain-command-requires-2
     returns-5)
