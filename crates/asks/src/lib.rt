@@ -1,7 +1,10 @@
 // What a whole frame asks for: opcode and extras become a command, and the value is told from its extended meta.
 ghost use mathlib.Core.Path.{_≡_};
-ghost use mathlib.Core.Bool.{cond};
+ghost use mathlib.Core.Bool.{true, false, cond};
 ghost use Prim.Native.Nat.{_-_};
+ghost use lib.Dec.{eqb};
+ghost use Rattle.octets.specs.Parts.{part};
+ghost use Rattle.request.specs.Reading.{valueSpan};
 ghost use Rattle.commands.specs.Decide.{askOf};
 ghost use Rattle.asks.specs.Asks.{either, plainOf, counterOf, metaOf, plainCommand, commandOf, valueOf, requestOf};
 use commands::Ask;
@@ -17,15 +20,6 @@ fn either(op: u8, loud: u8, quiet: u8) -> bool
     ensures { λ r. ⌜ r ≡ either op loud quiet ⌝ }
 {
     (op == loud) | (op == quiet)
-}
-
-fn choose(b: bool, c: Command, rest: Command) -> Command
-    ensures { λ r. ⌜ r ≡ cond b c rest ⌝ }
-{
-    if b {
-        return c;
-    }
-    rest
 }
 
 fn plain_of(kind: Kind, extras: &[u8]) -> Command
@@ -68,47 +62,70 @@ fn meta_of(kind: Kind, w: WithMeta) -> Command
     })
 }
 
-fn stores(op: u8, extras: &[u8], rest: Command) -> Command
-    ensures { λ r. ⌜ r ≡ cond (either op 0x01 0x11) (plainOf Kind.Set (now (extras .entry)))
-        (cond (either op 0x02 0x12) (plainOf Kind.Add (now (extras .entry)))
-        (cond (either op 0x03 0x13) (plainOf Kind.Replace (now (extras .entry)))
-        (cond (either op 0x04 0x14) (plainOf Kind.Delete (now (extras .entry))) rest))) ⌝ }
+// Counters, and the commands that carry nothing.
+fn counted(op: u8, extras: &[u8]) -> Command
+    ensures { λ r. ⌜ r ≡ cond (either op 0x05 0x15) (counterOf true (now (extras .entry)))
+        (cond (either op 0x06 0x16) (counterOf false (now (extras .entry)))
+        (cond (eqb op 0x0b) Command.Version Command.Noop)) ⌝ }
 {
-    let delete = choose(either(op, 0x04, 0x14), plain_of(Kind::Delete, extras), rest);
-    let replace = choose(
-        either(op, 0x03, 0x13),
-        plain_of(Kind::Replace, extras),
-        delete,
-    );
-    let add = choose(either(op, 0x02, 0x12), plain_of(Kind::Add, extras), replace);
-    choose(either(op, 0x01, 0x11), plain_of(Kind::Set, extras), add)
+    if either(op, 0x05, 0x15) {
+        return counter_of(true, extras);
+    }
+    if either(op, 0x06, 0x16) {
+        return counter_of(false, extras);
+    }
+    if op == 0x0b {
+        return Command::Version;
+    }
+    Command::Noop
 }
 
+// A command's extras are read only once the command is known: each read past their end is a slow one. A Noop, which is
+// what's left in the end, is told early.
 fn plain_command(op: u8, extras: &[u8]) -> Command
     ensures { λ r. ⌜ r ≡ plainCommand op (now (extras .entry)) ⌝ }
 {
-    let free = choose(op == 0x0b, Command::Version, Command::Noop);
-    let down = choose(either(op, 0x06, 0x16), counter_of(false, extras), free);
-    let up = choose(either(op, 0x05, 0x15), counter_of(true, extras), down);
-    let keyed = choose(
-        either(op, 0x0c, 0x0d),
-        Command::Get(true),
-        stores(op, extras, up),
-    );
-    choose(either(op, 0x00, 0x09), Command::Get(false), keyed)
+    if either(op, 0x00, 0x09) {
+        return Command::Get(false);
+    }
+    if either(op, 0x0c, 0x0d) {
+        return Command::Get(true);
+    }
+    if op == 0x0a {
+        return Command::Noop;
+    }
+    if either(op, 0x01, 0x11) {
+        return plain_of(Kind::Set, extras);
+    }
+    if either(op, 0x02, 0x12) {
+        return plain_of(Kind::Add, extras);
+    }
+    if either(op, 0x03, 0x13) {
+        return plain_of(Kind::Replace, extras);
+    }
+    if either(op, 0x04, 0x14) {
+        return plain_of(Kind::Delete, extras);
+    }
+    counted(op, extras)
 }
 
+// The plain opcodes are all below 0xa2, and the with-meta ones are not.
 pub fn command_of(op: u8, extras: &[u8]) -> Command
     ensures { λ r. ⌜ r ≡ commandOf op (now (extras .entry)) ⌝ }
 {
-    let w = rules::with_meta(extras);
-    let delete = choose(
-        either(op, 0xa8, 0xa9),
-        meta_of(Kind::Delete, w),
-        plain_command(op, extras),
-    );
-    let add = choose(either(op, 0xa4, 0xa5), meta_of(Kind::Add, w), delete);
-    choose(either(op, 0xa2, 0xa3), meta_of(Kind::Set, w), add)
+    if op < 0xa2 {
+        return plain_command(op, extras);
+    }
+    if either(op, 0xa2, 0xa3) {
+        return meta_of(Kind::Set, rules::with_meta(extras));
+    }
+    if either(op, 0xa4, 0xa5) {
+        return meta_of(Kind::Add, rules::with_meta(extras));
+    }
+    if either(op, 0xa8, 0xa9) {
+        return meta_of(Kind::Delete, rules::with_meta(extras));
+    }
+    Command::Noop
 }
 
 fn minus(a: usize, b: usize) -> usize
@@ -120,14 +137,25 @@ fn minus(a: usize, b: usize) -> usize
     a - b
 }
 
-// The value before the extended meta, as a part of the received bytes.
+// The value before the last bytes, which are its extended meta, as a part of the received bytes.
+fn value_before(s: &[u8], h: Header, meta: usize) -> &[u8]
+    ensures { λ r. ⌜ now r ≡ part (now (s .entry)) (valueSpan h .at) (valueSpan h .len - meta) ⌝ }
+{
+    let v = request::value_span(h);
+    octets::part(s, v.at, minus(v.len, meta))
+}
+
+// The value before the extended meta, as a part of the received bytes. No opcode below 0xa2 has one, so that its shape
+// need not be looked up.
 pub fn value_of(s: &[u8], h: Header) -> &[u8]
     ensures { λ r. ⌜ now r ≡ valueOf (now (s .entry)) h ⌝ }
 {
+    if h.opcode < 0xa2 {
+        return value_before(s, h, 0);
+    }
     let extras = request::bytes_in(s, request::extras_span(h));
     let meta = rules::meta_size(shape::shape_of(h.opcode), extras);
-    let v = request::value_span(h);
-    octets::part(s, v.at, minus(v.len, meta))
+    value_before(s, h, meta)
 }
 
 pub fn ask_of(s: &[u8], h: Header) -> Ask
@@ -136,7 +164,7 @@ pub fn ask_of(s: &[u8], h: Header) -> Ask
     let shape = shape::shape_of(h.opcode);
     let extras = request::bytes_in(s, request::extras_span(h));
     let command = command_of(h.opcode, extras);
-    let value = value_of(s, h);
+    let value = value_before(s, h, rules::meta_size(shape, extras));
     let cas = h.cas;
     Ask {
         vbucket: h.vbucket,
