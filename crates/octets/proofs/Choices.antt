@@ -1,6 +1,6 @@
 -- Choices by a test, and what a test's outcome says. `not-true` and `not-false` are in borrow.Author.Tests.
-use mathlib.Core.Path.{_≡_, refl}
-use mathlib.Core.Bool.{Bool, true, false, _&&_, _||_, and-eq-true-iff, cond}
+use mathlib.Core.Path.{_≡_, refl, sym}
+use mathlib.Core.Bool.{Bool, true, false, _&&_, _||_, and-eq-true-iff, cond, false≢true}
 use mathlib.Core.Logic.{_⊎_, inl, inr}
 
 -- by the outcome of a test, with its equation
@@ -19,3 +19,7 @@ both a b e = and-eq-true-iff a b .0 e
 pub either : (a b : Bool) → (a || b) ≡ true → (a ≡ true) ⊎ (b ≡ true)
 either true b e = inl refl
 either false b e = inr e
+
+pub neither : (a b : Bool) → (a || b) ≡ false → (a ≡ false) × (b ≡ false)
+neither true b e = absurd (false≢true (sym e))
+neither false b e = (refl, e)

@@ -54,7 +54,7 @@ module _ (s : List ℕ) (at : ℕ) where
 drop-past : (q r : List ℕ) (n m : ℕ) → length q ≡ n → drop (n + m) (q ++ r) ≡ drop m r
 drop-past q r n m e = rw (← e) (drop-append-add q r m)
 
-drop-set : (s : List ℕ) (i v : ℕ) → i < length s → drop i (set s i v) ≡ v ∷ drop (suc i) s
+pub drop-set : (s : List ℕ) (i v : ℕ) → i < length s → drop i (set s i v) ≡ v ∷ drop (suc i) s
 drop-set s i v h = rw (set-split s i v h) (drop-at (take i s) (v ∷ drop (suc i) s) i (length-take-le i s (omega arith)))
 
 module _ (s : List ℕ) (at : ℕ) where

@@ -1,7 +1,7 @@
 -- Fingerprints of rows: a row's own, what it means that a key's is not among those of some rows, and one more row seen.
 use Prim.Native.Nat.{ℕ, zero, suc, _+_, _-_, _≤_, _<_}
 use mathlib.Core.Path.{_≡_, refl, sym, ap, _∙_}
-use mathlib.Core.Bool.{Bool, true, false, _&&_, _||_, and-comm}
+use mathlib.Core.Bool.{Bool, true, false, _&&_, and-comm}
 use mathlib.Core.List.{List, [], _∷_, map}
 use mathlib.Core.Option.{none, some}
 use native.Mathlib.Omega.{arith}
@@ -11,7 +11,8 @@ use borrow.Author.Tests.{eq-eqb}
 use Rattle.octets.specs.Parts.{part}
 use Rattle.octets.specs.BigEndian.{num}
 use Rattle.octets.specs.Compare.{same}
-use Rattle.octets.proofs.Choices.{cases}
+use Rattle.octets.proofs.Choices.{cases, neither}
+use Rattle.octets.proofs.Lists.{drop-set}
 use Rattle.octets.proofs.Tests.{same-true}
 use Rattle.fingerprint.specs.Fingerprint.{fingerprint, among}
 use Rattle.table.specs.Row.{Row, rowOf, keyOf, slotOf}
@@ -28,11 +29,6 @@ module _ (r : List ℕ) where
   pub print-used : (num r 0 2 ≡ 0 → ⊥) → rowPrint (rowOf r) ≡ fingerprint (part r 32 (num r 2 2))
   unfolding keyOf slotOf
   print-used e = rw (row-used r e)
-
--- neither of two tests that are false together
-neither : (a b : Bool) → (a || b) ≡ false → (a ≡ false) × (b ≡ false)
-neither true b e = absurd (let z : _≡_ {A = ℕ} 0 1 = cc in omega arith)
-neither false b e = (refl, e)
 
 -- a key whose fingerprint no row has is no row's
 pub not-among : (key : List ℕ) (i : ℕ) (ws : List Row) → among (fingerprint key) (map rowPrint ws) ≡ false → missing (findIn key i ws) ≡ true
@@ -68,11 +64,6 @@ few-distinct (suc zero) b h = alone (rowOf (take 1312 b))
 few-distinct (suc (suc n)) b h = absurd (let z : ⊥ = omega arith in z)
 
 -- ---- one more row seen
-drop-set : (xs : List ℕ) (i v : ℕ) → i < length xs → drop i (set xs i v) ≡ v ∷ drop (suc i) xs
-drop-set [] i v h = absurd (let z : ⊥ = omega arith in z)
-drop-set (x ∷ xs) zero v h = refl
-drop-set (x ∷ xs) (suc i) v h = drop-set xs i v (omega arith)
-
 module _ (s : List ℕ) (at later : ℕ) (h : 1312 ≤ at) where
   one-more : rowsOf (later + 1) (drop (at - 1312) s) ≡ rowOf (part s (at - 1312) 1312) ∷ rowsOf later (drop at s)
   one-more = let e : at - 1312 + 1312 ≡ at = omega arith in first-row s (at - 1312) later ∙ ap (λ (a : ℕ). rowOf (part s (at - 1312) 1312) ∷ rowsOf later (drop a s)) e
