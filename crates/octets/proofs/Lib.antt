@@ -2,3 +2,4 @@ pub mod Choices
 pub mod Lists
 pub mod Numbers
 pub mod Tests
+pub mod Words

@@ -100,9 +100,6 @@ pub bytes-be : (xs : List ℕ) → Bytes xs → bytesOf (length xs) (be xs) ≡ 
 unfolding bytesOf be
 bytes-be xs b = rw zero-add at (bytes-from 0 0 xs b)
 
-pub be-same : (xs ys : List ℕ) → Bytes xs → Bytes ys → length xs ≡ length ys → be xs ≡ be ys → xs ≡ ys
-be-same xs ys b d l e = sym (bytes-be xs b) ∙ (λ i. bytesOf (l i) (e i)) ∙ bytes-be ys d
-
 pub num-back : (s : List ℕ) (at n : ℕ) → Bytes s → at + n ≤ length s → bytesOf n (num s at n) ≡ part s at n
 num-back s at n b h = rw (part-length s at n h) at (bytes-be (part s at n) (bytes-part s at n b))
 

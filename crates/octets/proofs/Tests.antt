@@ -2,20 +2,16 @@
 use native.Mathlib.Omega.{arith}
 use native.Mathlib.Numerals.{add-one}
 use mathlib.Core.Path.{_≡_, refl, sym, ap, _∙_}
-use mathlib.Core.Bool.{true, false, _&&_, and-true, and-false, and-assoc, false≢true}
-use mathlib.Core.List.{List, [], _∷_, _++_}
+use mathlib.Core.Bool.{Bool, true, false, not, _&&_, _||_, and-true, and-false, and-assoc, Bool·not-not, false≢true}
+use mathlib.Core.List.{List, [], _∷_}
 use Prim.Native.Nat.{ℕ, zero, suc, _+_, _≤_, _<_}
 use lib.Dec.{eqb}
 use lib.Bits.{bitOr, or-add-and, and-le-l, and-le-r}
-use lib.ListN.{length, drop, getD, replicate, length-take, length-drop, drop-of-length-le}
+use lib.ListN.{length, drop, getD, replicate, drop-of-length-le}
 use lib.Seq.{drop-cons}
 use borrow.Author.Tests.{eqb-true, eqb-false, eq-eqb, ne-eqb}
-use Rattle.octets.specs.Parts.{Bytes, part}
-use Rattle.octets.specs.BigEndian.{num}
 use Rattle.octets.specs.Compare.{zeros, same}
 use Rattle.octets.proofs.Choices.{cases, both}
-use Rattle.octets.proofs.Lists.{bytes-part, glue-rest}
-use Rattle.octets.proofs.Numbers.{be-same}
 
 or-zero : (a b : ℕ) → eqb (bitOr a b) 0 ≡ (eqb a 0 && eqb b 0)
 or-zero a b =
@@ -67,23 +63,17 @@ same-len [] (y ∷ t) h = refl
 same-len (x ∷ s) [] h = refl
 same-len (x ∷ s) (y ∷ t) h = rw (same-len s t (λ e. h (ap suc e)), and-false)
 
-same-append : (p s t : List ℕ) → same (p ++ s) (p ++ t) ≡ same s t
+-- a number read of both that differs
+pub same-stop : (read : List ℕ → ℕ) (s t : List ℕ) (x y : ℕ) → x ≡ read s → y ≡ read t → (x ≡ y → ⊥) → same s t ≡ false
+same-stop read s t x y p q e = cases (same s t) (λ h. absurd (e (p ∙ ap read (same-true s t h) ∙ sym q))) (λ f. f)
+
+-- bytes that differ noted in `apart`: the next one, and none left
+pub same-next : (s t : List ℕ) (i : ℕ) (apart : Bool) → i < length s → i < length t
+    → (not apart && same (drop i s) (drop i t)) ≡ (not (apart || not (eqb (getD s i 0) (getD t i 0))) && same (drop (i + 1) s) (drop (i + 1) t))
 unfolding same
-same-append [] s t = refl
-same-append (x ∷ p) s t = rw (eq-eqb x x refl, same-append p s t)
+same-next s t i true h k = refl
+same-next s t i false h k = rw (add-one, drop-cons s i 0 h, drop-cons t i 0 k, Bool·not-not (eqb (getD s i 0) (getD t i 0)))
 
--- n bytes compared as the numbers x and y: the next ones equal, the next ones unequal, and none left
-module _ (s t : List ℕ) (at n x y : ℕ) (p : x ≡ num s at n) (q : y ≡ num t at n) where
-  pub same-next : Bytes s → Bytes t → length s ≡ length t → x ≡ y → same (drop at s) (drop at t) ≡ same (drop (at + n) s) (drop (at + n) t)
-  same-next b d l e =
-      let m : length (part s at n) ≡ length (part t at n) = simp (length-take, length-drop, l) in
-      let f : part s at n ≡ part t at n = be-same (part s at n) (part t at n) (bytes-part s at n b) (bytes-part t at n d) m (sym p ∙ e ∙ q) in
-      let g : part t at n ++ drop (at + n) s ≡ drop at s = rw (← f) (glue-rest s at n) in
-      (λ i. same (sym g i) (sym (glue-rest t at n) i)) ∙ same-append (part t at n) (drop (at + n) s) (drop (at + n) t)
-
-  pub same-stop : (x ≡ y → ⊥) → same s t ≡ false
-  same-stop e = cases (same s t) (λ h. absurd (e (p ∙ ap (λ (l : List ℕ). num l at n) (same-true s t h) ∙ sym q))) (λ f. f)
-
-pub same-end : (s t : List ℕ) (i : ℕ) → length s ≤ i → length t ≤ i → same (drop i s) (drop i t) ≡ true
+pub same-end : (s t : List ℕ) (i : ℕ) (apart : Bool) → length s ≤ i → length t ≤ i → (not apart && same (drop i s) (drop i t)) ≡ not apart
 unfolding same
-same-end s t i h k = rw (drop-of-length-le s h, drop-of-length-le t k)
+same-end s t i apart h k = rw (drop-of-length-le s h, drop-of-length-le t k) (and-true (not apart))

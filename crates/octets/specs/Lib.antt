@@ -1,3 +1,4 @@
 pub mod Parts
 pub mod BigEndian
 pub mod Compare
+pub mod Words

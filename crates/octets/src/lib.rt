@@ -6,6 +6,7 @@ ghost use lib.ListN.{length, drop, replicate};
 ghost use lib.Dec.{leb};
 ghost use Rattle.octets.specs.Parts.{part, pasted, written};
 ghost use Rattle.octets.specs.BigEndian.{num, bytesOf};
+ghost use Rattle.octets.specs.Words.{little, wordAt};
 ghost use Rattle.octets.specs.Compare.{zeros, same};
 
 // The bytes from a place on.
@@ -106,6 +107,26 @@ pub fn be64(s: &[u8], at: usize) -> u64
     number_there(s, at, 8)
 }
 
+// Four bytes, the first one the lowest.
+fn quarter(s: &[u8], at: usize) -> u64
+    requires { ⌜ at + 4 ≤ length (now s) ⌝ }
+    ensures { λ r. ⌜ (r ≡ little (part (now (s .entry)) at 4)) × (r < 4294967296) ⌝ }
+{
+    wide(s[at]) + 256 * wide(s[at + 1]) + 65536 * wide(s[at + 2]) + 16777216 * wide(s[at + 3])
+}
+
+// The eight bytes at a place as the machine loads them, for comparing and mixing: one load, with no bytes turned.
+pub fn word(s: &[u8], at: usize) -> u64
+    ensures { λ r. ⌜ r ≡ wordAt (now (s .entry)) at ⌝ }
+{
+    if !fits(s.len(), at, 8) {
+        return 0;
+    }
+    let low = quarter(s, at);
+    let high = quarter(s, at + 4);
+    low + 4294967296 * high
+}
+
 // Writes the n lowest bytes of a number from its last byte to its first.
 fn paste_be(out: &mut [u8], at: usize, n: usize, v: u64)
     requires { ⌜ at + n ≤ length (now out) ⌝ }
@@ -169,25 +190,32 @@ pub fn all_zero(s: &[u8]) -> bool
     seen == 0
 }
 
-// Whether two slices hold the same bytes: eight at a time, which is one load each, then those that are left one by one.
+// Whether two slices of one length hold the same bytes. With no way out of its loop it is compiled to vector code.
+fn all_same(s: &[u8], t: &[u8]) -> bool
+    requires { ⌜ length (now s) ≡ length (now t) ⌝ }
+    ensures { λ r. ⌜ r ≡ same (now (s .entry)) (now (t .entry)) ⌝ }
+{
+    let mut apart = false;
+    let mut i = 0;
+    while i < s.len() {
+        apart = apart | (s[i] != t[i]);
+        i += 1;
+    }
+    !apart
+}
+
+// Whether two slices hold the same bytes: the last eight first, since keys that begin alike differ at their end.
 pub fn same(s: &[u8], t: &[u8]) -> bool
     ensures { λ r. ⌜ r ≡ same (now (s .entry)) (now (t .entry)) ⌝ }
 {
     if s.len() != t.len() {
         return false;
     }
-    let mut at = 0;
-    while 8 <= s.len() - at {
-        if be64(s, at) != be64(t, at) {
+    if 8 <= s.len() {
+        let last = s.len() - 8;
+        if word(s, last) != word(t, last) {
             return false;
         }
-        at += 8;
     }
-    while at < s.len() {
-        if byte(s, at) != byte(t, at) {
-            return false;
-        }
-        at += 1;
-    }
-    true
+    all_same(s, t)
 }
