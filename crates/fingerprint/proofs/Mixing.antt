@@ -1,4 +1,4 @@
--- Laws of specs/Fingerprint.antt: a step fits in 64 bits, one step of eight bytes, and one more fingerprint looked at.
+-- Laws of specs/Fingerprint.antt: a step fits in 64 bits, the cases of a key's length, one step of sixteen bytes, and one more fingerprint looked at.
 use Prim.Native.Nat.{ℕ, suc, _+_, _-_, _*_, _/_, _%_, _^_, _≤_, _<_}
 use mathlib.Core.Path.{_≡_, sym, ap, _∙_}
 use mathlib.Core.Bool.{Bool, _||_, or-assoc, or-false}
@@ -9,8 +9,11 @@ use native.Mathlib.Numerals.{add-one}
 use lib.Dec.{eqb}
 use lib.ListN.{length, drop, getD, drop-of-length-le}
 use lib.Seq.{drop-cons, drop-drop}
+use borrow.Author.Tests.{le-leb, lt-leb, lt-ltb, le-ltb}
+use Rattle.octets.specs.Parts.{part}
 use Rattle.octets.specs.BigEndian.{num}
-use Rattle.fingerprint.specs.Fingerprint.{mixed, mixedOver, folded, fingerprint, among}
+use Rattle.octets.specs.Words.{wordAt}
+use Rattle.fingerprint.specs.Fingerprint.{turned, mixed, pair, mixedOver, mixedAll, folded, fingerprint, among}
 
 fits : (m q : ℕ) → m < 2 ^ 59 → q < 32 → m * 32 + q < 2 ^ 64
 fits m q h k = omega arith
@@ -18,23 +21,34 @@ fits m q h k = omega arith
 pub turned-fits : (p : ℕ) → p < 2 ^ 64 → p % 2 ^ 59 * 32 + p / 2 ^ 59 < 2 ^ 64
 turned-fits p h = fits (p % 2 ^ 59) (p / 2 ^ 59) (mod-lt p (omega arith)) (div-lt-iff-lt-mul {k = 2 ^ 59} (omega arith) .1 h)
 
--- what is left of a key, in steps of eight bytes
+module _ (key : List ℕ) where
+  pub short : length key ≤ 8 → fingerprint key ≡ folded (num key 0 8)
+  unfolding fingerprint
+  short h = rw (le-leb (length key) 8 h)
+
+  pub middle : 8 < length key → length key < 16 → fingerprint key ≡ folded (mixed (wordAt key 0) (wordAt key (length key - 8)))
+  unfolding fingerprint
+  middle h k = rw (lt-leb (length key) 8 h, lt-ltb (length key) 16 k)
+
+-- what is left of a key before its last sixteen bytes, in steps of sixteen
 abbrev pub left : List ℕ → ℕ → ℕ → ℕ
-left key at p = mixedOver ((length key - at) / 8 + 1) p (drop at key)
+left key at p = mixedOver ((length key - 16 - at + 15) / 16) p (drop at key)
 
-pub first-step : (key : List ℕ) → fingerprint key ≡ folded (left key 0 0)
-unfolding fingerprint
-first-step key = let e : length key - 0 ≡ length key = omega arith in rw e
+pub first-step : (key : List ℕ) → 16 ≤ length key → fingerprint key ≡ folded (left key 0 (pair (drop (length key - 16) key)))
+unfolding fingerprint mixedAll
+first-step key h =
+    let e : length key - 1 ≡ length key - 16 - 0 + 15 = omega arith in
+    rw (lt-leb (length key) 8 (omega arith), le-ltb (length key) 16 h, e)
 
-pub next-step : (key : List ℕ) (at p : ℕ) → 8 ≤ length key - at → left key at p ≡ left key (at + 8) (mixed p (num key at 8))
+pub next-step : (key : List ℕ) (at p : ℕ) → at < length key - 16 → left key at p ≡ left key (at + 16) (mixed (turned p) (pair (part key at 16)))
 unfolding mixedOver
 next-step key at p h =
-    let e : (length key - at) / 8 + 1 ≡ suc ((length key - (at + 8)) / 8 + 1) = omega arith in
-    ap (λ (n : ℕ). mixedOver n p (drop at key)) e ∙ ap (mixedOver ((length key - (at + 8)) / 8 + 1) (mixed p (num key at 8))) (drop-drop 8 at key)
+    let e : (length key - 16 - at + 15) / 16 ≡ suc ((length key - 16 - (at + 16) + 15) / 16) = omega arith in
+    ap (λ (n : ℕ). mixedOver n p (drop at key)) e ∙ ap (mixedOver ((length key - 16 - (at + 16) + 15) / 16) (mixed (turned p) (pair (part key at 16)))) (drop-drop 16 at key)
 
-pub last-step : (key : List ℕ) (at p : ℕ) → length key - at < 8 → left key at p ≡ mixed p (num key at 8)
+pub last-step : (key : List ℕ) (at p : ℕ) → length key - 16 ≤ at → left key at p ≡ p
 unfolding mixedOver
-last-step key at p h = let e : (length key - at) / 8 + 1 ≡ suc 0 = omega arith in ap (λ (n : ℕ). mixedOver n p (drop at key)) e
+last-step key at p h = let e : (length key - 16 - at + 15) / 16 ≡ 0 = omega arith in ap (λ (n : ℕ). mixedOver n p (drop at key)) e
 
 pub among-next : (p : ℕ) (qs : List ℕ) (i : ℕ) (found : Bool) → i < length qs → (found || among p (drop i qs)) ≡ ((found || eqb (getD qs i 0) p) || among p (drop (i + 1) qs))
 unfolding among

@@ -1,13 +1,26 @@
 // Fingerprints: a number that equal keys share, so that two keys are compared only where their fingerprints agree.
 ghost use mathlib.Core.Path.{_≡_};
-ghost use Rattle.fingerprint.specs.Fingerprint.{mixed, folded, fingerprint, among};
+ghost use Rattle.fingerprint.specs.Fingerprint.{turned, mixed, pair, folded, fingerprint, bucketOf, among};
 
-// The bits of p turned by five, and w added: one step over eight bytes.
+// The bits of p turned by five.
+fn turned(p: u64) -> u64
+    ensures { λ r. ⌜ r ≡ turned p ⌝ }
+{
+    p % 576460752303423488 * 32 + p / 576460752303423488
+}
+
+// p turned, and w added.
 fn mix(p: u64, w: u64) -> u64
     ensures { λ r. ⌜ r ≡ mixed p w ⌝ }
 {
-    let turned = p % 576460752303423488 * 32 + p / 576460752303423488;
-    std::num::wrapping_add_u64(turned, w)
+    std::num::wrapping_add_u64(turned(p), w)
+}
+
+// The first sixteen bytes, as two words.
+fn pair(s: &[u8]) -> u64
+    ensures { λ r. ⌜ r ≡ pair (now (s .entry)) ⌝ }
+{
+    mix(octets::word(s, 0), octets::word(s, 8))
 }
 
 // The two halves added: 32 bits are quicker to compare.
@@ -17,16 +30,32 @@ fn folded(p: u64) -> u32
     ((p / 4294967296 + p % 4294967296) % 4294967296) as u32
 }
 
+// Sixteen bytes a step, which are cut out first so that each word is one load with no test.
 pub fn of_key(key: &[u8]) -> u32
     ensures { λ r. ⌜ r ≡ fingerprint (now (key .entry)) ⌝ }
 {
-    let mut p: u64 = 0;
-    let mut at: usize = 0;
-    while 8 <= key.len() - at {
-        p = mix(p, octets::be64(key, at));
-        at += 8;
+    if key.len() <= 8 {
+        return folded(octets::be64(key, 0));
     }
-    folded(mix(p, octets::be64(key, at)))
+    if key.len() < 16 {
+        return folded(mix(octets::word(key, 0), octets::word(key, key.len() - 8)));
+    }
+    let last = key.len() - 16;
+    let mut p = pair(&key[last..]);
+    let mut at: usize = 0;
+    while at < last {
+        let end = at + 16;
+        p = mix(turned(p), pair(&key[at..end]));
+        at = end;
+    }
+    folded(p)
+}
+
+// Which of 1,024 buckets a fingerprint falls in.
+pub fn bucket(p: u32) -> usize
+    ensures { λ r. ⌜ r ≡ bucketOf p ⌝ }
+{
+    (p as u64 * 2654435761 / 4194304 % 1024) as usize
 }
 
 // Whether p is one of these. Nothing ends the loop early, so that it vectorises.

@@ -1,20 +1,19 @@
+use Prim.Native.Nat.{ℕ, _+_, _%_, _^_}
+use mathlib.Core.Path.{ap, _∙_}
 use Rattle.fingerprint.specs.Fingerprint.{mixed}
-use Rattle.fingerprint.proofs.Mixing.{turned-fits}
 use borrow.Author.Needs.{needs}
 use Rattle.fingerprint.proofs.mix.Statement.{statement}
 use Rattle.fingerprint.proofs.mix.Tie as tie
 
-mul-turned : tie.Need-mul-turned
-mul-turned c = search needs
-
-add-turned : tie.Need-add-turned
-add-turned c = record { fits = turned-fits _ (c .fits .p .fits) }
+turned-requires : tie.Need-turned-requires
+turned-requires c κs = search needs
 
 wrapping-add-u64-requires : tie.Need-wrapping-add-u64-requires
 wrapping-add-u64-requires c κs = search needs
 
 returns : tie.Need-returns
-returns c = unfold mixed in c .wrapping-add-u64 .ensures
+unfolding mixed
+returns c = c .wrapping-add-u64 .ensures ∙ ap (λ (t : ℕ). (t + c .before .before .args .w) % 2 ^ 64) (c .before .turned .ensures)
 
 pub mix-spec : {M : Type 1} → statement M
-mix-spec = tie.close (tie.spec mul-turned add-turned wrapping-add-u64-requires returns)
+mix-spec = tie.close (tie.spec turned-requires wrapping-add-u64-requires returns)
