@@ -1,51 +1,42 @@
 -- The claims of specs/Claims.antt.
 use native.Mathlib.Omega.{arith}
 use mathlib.Core.Path.{_≡_, refl, sym, ap, _∙_}
-use mathlib.Core.Logic.{_⊎_, ⊎-elim}
 use mathlib.Core.Bool.{Bool, true, false, cond}
-use mathlib.Core.List.{List, [], _∷_}
+use mathlib.Core.List.{List, []}
 use mathlib.Core.Option.{Option, none, some}
 use Prim.Native.Nat.{ℕ, zero, suc, _+_, _*_, _≤_, _<_}
 use lib.Dec.{eqb}
 use lib.ListN.{length, take, drop, getD, List·getD-map}
-use lib.Seq.{take-take, drop-drop}
+use lib.Seq.{drop-drop}
 use borrow.Author.Tests.{lt-ltb}
 use Rattle.octets.specs.Parts.{part}
 use Rattle.octets.specs.BigEndian.{be, beFrom}
-use Rattle.octets.specs.Compare.{same, zeros}
+use Rattle.octets.specs.Compare.{zeros}
 use Rattle.octets.proofs.Choices.{cases, both, cond-elim}
-use Rattle.octets.proofs.Tests.{same-true}
 use Rattle.numbers.specs.declared.Numbers.{Numbers}
 use Rattle.engine.specs.Documents.{Key, Doc, Entry}
 use Rattle.engine.specs.Stored.{heldOf, storedOf, live}
 use Rattle.engine.specs.declared.Stored.the-variants.{Used}
 use Rattle.table.specs.declared.Found.the-variants.{At}
-use Rattle.table.specs.Row.{Row, slotOf, docOf, keyOf, rowOf}
+use Rattle.table.specs.Row.{slotOf, docOf, keyOf, rowOf}
 use Rattle.table.specs.Table.{headOf, chunks, rowCount, rowsOf, tableOf, fresh}
 use Rattle.table.specs.Lookup.{findIn}
 use Rattle.table.specs.Damage.{usedOk, rowSound, allSound, sound}
 use Rattle.table.specs.Store.{rowAt, valueAt}
 use Rattle.table.specs.Plain.{findRow}
 use Rattle.table.specs.Purge.{purgedTable}
-use Rattle.table.specs.Claims.{AllGood}
 use Rattle.table.proofs.RowLaws.{Used as UsedSlot, used-parts}
 use Rattle.table.proofs.PlainLaws.{none-some}
 use Rattle.table.proofs.Places.{founds, find-place, find-nothing}
-use Rattle.table.proofs.TableLaws.{sound-parts, sound-good, good-sound, length-rows}
+use Rattle.table.proofs.TableLaws.{sound-parts, sound-good, good-sound, length-rows, no-key}
 use Rattle.table.proofs.ChangeLaws.{purge-good, fresh-good}
 use Rattle.table.proofs.Rows.{row-there}
+use Rattle.table.proofs.Heads.{part-in}
 use Rattle.owner.specs.declared.Document.the-variants.{Live}
 use Rattle.owner.specs.Owner.{shown, goneDoc, purgedBytes, makeOk}
 use Rattle.owner.specs.Claims.{ReadShows, ReadMisses, NoSuchKey, PurgeSound, MakeSound}
 use Rattle.owner.proofs.Making.{accepted, refused, in-range}
 use Rattle.owner.proofs.Reading.{row-over, row-live, read-sound}
-
--- a part of a part
-part-in : (s : List ℕ) (a v n : ℕ) → a + v ≤ n → part (take n s) a v ≡ part s a v
-part-in s zero v n h = take-take v n s (omega arith)
-part-in s (suc a) v zero h = absurd (omega arith)
-part-in [] (suc a) v (suc n) h = refl
-part-in (x ∷ s) (suc a) v (suc n) h = part-in s a v n (omega arith)
 
 -- a used row, by what its bytes say
 module _ (r : List ℕ) where
@@ -156,17 +147,6 @@ read-misses b clock key y s e =
     (λ t. none-some d (sym e ∙ ap (kept clock) (k .found) ∙ kept-live clock d t))
     (λ t. t)))
     (λ f. ap (shown b clock) f)
-
--- every key of a good table has 1 to 250 bytes
-no-key : (mark : ℕ) (ws : List Row) (key : Key) → AllGood mark ws → (length key ≡ 0) ⊎ (250 < length key) → findRow ws key ≡ none
-no-key mark [] key g h = refl
-no-key mark (none ∷ ws) key g h = no-key mark ws key g h
-no-key mark (some x ∷ ws) key g h =
-    cases (same (x .key) key)
-    (λ s.
-    let l : length (x .key) ≡ length key = ap length (same-true (x .key) key s) in
-    ⊎-elim (λ z. absurd (omega (arith, g .0 .key-least))) (λ z. absurd (omega (arith, g .0 .key-most))) h)
-    (λ s. rw s (no-key mark ws key (g .1) h))
 
 pub no-such-key : NoSuchKey
 no-such-key b clock key y s h =

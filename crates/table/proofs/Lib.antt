@@ -5,5 +5,8 @@ pub mod TableLaws
 pub mod ChangeLaws
 pub mod PurgeBytes
 pub mod Rows
+pub mod Buckets
 pub mod Prints
+pub mod Heads
 pub mod Writes
+pub mod Storing

@@ -1,4 +1,4 @@
--- Fingerprints of rows: a row's own, what it means that a key's is not among those of some rows, and one more row seen.
+-- Fingerprints of rows: a row's own, what it means that a key's is not among those of some rows, and one more row seen, with its bucket.
 use Prim.Native.Nat.{ℕ, zero, suc, _+_, _-_, _≤_, _<_}
 use mathlib.Core.Path.{_≡_, refl, sym, ap, _∙_}
 use mathlib.Core.Bool.{Bool, true, false, _&&_, and-comm}
@@ -6,21 +6,22 @@ use mathlib.Core.List.{List, [], _∷_, map}
 use mathlib.Core.Option.{none, some}
 use native.Mathlib.Omega.{arith}
 use lib.Dec.{eqb}
-use lib.ListN.{length, take, drop, set}
-use borrow.Author.Tests.{eq-eqb}
+use lib.ListN.{length, take, drop, getD, set}
+use borrow.Author.Tests.{eq-eqb, eqb-true, eqb-false}
 use Rattle.octets.specs.Parts.{part}
 use Rattle.octets.specs.BigEndian.{num}
 use Rattle.octets.specs.Compare.{same}
 use Rattle.octets.proofs.Choices.{cases, neither}
 use Rattle.octets.proofs.Lists.{drop-set}
 use Rattle.octets.proofs.Tests.{same-true}
-use Rattle.fingerprint.specs.Fingerprint.{fingerprint, among}
+use Rattle.fingerprint.specs.Fingerprint.{fingerprint, bucketOf, among}
 use Rattle.table.specs.Row.{Row, rowOf, keyOf, slotOf}
 use Rattle.table.specs.Table.{rowsOf}
 use Rattle.table.specs.Lookup.{findIn, missing}
 use Rattle.table.specs.Damage.{distinct}
 use Rattle.table.specs.Print.{rowPrint}
-use Rattle.table.proofs.Rows.{row-free, row-used, first-row, distinct-used}
+use Rattle.table.proofs.Rows.{row-free, row-used, first-row, distinct-free, distinct-used}
+use Rattle.table.proofs.Buckets.{seenIn, unseen}
 
 module _ (r : List ℕ) where
   pub print-free : num r 0 2 ≡ 0 → rowPrint (rowOf r) ≡ 0
@@ -83,3 +84,20 @@ module _ (s : List ℕ) (at later : ℕ) (h : 1312 ≤ at) where
   apart-next apart r e f =
       let a : at - 1312 + 1312 ≡ at = omega arith in
       and-comm apart r ∙ ap (λ (t : Bool). r && t) (e ∙ sym (ap (λ (m : ℕ). distinct (rowsOf later (drop m s))) a)) ∙ f
+
+  -- the row's bucket noted, and what it says of a row that no later one noted it
+  module _ (seen : List ℕ) (p b : ℕ) (e : b ≡ bucketOf p) (f : p ≡ rowPrint (rowOf (part s (at - 1312) 1312))) (g : seen ≡ seenIn (map rowPrint (rowsOf later (drop at s)))) where
+    pub seen-next : set seen b 1 ≡ seenIn (map rowPrint (rowsOf (later + 1) (drop (at - 1312) s)))
+    unfolding seenIn
+    seen-next = (λ i. set (g i) ((e ∙ ap bucketOf f) i) 1) ∙ sym (ap (λ (ws : List Row). seenIn (map rowPrint ws)) one-more)
+
+    pub apart-unseen : getD seen b 0 ≡ 0 → distinct (rowsOf later (drop at s)) ≡ distinct (rowsOf (later + 1) (drop (at - 1312) s))
+    apart-unseen z =
+        let a : at - 1312 + 1312 ≡ at = omega arith in
+        let r = part s (at - 1312) 1312 in
+        let none : among (rowPrint (rowOf r)) (map rowPrint (rowsOf later (drop at s))) ≡ false =
+        unseen (rowPrint (rowOf r)) _ ((λ i. getD (sym g i) (sym (e ∙ ap bucketOf f) i) 0) ∙ z) in
+        sym (ap (λ (m : ℕ). distinct (rowsOf later (drop m s))) a)
+        ∙ cases (eqb (num r 0 2) 0)
+        (λ t. distinct-free s (at - 1312) later (eqb-true (num r 0 2) 0 t))
+        (λ t. distinct-unprinted s (at - 1312) later (eqb-false (num r 0 2) 0 t) (ap (λ (m : ℕ). among (rowPrint (rowOf r)) (map rowPrint (rowsOf later (drop m s)))) a ∙ none))

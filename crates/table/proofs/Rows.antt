@@ -7,13 +7,14 @@ use mathlib.Core.Option.{none, some}
 use native.Mathlib.Omega.{arith}
 use native.Mathlib.Numerals.{add-one}
 use lib.Dec.{eqb, leb}
-use lib.ListN.{length, drop, getD}
+use lib.ListN.{length, take, drop, getD}
 use lib.Seq.{drop-drop}
 use borrow.Author.Tests.{leb-true, eqb-true, eqb-false, ne-eqb}
 use Rattle.octets.specs.Parts.{part}
 use Rattle.octets.specs.BigEndian.{num, be, beFrom}
 use Rattle.octets.specs.Compare.{same, zeros}
 use Rattle.octets.proofs.Choices.{cases, both}
+use Rattle.octets.proofs.Lists.{part-length}
 use Rattle.table.specs.declared.Found.the-variants.{At}
 use Rattle.engine.specs.declared.Head.{Head}
 use Rattle.table.specs.Row.{slotOf, docOf, keyOf, rowOf}
@@ -24,6 +25,10 @@ use Rattle.table.specs.Store.{rowAt}
 
 pub none-left : (n : ℕ) (b : List ℕ) → n ≤ 0 → chunks n b ≡ []
 none-left n b h = let e : n ≡ 0 = omega arith in rw e
+
+-- a row cut from its place to its end
+pub row-cut : (s : List ℕ) (at : ℕ) → take (at + 1312 - at) (drop at s) ≡ part s at 1312
+row-cut s at = let e : at + 1312 - at ≡ 1312 = omega arith in rw e
 
 module _ (s : List ℕ) (at n : ℕ) (h : 0 < n) where
   pub one-row : chunks n (drop at s) ≡ part s at 1312 ∷ chunks (n - 1) (drop (at + 1312) s)
@@ -99,6 +104,9 @@ chunk-none (suc n) (suc i) b h = chunk-none n i (drop 1312 b) (omega arith)
 module _ (b : List ℕ) (i : ℕ) where
   pub row-there : i < rowCount b → rowAt b i ≡ part b (16 + i * 1312) 1312
   row-there h = chunk-at (rowCount b) i (drop 16 b) h ∙ rw (drop-drop (i * 1312) 16 b)
+
+  pub row-size : i < rowCount b → length (rowAt b i) ≡ 1312
+  row-size h = ap length (row-there h) ∙ part-length b (16 + i * 1312) 1312 (omega arith)
 
   pub row-nowhere : rowCount b ≤ i → rowAt b i ≡ []
   row-nowhere h = chunk-none (rowCount b) i (drop 16 b) h

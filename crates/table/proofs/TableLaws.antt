@@ -1,6 +1,7 @@
 -- A table's bytes and what they say, both ways: sound bytes are the bytes of a good table.
 use native.Mathlib.Omega.{arith}
 use mathlib.Core.Path.{_≡_, refl, sym, ap, _∙_}
+use mathlib.Core.Logic.{_⊎_, inl, ⊎-elim}
 use mathlib.Core.Bool.{true, _&&_, true≢false}
 use mathlib.Core.List.{List, [], _∷_, _++_}
 use mathlib.Core.Option.{none, some}
@@ -11,9 +12,12 @@ use lib.Dec.{eqb, leb}
 use borrow.Author.Tests.{leb-true, eqb-true, le-leb, eq-eqb}
 use Rattle.octets.specs.Parts.{Bytes, part}
 use Rattle.octets.specs.BigEndian.{bytesOf}
-use Rattle.octets.proofs.Choices.{both}
+use Rattle.octets.specs.Compare.{same}
+use Rattle.octets.proofs.Choices.{cases, both}
 use Rattle.octets.proofs.Lists.{bytes-take, bytes-drop, glue, glue-rest}
 use Rattle.octets.proofs.Numbers.{be-bytes, num-back, num-below}
+use Rattle.octets.proofs.Tests.{same-true}
+use Rattle.engine.specs.Documents.{Key}
 use Rattle.engine.specs.declared.Head.{Head}
 use Rattle.table.specs.declared.Found.{Found}
 use Rattle.table.specs.declared.Found.the-variants.{At, Nothing}
@@ -21,7 +25,7 @@ use Rattle.table.specs.Row.{Row, rowOf, rowBytes}
 use Rattle.table.specs.Table.{Table, headOf, chunks, rowCount, rowsOf, tableOf, headBytes, rowsBytes, tableBytes}
 use Rattle.table.specs.Lookup.{findIn, missing}
 use Rattle.table.specs.Damage.{sizeOk, headOk, rowSound, allSound, distinct, sound}
-use Rattle.table.specs.Plain.{Distinct}
+use Rattle.table.specs.Plain.{findRow, Distinct}
 use Rattle.table.specs.Claims.{AllGood, Good, SoundGood, GoodSound}
 use Rattle.table.proofs.Places.{find-nothing, nothing-find}
 use Rattle.table.proofs.RowLaws.{RowGood, row-length, row-read, row-sound, row-back}
@@ -181,6 +185,20 @@ sound-good b y e =
         keys = distinct-keys (rowsOf (rowCount b) (drop 16 b)) (s .keys);
       },
     )
+
+-- every key of a good table has 1 to 250 bytes
+pub no-key : (mark : ℕ) (ws : List Row) (key : Key) → AllGood mark ws → (length key ≡ 0) ⊎ (250 < length key) → findRow ws key ≡ none
+no-key mark [] key g h = refl
+no-key mark (none ∷ ws) key g h = no-key mark ws key g h
+no-key mark (some x ∷ ws) key g h =
+    cases (same (x .key) key)
+    (λ s.
+    let l : length (x .key) ≡ length key = ap length (same-true (x .key) key s) in
+    ⊎-elim (λ z. absurd (omega (arith, g .0 .key-least))) (λ z. absurd (omega (arith, g .0 .key-most))) h)
+    (λ s. rw s (no-key mark ws key (g .1) h))
+
+pub empty-key : (b : List ℕ) → Bytes b → sound b ≡ true → (key : List ℕ) → length key ≡ 0 → findIn key 0 (tableOf b .rows) ≡ Nothing
+empty-key b y s key e = nothing-find key 0 (tableOf b .rows) (no-key (tableOf b .head .mark .0) (tableOf b .rows) key (sound-good b y s .1 .rows) (inl e))
 
 -- a good table is read back from its bytes
 module _ (t : Table) (g : Good t) where

@@ -1,57 +1,72 @@
--- What writing a row and a mark leaves.
+-- What writing an entry over a row, and a mark, leaves.
 use Prim.Native.Nat.{ℕ, _+_, _-_, _*_, _≤_, _<_}
-use mathlib.Core.Path.{_≡_, refl, ap, _∙_}
+use mathlib.Core.Path.{_≡_, refl, sym, ap, _∙_}
 use mathlib.Core.Bool.{false, and-false}
 use mathlib.Core.List.{List, _++_}
-use mathlib.Core.Option.{some}
 use native.Mathlib.Omega.{arith}
+use native.Mathlib.Nat.{add-assoc}
 use lib.Dec.{leb}
-use lib.ListN.{length, replicate, length-append, length-replicate}
+use lib.ListN.{length, take, drop, replicate}
+use lib.Seq.{drop-drop}
+use borrow.Rule.Slice.PartMut.{putMid}
 use borrow.Author.Tests.{lt-ltb, le-ltb, le-leb}
 use Rattle.octets.specs.Parts.{pasted, written}
 use Rattle.octets.specs.BigEndian.{bytesOf}
-use Rattle.octets.proofs.Lists.{length-pasted, length-written, written-fits, then, then-two}
+use Rattle.octets.proofs.Lists.{length-pasted, length-written, written-none, written-fits, then-two}
 use Rattle.octets.proofs.Numbers.{length-bytes}
 use Rattle.engine.specs.Documents.{Entry}
-use Rattle.table.specs.Row.{sizeBytes, shortBytes, longBytes, slotBytes, slotFor, usedBytes, rowBytes}
+use Rattle.table.specs.Row.{sizeBytes, shortBytes, longBytes, slotBytes, slotFor}
 use Rattle.table.specs.Table.{rowCount}
-use Rattle.table.specs.Store.{stored}
+use Rattle.table.specs.Store.{rowAt, overBytes, storedOver}
+use Rattle.table.proofs.Rows.{row-cut, row-there, row-size}
 
-module _ (e : Entry) (room : length (e .key) + length (e .doc .value) ≤ 1280) where
-  length-used : length (rowBytes (some e)) ≡ 1312
-  unfolding rowBytes usedBytes slotBytes sizeBytes shortBytes longBytes bytesOf
-  length-used = simp (length-append, length-replicate) (omega arith)
+-- the writes over a row: the fixed part, the key, the value, and zeros where more was in use
+module _ (e : Entry) (room : length (e .key) + length (e .doc .value) ≤ 1280) (used : ℕ) (s0 s1 s2 s3 : List ℕ) (l : length s0 ≡ 1312)
+    (p : s1 ≡ written s0 0 (slotBytes (slotFor e))) (q : s2 ≡ written s1 32 (e .key)) (r : s3 ≡ written s2 (32 + length (e .key)) (e .doc .value)) where
+  row-put : s3 ≡ written s0 0 (slotBytes (slotFor e) ++ (e .key ++ e .doc .value))
+  unfolding slotBytes sizeBytes shortBytes longBytes bytesOf
+  row-put = then-two s0 s1 s2 s3 0 32 (32 + length (e .key)) (slotBytes (slotFor e)) (e .key) (e .doc .value) p q r refl refl (omega arith)
 
-  -- a row's four writes: the fixed part, the key, the value and zeros
-  pub row-put : (s0 s1 s2 s3 s4 : List ℕ) (at : ℕ) → at + 1312 ≤ length s0
-      → s1 ≡ written s0 at (slotBytes (slotFor e)) → s2 ≡ written s1 (at + 32) (e .key) → s3 ≡ written s2 (at + 32 + length (e .key)) (e .doc .value)
-      → s4 ≡ written s3 (at + 32 + length (e .key) + length (e .doc .value)) (replicate (1280 - (length (e .key) + length (e .doc .value))) 0)
-      → s4 ≡ pasted s0 at (rowBytes (some e))
-  unfolding rowBytes usedBytes slotBytes sizeBytes shortBytes longBytes bytesOf
-  row-put s0 s1 s2 s3 s4 at h p q r t =
-      let k = e .key in
-      let v = e .doc .value in
-      let pad = replicate {A = ℕ} (1280 - (length k + length v)) 0 in
-      let z : length pad ≡ 1280 - (length k + length v) = length-replicate (1280 - (length k + length v)) 0 in
-      let l : length (v ++ pad) ≡ length v + length pad = length-append v pad in
-      let m : length s2 ≡ length s0 = ap length q ∙ length-written s1 (at + 32) k ∙ ap length p ∙ length-written s0 at (slotBytes (slotFor e)) in
-      let f : s4 ≡ written s2 (at + 32 + length k) (v ++ pad) = then s2 s3 s4 (at + 32 + length k) (at + 32 + length k + length v) v pad r t refl (omega arith) in
-      then-two s0 s1 s2 s4 at (at + 32) (at + 32 + length k) (slotBytes (slotFor e)) k (v ++ pad) p q f refl refl (omega arith)
-      ∙ written-fits s0 at (usedBytes e) (omega (arith, length-used))
+  pub row-zeroed : (s4 : List ℕ) → s4 ≡ written s3 (32 + length (e .key) + length (e .doc .value)) (replicate (used - (length (e .key) + length (e .doc .value))) 0) → s4 ≡ overBytes s0 e used
+  unfolding overBytes
+  row-zeroed s4 t = t ∙ rw (row-put, add-assoc 32 (length (e .key)) (length (e .doc .value)))
 
-module _ (b : List ℕ) (i : ℕ) (e : Entry) (mark : ℕ) where
-  pub store-nowhere : rowCount b ≤ i → b ≡ stored b i e mark
-  unfolding stored
+  pub row-over : used ≤ length (e .key) + length (e .doc .value) → s3 ≡ overBytes s0 e used
+  unfolding overBytes
+  row-over h =
+      let z : used - (length (e .key) + length (e .doc .value)) ≡ 0 = omega arith in
+      let m : length s3 ≡ 1312 = ap length row-put ∙ length-written s0 0 (slotBytes (slotFor e) ++ (e .key ++ e .doc .value)) ∙ l in
+      rw (z, ← row-put) (sym (written-none s3 (32 + (length (e .key) + length (e .doc .value))) (omega arith)))
+
+length-over : (r : List ℕ) (e : Entry) (used : ℕ) → length (overBytes r e used) ≡ length r
+unfolding overBytes
+length-over r e used =
+    let body = slotBytes (slotFor e) ++ (e .key ++ e .doc .value) in
+    length-written (written r 0 body) (32 + (length (e .key) + length (e .doc .value))) (replicate (used - (length (e .key) + length (e .doc .value))) 0)
+    ∙ length-written r 0 body
+
+module _ (b : List ℕ) (i : ℕ) (e : Entry) (mark used : ℕ) where
+  pub store-nowhere : rowCount b ≤ i → b ≡ storedOver b i e mark used
+  unfolding storedOver
   store-nowhere h = rw (le-ltb i (rowCount b) h)
 
-  pub store-unfit : leb (length (e .key) + length (e .doc .value)) 1280 ≡ false → b ≡ stored b i e mark
-  unfolding stored
+  pub store-unfit : leb (length (e .key) + length (e .doc .value)) 1280 ≡ false → b ≡ storedOver b i e mark used
+  unfolding storedOver
   store-unfit f = rw (f, and-false)
 
-  -- a row and then the mark
-  pub store-put : i < rowCount b → length (e .key) + length (e .doc .value) ≤ 1280 → (s1 s2 : List ℕ) → s1 ≡ pasted b (16 + i * 1312) (rowBytes (some e)) → s2 ≡ written s1 8 (bytesOf 8 mark) → s2 ≡ stored b i e mark
-  unfolding stored
-  store-put h room s1 s2 p q =
-      let l : length (rowBytes (some e)) ≡ 1312 = length-used e room in
-      let m : length s1 ≡ length b = ap length p ∙ length-pasted b (16 + i * 1312) (rowBytes (some e)) (omega arith) in
-      q ∙ written-fits s1 8 (bytesOf 8 mark) (omega (arith, length-bytes 8 mark)) ∙ rw (lt-ltb i (rowCount b) h, le-leb (length (e .key) + length (e .doc .value)) 1280 room, p)
+  -- the row is lent, comes back with the entry over it, and then the mark is written
+  module _ (h : i < rowCount b) (room : length (e .key) + length (e .doc .value) ≤ 1280) where
+    abbrev at : ℕ
+    at = 16 + i * 1312
+
+    pub store-put : (r s : List ℕ) → r ≡ overBytes (take (at + 1312 - at) (drop at b)) e used → s ≡ written (putMid at (at + 1312 - at) b r) 8 (bytesOf 8 mark) → s ≡ storedOver b i e mark used
+    unfolding storedOver pasted
+    store-put r s p q =
+        let o = overBytes (rowAt b i) e used in
+        let f : r ≡ o = p ∙ ap (λ (t : List ℕ). overBytes t e used) (row-cut b at ∙ sym (row-there b i h)) in
+        let l : length o ≡ 1312 = length-over (rowAt b i) e used ∙ row-size b i h in
+        let n : at + 1312 - at ≡ length o = omega arith in
+        let g : putMid at (at + 1312 - at) b r ≡ pasted b at o = rw (f, n, drop-drop (length o) at b) in
+        let m : length (pasted b at o) ≡ length b = length-pasted b at o (omega arith) in
+        q ∙ ap (λ (t : List ℕ). written t 8 (bytesOf 8 mark)) g ∙ written-fits (pasted b at o) 8 (bytesOf 8 mark) (omega (arith, length-bytes 8 mark))
+        ∙ rw (lt-ltb i (rowCount b) h, le-leb (length (e .key) + length (e .doc .value)) 1280 room)

@@ -7,6 +7,8 @@ use lib.ListN.{length, drop}
 use lib.Dec.{eqb, leb}
 use Rattle.octets.specs.Compare.{zeros}
 use Rattle.table.specs.declared.Slot.{Slot}
+use Rattle.table.specs.declared.Checked.{Checked}
+use Rattle.table.specs.declared.Checked.the-variants.{Damaged, Sound}
 use Rattle.engine.specs.declared.Head.{Head}
 use Rattle.table.specs.Row.{Row, slotOf}
 use Rattle.table.specs.Table.{headOf, chunks, rowCount, rowsOf}
@@ -56,3 +58,7 @@ sound b =
     && (headOk (headOf b)
     && (allSound (headOf b .mark .0) (chunks (rowCount b) (drop 16 b))
     && distinct (rowsOf (rowCount b) (drop 16 b))))
+
+-- the head of a table that is not damaged
+unfoldable pub checkedOf : List ℕ → Checked
+checkedOf b = cond (sound b) (Sound (headOf b)) Damaged

@@ -6,14 +6,18 @@ ghost use mathlib.Core.List.{map};
 ghost use Prim.Native.Nat.{_+_, _*_, _≤_};
 ghost use lib.ListN.{length, drop};
 ghost use Rattle.octets.specs.Parts.{part};
-ghost use Rattle.table.specs.Row.{rowOf};
+ghost use Rattle.table.specs.Row.{slotOf, rowOf};
 ghost use Rattle.table.specs.Table.{chunks, rowCount, rowsOf};
 ghost use Rattle.table.specs.Print.{rowPrint};
 ghost use Rattle.table.specs.Lookup.{missing};
-ghost use Rattle.table.specs.Damage.{sizeOk, headOk, usedOk, rowSound, allSound, distinct, sound};
+ghost use Rattle.table.specs.Damage.{sizeOk, headOk, usedOk, rowSound, allSound, distinct, sound, checkedOf};
+use crate::Checked;
 use crate::Found;
 use crate::Slot;
 use engine::Head;
+use numbers::Cas;
+use numbers::Numbers;
+use numbers::Revision;
 
 fn used_ok(s: Slot, mark: u64) -> bool
     ensures { λ r. ⌜ r ≡ usedOk mark s ⌝ }
@@ -26,13 +30,30 @@ fn used_ok(s: Slot, mark: u64) -> bool
             & ((s.keylen <= 250) & ((s.vallen <= 1024) & ((1 <= cas) & (cas <= mark)))))
 }
 
+// What crate::row::slot gives. This is called once, and so inlined: a row's length is known there, and every test of it goes.
+fn slot_here(r: &[u8]) -> Slot
+    ensures { λ s. ⌜ s ≡ slotOf (now (r .entry)) ⌝ }
+{
+    Slot {
+        kind: octets::be16(r, 0),
+        keylen: octets::be16(r, 2),
+        vallen: octets::be32(r, 4),
+        numbers: Numbers {
+            flags: octets::be32(r, 8),
+            expiry: octets::be32(r, 12),
+            revision: Revision(octets::be64(r, 16)),
+            cas: Cas(octets::be64(r, 24)),
+        },
+    }
+}
+
 fn row_sound(r: &[u8], mark: u64) -> bool
     ensures { λ b. ⌜ b ≡ rowSound mark (now (r .entry)) ⌝ }
 {
     if octets::be16(r, 0) == 0 {
         return octets::all_zero(r);
     }
-    let s = crate::row::slot(r);
+    let s = slot_here(r);
     let used = s.keylen as usize + s.vallen as usize;
     used_ok(s, mark) & octets::all_zero(octets::rest(r, 32 + used))
 }
@@ -44,7 +65,8 @@ fn rows_sound(s: &[u8], n: usize, mark: u64) -> bool
     let mut at: usize = 16;
     let mut left = n;
     while 0 < left {
-        if !row_sound(octets::part(s, at, 1312), mark) {
+        let end = at + 1312;
+        if !row_sound(&s[at..end], mark) {
             return false;
         }
         at += 1312;
@@ -90,7 +112,8 @@ fn first_distinct(s: &[u8], at: usize, later: usize, p: u32, prints: &[u32]) -> 
     is_missing(crate::lookup::find_from(s, key, at + 1312, later, 0))
 }
 
-// From the last row to the first; the fingerprints of the rows seen stand at the end of prints.
+// From the last row to the first; the fingerprints of the rows seen stand at the end of prints, and their buckets are marked
+// in seen. A row whose bucket isn't marked has a fingerprint that no later row has.
 fn rows_distinct(s: &[u8], n: usize) -> bool
     requires { ⌜ (16 + n * 1312 ≤ length (now s)) × (n ≤ 256) ⌝ }
     ensures { λ r. ⌜ r ≡ distinct (rowsOf n (drop 16 (now (s .entry)))) ⌝ }
@@ -99,15 +122,21 @@ fn rows_distinct(s: &[u8], n: usize) -> bool
         return true;
     }
     let mut prints = [0u32; 256];
+    let mut seen = [0u8; 1024];
     let mut at: usize = 16 + n * 1312;
     let mut later: usize = 0;
     let mut apart = true;
     while later < n {
+        let end = at;
         at -= 1312;
-        let p = row_print(octets::part(s, at, 1312));
+        let p = row_print(&s[at..end]);
         let from = 256 - later;
-        apart = apart & first_distinct(s, at, later, p, &prints[from..]);
+        let b = fingerprint::bucket(p);
+        if seen[b] != 0 {
+            apart = apart & first_distinct(s, at, later, p, &prints[from..]);
+        }
         later += 1;
+        seen[b] = 1;
         prints[from - 1] = p;
     }
     apart
@@ -132,20 +161,33 @@ pub fn size_ok(len: usize, n: usize) -> bool
     len == 16 + n * 1312
 }
 
+// The head where the memory is a table that is not damaged.
+pub fn checked(s: &[u8]) -> Checked
+    ensures { λ r. ⌜ r ≡ checkedOf (now (s .entry)) ⌝ }
+{
+    let n = crate::rows_in(s.len());
+    if !size_ok(s.len(), n) {
+        return Checked::Damaged;
+    }
+    let h = crate::head_of(&s[..16]);
+    if !head_ok(h) {
+        return Checked::Damaged;
+    }
+    if !rows_sound(s, n, h.mark.0) {
+        return Checked::Damaged;
+    }
+    if !rows_distinct(s, n) {
+        return Checked::Damaged;
+    }
+    Checked::Sound(h)
+}
+
 // Whether the memory is a table that is not damaged.
 pub fn is_sound(s: &[u8]) -> bool
     ensures { λ r. ⌜ r ≡ sound (now (s .entry)) ⌝ }
 {
-    let n = crate::rows_in(s.len());
-    if !size_ok(s.len(), n) {
-        return false;
+    match checked(s) {
+        Checked::Damaged => false,
+        Checked::Sound(_) => true,
     }
-    let h = crate::head_of(s);
-    if !head_ok(h) {
-        return false;
-    }
-    if !rows_sound(s, n, h.mark.0) {
-        return false;
-    }
-    rows_distinct(s, n)
 }

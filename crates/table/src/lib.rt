@@ -26,6 +26,12 @@ pub enum Found {
     Nothing,
 }
 
+// The head of a table that is not damaged.
+pub enum Checked {
+    Damaged,
+    Sound(Head),
+}
+
 pub fn head_of(s: &[u8]) -> Head
     ensures { λ r. ⌜ r ≡ headOf (now (s .entry)) ⌝ }
 {

@@ -25,7 +25,8 @@ pub(crate) fn find_from(s: &[u8], key: &[u8], at: usize, left: usize, i: usize) 
     let mut n = left;
     let mut k = i;
     while 0 < n {
-        if row_holds(octets::part(s, a, 1312), key) {
+        let end = a + 1312;
+        if row_holds(&s[a..end], key) {
             return Found::At(k);
         }
         a += 1312;
@@ -44,7 +45,8 @@ fn free_from(s: &[u8], at: usize, left: usize, i: usize) -> Found
     let mut n = left;
     let mut k = i;
     while 0 < n {
-        if octets::be16(octets::part(s, a, 1312), 0) == 0 {
+        let end = a + 1312;
+        if octets::be16(&s[a..end], 0) == 0 {
             return Found::At(k);
         }
         a += 1312;

@@ -1,11 +1,11 @@
-// A row's bytes: its fixed part read and written, and a whole used row written.
+// A row's bytes: its fixed part read and written, and an entry written over a row.
 ghost use mathlib.Core.Path.{_≡_};
 ghost use mathlib.Core.Bool.{Bool};
-ghost use mathlib.Core.Option.{some};
 ghost use Prim.Native.Nat.{_+_, _≤_};
 ghost use lib.ListN.{length};
-ghost use Rattle.octets.specs.Parts.{pasted, written};
-ghost use Rattle.table.specs.Row.{slotOf, sizeBytes, shortBytes, longBytes, slotBytes, kindOf, rowBytes};
+ghost use Rattle.octets.specs.Parts.{written};
+ghost use Rattle.table.specs.Row.{slotOf, sizeBytes, shortBytes, longBytes, slotBytes, kindOf};
+ghost use Rattle.table.specs.Store.{overBytes};
 use crate::Slot;
 use numbers::Cas;
 use numbers::Numbers;
@@ -76,10 +76,10 @@ fn kind_of(tomb: bool) -> u16
     1
 }
 
-// A used row over the 1,312 bytes from a place on.
-pub(crate) fn put_row(s: &mut [u8], at: usize, key: &[u8], tomb: bool, n: Numbers, value: &[u8])
-    requires { ⌜ (at + 1312 ≤ length (now s)) × (length (now key) + length (now value) ≤ 1280) ⌝ }
-    ensures { λ _. ⌜ now (s .exit) ≡ pasted (now (s .entry)) at (rowBytes (some (record { key = now (key .entry); doc = record { tomb = tomb; value = now (value .entry); numbers = n } }))) ⌝ }
+// An entry over a row. Of what stands after its value, only the bytes that are in use become zero.
+pub(crate) fn put_row(row: &mut [u8], key: &[u8], tomb: bool, n: Numbers, value: &[u8], used: usize)
+    requires { ⌜ (length (now row) ≡ 1312) × (length (now key) + length (now value) ≤ 1280) ⌝ }
+    ensures { λ _. ⌜ now (row .exit) ≡ overBytes (now (row .entry)) (record { key = now (key .entry); doc = record { tomb = tomb; value = now (value .entry); numbers = n } }) used ⌝ }
 {
     let k = key.len();
     let v = value.len();
@@ -89,8 +89,10 @@ pub(crate) fn put_row(s: &mut [u8], at: usize, key: &[u8], tomb: bool, n: Number
         vallen: v as u32,
         numbers: n,
     };
-    put_slot(s, at, h);
-    octets::put_bytes(s, at + 32, key);
-    octets::put_bytes(s, at + 32 + k, value);
-    octets::put_zeros(s, at + 32 + k + v, 1280 - (k + v));
+    put_slot(row, 0, h);
+    octets::put_bytes(row, 32, key);
+    octets::put_bytes(row, 32 + k, value);
+    if k + v < used {
+        octets::put_zeros(row, 32 + k + v, used - (k + v));
+    }
 }

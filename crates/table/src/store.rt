@@ -3,8 +3,9 @@ ghost use mathlib.Core.Path.{_≡_};
 ghost use Prim.Native.Nat.{_+_};
 ghost use lib.Dec.{leb};
 ghost use Rattle.engine.specs.Stored.{heldOf};
+ghost use Rattle.octets.specs.Parts.{part};
 ghost use Rattle.table.specs.Row.{slotOf, docOf};
-ghost use Rattle.table.specs.Store.{rowAt, valueAt, stored};
+ghost use Rattle.table.specs.Store.{rowAt, valueAt, storedOver};
 use crate::Slot;
 use engine::Held;
 use numbers::Cas;
@@ -15,9 +16,11 @@ fn row_at(s: &[u8], i: usize) -> &[u8]
     ensures { λ r. ⌜ now r ≡ rowAt (now (s .entry)) i ⌝ }
 {
     if i < crate::rows_in(s.len()) {
-        return octets::part(s, 16 + i * 1312, 1312);
+        let at = 16 + i * 1312;
+        let end = at + 1312;
+        return &s[at..end];
     }
-    octets::part(s, 0, 0)
+    &s[..0]
 }
 
 // The fixed part of the row at a place; a free one where there is no such row.
@@ -53,13 +56,29 @@ pub fn value_at(s: &[u8], i: usize) -> usize
 pub fn value(s: &[u8], i: usize) -> &[u8]
     ensures { λ r. ⌜ now r ≡ docOf (rowAt (now (s .entry)) i) .value ⌝ }
 {
-    let h = slot_at(s, i);
+    value_by(s, i, slot_at(s, i))
+}
+
+// The value of the row at a place, whose fixed part is h.
+pub fn value_by(s: &[u8], i: usize, h: Slot) -> &[u8]
+    ensures { λ r. ⌜ now r ≡ part (rowAt (now (s .entry)) i) (32 + h .keylen) (h .vallen) ⌝ }
+{
     octets::part(row_at(s, i), 32 + h.keylen as usize, h.vallen as usize)
 }
 
 // Stores an entry in the row at a place, and the mark. Where there is no such row or the entry doesn't fit, nothing changes.
-pub fn store(s: &mut [u8], i: usize, key: &[u8], tomb: bool, n: Numbers, value: &[u8], mark: Cas)
-    ensures { λ _. ⌜ now (s .exit) ≡ stored (now (s .entry)) i (record { key = now (key .entry); doc = record { tomb = tomb; value = now (value .entry); numbers = n } }) (mark .0) ⌝ }
+// used: how many bytes after the row's fixed part are in use. Those past them are left as they are.
+pub fn store(
+    s: &mut [u8],
+    i: usize,
+    key: &[u8],
+    tomb: bool,
+    n: Numbers,
+    value: &[u8],
+    mark: Cas,
+    used: usize,
+)
+    ensures { λ _. ⌜ now (s .exit) ≡ storedOver (now (s .entry)) i (record { key = now (key .entry); doc = record { tomb = tomb; value = now (value .entry); numbers = n } }) (mark .0) used ⌝ }
 {
     if i >= crate::rows_in(s.len()) {
         return;
@@ -67,7 +86,9 @@ pub fn store(s: &mut [u8], i: usize, key: &[u8], tomb: bool, n: Numbers, value: 
     if !fits(key.len(), value.len()) {
         return;
     }
-    crate::row::put_row(s, 16 + i * 1312, key, tomb, n, value);
+    let at = 16 + i * 1312;
+    let end = at + 1312;
+    crate::row::put_row(&mut s[at..end], key, tomb, n, value, used);
     octets::put_be(s, 8, 8, mark.0);
 }
 

@@ -117,7 +117,7 @@ fn store_at(g: Given, key: &[u8], value: &[u8], s: &mut [u8], i: usize) {
         revision: Revision(n[3]),
         cas: Cas(n[4]),
     };
-    table::store::store(s, i, key, n[0] == 1, given, value, Cas(n[5]));
+    table::store::store(s, i, key, n[0] == 1, given, value, Cas(n[5]), 1280);
     show::decimal(b"place ", i);
 }
 

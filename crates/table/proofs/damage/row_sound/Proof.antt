@@ -20,8 +20,8 @@ all-zero-requires c κs = search needs
 returns : tie.Need-returns
 returns c = let a = c .before .before .before .before .args in c .all-zero .ensures ∙ sym (sound-free (a .r .now) (a .mark) (sym (c .before .before .be16 .ensures) ∙ c .before .if1 .taken))
 
-slot-requires : tie.Need-slot-requires
-slot-requires c κs = search needs
+slot-here-requires : tie.Need-slot-here-requires
+slot-here-requires c κs = search needs
 
 cast-used : tie.Need-cast-used
 cast-used c = search needs
@@ -50,7 +50,7 @@ returns-2 c =
     let r = c .before .before .before .before .before .before .before .before .before .args .r .now in
     let mark = c .before .before .before .before .before .before .before .before .before .args .mark in
     (λ i. c .before .before .used-ok .ensures i && (c .all-zero2 .ensures ∙ ap zeros (c .before .rest .ensures)) i)
-    ∙ ap (λ (h : Slot). usedOk mark h && zeros (drop (32 + (h .keylen + h .vallen)) r)) (c .before .before .before .before .before .slot .ensures)
+    ∙ ap (λ (h : Slot). usedOk mark h && zeros (drop (32 + (h .keylen + h .vallen)) r)) (c .before .before .before .before .before .slot-here .ensures)
     ∙ sym (sound-used r mark (λ z. c .before .before .before .before .before .before .if1 .left (c .before .before .before .before .before .before .before .be16 .ensures ∙ z)))
 
 pub row-sound-spec : {M : Type 1} → statement M
@@ -60,7 +60,7 @@ row-sound-spec =
     be16-requires
     all-zero-requires
     returns
-    slot-requires
+    slot-here-requires
     cast-used
     cast-used-2
     add-used

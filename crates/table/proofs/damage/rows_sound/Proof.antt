@@ -5,7 +5,7 @@ use Rattle.table.specs.Table.{chunks}
 use Rattle.octets.specs.Parts.{part}
 use borrow.Author.Tests.{not-true, not-false}
 use lib.ListN.{drop}
-use Prim.Native.Nat.{_+_, _*_}
+use Prim.Native.Nat.{ℕ, _+_, _-_, _*_}
 use borrow.Author.Needs.{needs}
 use native.Mathlib.Omega.{arith}
 use mathlib.Core.Path.{_≡_, sym, ap, _∙_}
@@ -21,8 +21,17 @@ abbrev μ-loop : tie.MeasureT-loop
 loop-holds : tie.Need-loop-holds Inv-loop μ-loop
 loop-holds c = search needs
 
-part-requires : tie.Need-part-requires Inv-loop μ-loop
-part-requires c κs = search needs
+add-end : tie.Need-add-end Inv-loop μ-loop
+add-end c = search needs
+
+sub-row-sound : tie.Need-sub-row-sound Inv-loop μ-loop
+sub-row-sound c = search needs
+
+part-row-sound-start : tie.Need-part-row-sound-start Inv-loop μ-loop
+part-row-sound-start c = search needs
+
+part-row-sound-end : tie.Need-part-row-sound-end Inv-loop μ-loop
+part-row-sound-end c = search needs
 
 row-sound-requires : tie.Need-row-sound-requires Inv-loop μ-loop
 row-sound-requires c κs = search needs
@@ -32,7 +41,8 @@ returns c =
     let s = c .before .before .before .before .before .before .args .s .now in
     let mark = c .before .before .before .before .before .before .args .mark in
     let p = c .before .before .before .before .loop in
-    let f : rowSound mark (part s (p .at) 1312) ≡ false = ap (rowSound mark) (sym (c .before .before .part .ensures)) ∙ sym (c .before .row-sound .ensures) ∙ not-true _ (c .if1 .taken) in
+    let e : p .at + 1312 - p .at ≡ 1312 = omega arith in
+    let f : rowSound mark (part s (p .at) 1312) ≡ false = sym (ap (λ (m : ℕ). rowSound mark (part s (p .at) m)) e) ∙ sym (c .before .row-sound .ensures) ∙ not-true _ (c .if1 .taken) in
     sym (p .inv .1 ∙ sound-row s (p .at) (p .left) (c .before .before .before .loop-test .taken) mark ∙ rw f)
 
 add-at : tie.Need-add-at Inv-loop μ-loop
@@ -49,7 +59,8 @@ loop-again c =
     let s = c .before .before .before .before .before .before .args .s .now in
     let mark = c .before .before .before .before .before .before .args .mark in
     let p = c .before .before .before .before .loop in
-    let f : rowSound mark (part s (p .at) 1312) ≡ true = ap (rowSound mark) (sym (c .before .before .part .ensures)) ∙ sym (c .before .row-sound .ensures) ∙ not-false _ (c .if1 .left) in
+    let e : p .at + 1312 - p .at ≡ 1312 = omega arith in
+    let f : rowSound mark (part s (p .at) 1312) ≡ true = sym (ap (λ (m : ℕ). rowSound mark (part s (p .at) m)) e) ∙ sym (c .before .row-sound .ensures) ∙ not-false _ (c .if1 .left) in
     (omega arith, p .inv .1 ∙ sound-row s (p .at) (p .left) (c .before .before .before .loop-test .taken) mark ∙ rw f)
 
 returns-2 : tie.Need-returns-2 Inv-loop μ-loop
@@ -65,7 +76,10 @@ rows-sound-spec =
     Inv-loop
     μ-loop
     loop-holds
-    part-requires
+    add-end
+    sub-row-sound
+    part-row-sound-start
+    part-row-sound-end
     row-sound-requires
     returns
     add-at

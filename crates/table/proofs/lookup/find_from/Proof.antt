@@ -1,5 +1,5 @@
 use mathlib.Core.Bool.{true, false}
-use Rattle.table.proofs.Rows.{none-left, find-row}
+use Rattle.table.proofs.Rows.{none-left, find-row, row-cut}
 use Rattle.table.specs.Lookup.{holds, findIn}
 use Rattle.table.specs.Table.{rowsOf}
 use Rattle.table.specs.Row.{rowOf}
@@ -22,8 +22,17 @@ abbrev μ-loop : tie.MeasureT-loop
 loop-holds : tie.Need-loop-holds Inv-loop μ-loop
 loop-holds c = search needs
 
-part-requires : tie.Need-part-requires Inv-loop μ-loop
-part-requires c κs = search needs
+add-end : tie.Need-add-end Inv-loop μ-loop
+add-end c = search needs
+
+sub-row-holds : tie.Need-sub-row-holds Inv-loop μ-loop
+sub-row-holds c = search needs
+
+part-row-holds-start : tie.Need-part-row-holds-start Inv-loop μ-loop
+part-row-holds-start c = search needs
+
+part-row-holds-end : tie.Need-part-row-holds-end Inv-loop μ-loop
+part-row-holds-end c = search needs
 
 row-holds-requires : tie.Need-row-holds-requires Inv-loop μ-loop
 row-holds-requires c κs = search needs
@@ -33,7 +42,7 @@ returns c =
     let s = c .before .before .before .before .before .before .before .args .s .now in
     let key = c .before .before .before .before .before .before .before .args .key .now in
     let p = c .before .before .before .before .loop in
-    let f : holds key (rowOf (part s (p .a) 1312)) ≡ true = ap (λ (r : List ℕ). holds key (rowOf r)) (sym (c .before .before .part .ensures)) ∙ sym (c .before .row-holds .ensures) ∙ c .if1 .taken in
+    let f : holds key (rowOf (part s (p .a) 1312)) ≡ true = ap (λ (r : List ℕ). holds key (rowOf r)) (sym (row-cut s (p .a))) ∙ sym (c .before .row-holds .ensures) ∙ c .if1 .taken in
     sym (p .inv .2 ∙ find-row s (p .a) (p .n) (c .before .before .before .loop-test .taken) key (p .k) ∙ rw f)
 
 add-a : tie.Need-add-a Inv-loop μ-loop
@@ -53,7 +62,7 @@ loop-again c =
     let s = c .before .before .before .before .before .before .before .args .s .now in
     let key = c .before .before .before .before .before .before .before .args .key .now in
     let p = c .before .before .before .before .loop in
-    let f : holds key (rowOf (part s (p .a) 1312)) ≡ false = ap (λ (r : List ℕ). holds key (rowOf r)) (sym (c .before .before .part .ensures)) ∙ sym (c .before .row-holds .ensures) ∙ c .if1 .left in
+    let f : holds key (rowOf (part s (p .a) 1312)) ≡ false = ap (λ (r : List ℕ). holds key (rowOf r)) (sym (row-cut s (p .a))) ∙ sym (c .before .row-holds .ensures) ∙ c .if1 .left in
     (omega arith, omega arith, p .inv .2 ∙ find-row s (p .a) (p .n) (c .before .before .before .loop-test .taken) key (p .k) ∙ rw f)
 
 returns-2 : tie.Need-returns-2 Inv-loop μ-loop
@@ -69,7 +78,10 @@ find-from-spec =
     Inv-loop
     μ-loop
     loop-holds
-    part-requires
+    add-end
+    sub-row-holds
+    part-row-holds-start
+    part-row-holds-end
     row-holds-requires
     returns
     add-a

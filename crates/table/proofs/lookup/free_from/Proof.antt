@@ -1,5 +1,5 @@
 use mathlib.Core.Bool.{true, false}
-use Rattle.table.proofs.Rows.{none-left, free-row, is-free}
+use Rattle.table.proofs.Rows.{none-left, free-row, is-free, row-cut}
 use Rattle.table.specs.Lookup.{isFree, freeIn}
 use Rattle.table.specs.Table.{rowsOf}
 use Rattle.table.specs.Row.{rowOf}
@@ -24,8 +24,17 @@ abbrev μ-loop : tie.MeasureT-loop
 loop-holds : tie.Need-loop-holds Inv-loop μ-loop
 loop-holds c = search needs
 
-part-requires : tie.Need-part-requires Inv-loop μ-loop
-part-requires c κs = search needs
+add-end : tie.Need-add-end Inv-loop μ-loop
+add-end c = search needs
+
+sub-be16 : tie.Need-sub-be16 Inv-loop μ-loop
+sub-be16 c = search needs
+
+part-be16-start : tie.Need-part-be16-start Inv-loop μ-loop
+part-be16-start c = search needs
+
+part-be16-end : tie.Need-part-be16-end Inv-loop μ-loop
+part-be16-end c = search needs
 
 be16-requires : tie.Need-be16-requires Inv-loop μ-loop
 be16-requires c κs = search needs
@@ -34,7 +43,7 @@ returns : tie.Need-returns Inv-loop μ-loop
 returns c =
     let s = c .before .before .before .before .before .before .args .s .now in
     let p = c .before .before .before .before .loop in
-    let f : isFree (rowOf (part s (p .a) 1312)) ≡ true = is-free (part s (p .a) 1312) ∙ eq-eqb _ _ (ap (λ (r : List ℕ). num r 0 2) (sym (c .before .before .part .ensures)) ∙ sym (c .before .be16 .ensures) ∙ c .if1 .taken) in
+    let f : isFree (rowOf (part s (p .a) 1312)) ≡ true = is-free (part s (p .a) 1312) ∙ eq-eqb _ _ (ap (λ (r : List ℕ). num r 0 2) (sym (row-cut s (p .a))) ∙ sym (c .before .be16 .ensures) ∙ c .if1 .taken) in
     sym (p .inv .2 ∙ free-row s (p .a) (p .n) (c .before .before .before .loop-test .taken) (p .k) ∙ rw f)
 
 add-a : tie.Need-add-a Inv-loop μ-loop
@@ -53,7 +62,7 @@ loop-again : tie.Need-loop-again Inv-loop μ-loop
 loop-again c =
     let s = c .before .before .before .before .before .before .args .s .now in
     let p = c .before .before .before .before .loop in
-    let f : isFree (rowOf (part s (p .a) 1312)) ≡ false = is-free (part s (p .a) 1312) ∙ ne-eqb _ _ (λ z. c .if1 .left (c .before .be16 .ensures ∙ ap (λ (r : List ℕ). num r 0 2) (c .before .before .part .ensures) ∙ z)) in
+    let f : isFree (rowOf (part s (p .a) 1312)) ≡ false = is-free (part s (p .a) 1312) ∙ ne-eqb _ _ (λ z. c .if1 .left (c .before .be16 .ensures ∙ ap (λ (r : List ℕ). num r 0 2) (row-cut s (p .a)) ∙ z)) in
     (omega arith, omega arith, p .inv .2 ∙ free-row s (p .a) (p .n) (c .before .before .before .loop-test .taken) (p .k) ∙ rw f)
 
 returns-2 : tie.Need-returns-2 Inv-loop μ-loop
@@ -69,7 +78,10 @@ free-from-spec =
     Inv-loop
     μ-loop
     loop-holds
-    part-requires
+    add-end
+    sub-be16
+    part-be16-start
+    part-be16-end
     be16-requires
     returns
     add-a

@@ -1,6 +1,7 @@
 use Prim.Native.Nat.{_+_}
 use Rattle.octets.specs.Parts.{part}
 use Rattle.table.specs.Row.{docOf}
+use Rattle.table.specs.Store.{rowAt}
 use mathlib.Core.Path.{_∙_}
 use borrow.Author.Needs.{needs}
 use Rattle.table.proofs.store.value.Statement.{statement}
@@ -9,33 +10,15 @@ use Rattle.table.proofs.store.value.Tie as tie
 slot-at-requires : tie.Need-slot-at-requires
 slot-at-requires c κs = search needs
 
-row-at-requires : tie.Need-row-at-requires
-row-at-requires c κs = search needs
-
-cast-part : tie.Need-cast-part
-cast-part c = search needs
-
-add-part : tie.Need-add-part
-add-part c = search needs
-
-cast-part-2 : tie.Need-cast-part-2
-cast-part-2 c = search needs
-
-part-requires : tie.Need-part-requires
-part-requires c κs = search needs
+value-by-requires : tie.Need-value-by-requires
+value-by-requires c κs = search needs
 
 returns : tie.Need-returns
 unfolding docOf
-returns c = c .part .ensures ∙ (λ i. part (c .before .before .before .row-at .ensures i) (32 + (c .before .before .before .before .slot-at) .ensures i .keylen) (c .before .before .before .before .slot-at .ensures i .vallen))
+returns c =
+    let a = c .before .before .before .args in
+    let e = c .before .slot-at .ensures in
+    c .value-by .ensures ∙ (λ i. part (rowAt (a .s .now) (a .i)) (32 + e i .keylen) (e i .vallen))
 
 pub value-spec : {M : Type 1} → statement M
-value-spec =
-    tie.close
-    (tie.spec
-    slot-at-requires
-    row-at-requires
-    cast-part
-    add-part
-    cast-part-2
-    part-requires
-    returns)
+value-spec = tie.close (tie.spec slot-at-requires value-by-requires returns)
