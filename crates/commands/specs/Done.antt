@@ -72,6 +72,10 @@ doneOf h s clock n Noop = nothing h Bare (record { 0 = 0 })
 doneOf h s clock n Version = nothing h Release (record { 0 = 0 })
 doneOf h s clock n (WithMeta w) = metaDone h w
 
+-- what is done where the status is 0, nothing where it isn't
+abbrev pub settled : Head → ℕ → Bool → Done → Decision
+settled h status silent done = record { status = status; silent = silent; done = cond (eqb status 0) done (nothing h Bare (record { 0 = 0 })) }
+
 -- all of it where no check fails, else the status alone: "A non-zero status changes no table byte."
 unfoldable pub decision : Head → Stored → Bool → ℕ → Number → Ask → Decision
 decision h s free clock n q =

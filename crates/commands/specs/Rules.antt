@@ -17,7 +17,6 @@ use Rattle.commands.specs.declared.Meta.{Meta}
 use Rattle.commands.specs.declared.Command.{Command}
 use Rattle.commands.specs.declared.Command.the-variants.{Get, Write, Count, Noop, Version, WithMeta}
 use Rattle.commands.specs.declared.Ask.{Ask}
-use Rattle.commands.specs.declared.Rule.{Rule}
 use Rattle.commands.specs.declared.Tests.{Tests}
 use Rattle.commands.specs.declared.Source.{Source}
 use Rattle.commands.specs.declared.Source.the-variants.{Empty, Frame}
@@ -53,6 +52,32 @@ isLast LastWrite = true
 abbrev pub isNumber : Number → Bool
 isNumber (Value n) = true
 isNumber NoNumber = false
+
+-- how a command stands to each test: its row in the table of rules
+pub record Rule : Type 0 where
+  -- breaks a rule of status 0x04 that needs mode or clock
+  pub fault : Bool
+  -- skips the vbucket test
+  pub anywhere : Bool
+  -- passes on replica and pending tables too
+  pub standby : Bool
+  -- needs a live document
+  pub needs : Bool
+  -- refused on a live document
+  pub fresh : Bool
+  -- guarded by the header CAS
+  pub guarded : Bool
+  -- loses against the key's row
+  pub beaten : Bool
+  -- counts on the stored number
+  pub counts : Bool
+  -- raises the mark
+  pub marks : Bool
+  -- raises the revision
+  pub revises : Bool
+  pub writes : Bool
+  -- the status at which the quiet form sends nothing
+  pub hush : ℕ
 
 -- Get, GetQ, GetK, GetKQ: "Not live: 0x01"; "The quiet two send nothing on 0x01. Header CAS ignored."
 abbrev pub readRule : Rule
@@ -129,6 +154,15 @@ ruleOf m s clock (Count k) = plainRule (passes (k .expiry) clock) (eqb (k .expir
 ruleOf m s clock Noop = freeRule
 ruleOf m s clock Version = freeRule
 ruleOf m s clock (WithMeta w) = metaRule m s w
+
+-- whether a command writes, as its row says
+abbrev pub writesOf : Command → Bool
+writesOf (Get keyed) = false
+writesOf (Write p) = true
+writesOf (Count k) = true
+writesOf Noop = false
+writesOf Version = false
+writesOf (WithMeta w) = true
 
 -- ---- the checks
 pub record Check : Type 0 where

@@ -2,8 +2,7 @@
 ghost use mathlib.Core.Path.{_≡_};
 ghost use Prim.Native.Nat.{_-_};
 ghost use Rattle.engine.specs.Head.{marked};
-ghost use Rattle.commands.specs.Done.{nothing, kept, found, plainNumbers, metaNumbers, counted, sum, writeDone, countDone, metaDone, doneOf};
-use crate::Command;
+ghost use Rattle.commands.specs.Done.{nothing, kept, found, plainNumbers, metaNumbers, counted, sum, writeDone, countDone, metaDone};
 use crate::Counter;
 use crate::Done;
 use crate::Meta;
@@ -73,7 +72,7 @@ fn plain_numbers(h: Head, s: Stored, flags: u32, expiry: u32) -> Numbers
     }
 }
 
-fn write_done(h: Head, s: Stored, clock: u32, p: Plain) -> Done
+pub(crate) fn write_done(h: Head, s: Stored, clock: u32, p: Plain) -> Done
     ensures { λ r. ⌜ r ≡ writeDone h s clock p ⌝ }
 {
     let k = p.kind;
@@ -123,7 +122,7 @@ fn sum(n: Number, k: Counter) -> u64
     }
 }
 
-fn count_done(h: Head, s: Stored, clock: u32, n: Number, k: Counter) -> Done
+pub(crate) fn count_done(h: Head, s: Stored, clock: u32, n: Number, k: Counter) -> Done
     ensures { λ r. ⌜ r ≡ countDone h s clock n k ⌝ }
 {
     let old = engine::numbers_of(s);
@@ -151,7 +150,7 @@ fn meta_numbers(h: Head, w: Meta) -> Numbers
     n
 }
 
-fn meta_done(h: Head, w: Meta) -> Done
+pub(crate) fn meta_done(h: Head, w: Meta) -> Done
     ensures { λ r. ⌜ r ≡ metaDone h w ⌝ }
 {
     let k = w.kind;
@@ -165,23 +164,10 @@ fn meta_done(h: Head, w: Meta) -> Done
     )
 }
 
-fn found(h: Head, s: Stored, keyed: bool) -> Done
+pub(crate) fn found(h: Head, s: Stored, keyed: bool) -> Done
     ensures { λ r. ⌜ r ≡ found h s keyed ⌝ }
 {
     let n = engine::numbers_of(s);
     let cas = n.cas;
     nothing(h, Reply::Found(n.flags, keyed), cas)
-}
-
-pub(crate) fn done_of(h: Head, s: Stored, clock: u32, n: Number, c: Command) -> Done
-    ensures { λ r. ⌜ r ≡ doneOf h s clock n c ⌝ }
-{
-    match c {
-        Command::Get(keyed) => found(h, s, keyed),
-        Command::Write(p) => write_done(h, s, clock, p),
-        Command::Count(k) => count_done(h, s, clock, n, k),
-        Command::Noop => nothing(h, Reply::Bare, Cas(0)),
-        Command::Version => nothing(h, Reply::Release, Cas(0)),
-        Command::WithMeta(w) => meta_done(h, w),
-    }
 }

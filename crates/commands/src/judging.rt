@@ -1,12 +1,16 @@
-// How each command stands to each test, and the statuses in 01's order.
+// What is tested for each family of commands, and the statuses in 01's order. specs/Rules.antt has a row of rules for each
+// command and makes the tests from the row; here each family has its own tests, so that none is made that can't fail.
 ghost use mathlib.Core.Path.{_≡_};
-ghost use mathlib.Core.Bool.{cond};
-ghost use Rattle.commands.specs.Rules.{isDelete, isAdd, mustLive, isLast, isNumber, sourceOf, readRule, freeRule, plainRule, metaRule, ruleOf, taken, testsOf, statusOf};
+ghost use mathlib.Core.Bool.{true, false, cond, _&&_, _||_};
+ghost use lib.Dec.{eqb};
+ghost use Rattle.numbers.specs.Order.{modeOf};
+ghost use Rattle.numbers.specs.Expiry.{passes};
+ghost use Rattle.commands.specs.Rules.{isDelete, isAdd, mustLive, isLast, isNumber, sourceOf, readRule, freeRule, plainRule, metaRule, testsOf, statusOf};
 use crate::Ask;
-use crate::Command;
+use crate::Counter;
 use crate::Kind;
 use crate::Meta;
-use crate::Rule;
+use crate::Plain;
 use crate::Source;
 use crate::Tests;
 use digits::Number;
@@ -67,114 +71,6 @@ fn is_last(m: Mode) -> bool
     }
 }
 
-fn read_rule() -> Rule
-    ensures { λ r. ⌜ r ≡ readRule ⌝ }
-{
-    Rule {
-        fault: false,
-        anywhere: false,
-        standby: false,
-        needs: true,
-        fresh: false,
-        guarded: false,
-        beaten: false,
-        counts: false,
-        marks: false,
-        revises: false,
-        writes: false,
-        hush: 1,
-    }
-}
-
-fn free_rule() -> Rule
-    ensures { λ r. ⌜ r ≡ freeRule ⌝ }
-{
-    Rule {
-        fault: false,
-        anywhere: true,
-        standby: false,
-        needs: false,
-        fresh: false,
-        guarded: false,
-        beaten: false,
-        counts: false,
-        marks: false,
-        revises: false,
-        writes: false,
-        hush: 0,
-    }
-}
-
-// A plain write: needs and fresh by its kind.
-fn plain_rule(fault: bool, needs: bool, fresh: bool, counts: bool) -> Rule
-    ensures { λ r. ⌜ r ≡ plainRule fault needs fresh counts ⌝ }
-{
-    Rule {
-        fault,
-        anywhere: false,
-        standby: false,
-        needs,
-        fresh,
-        guarded: true,
-        beaten: false,
-        counts,
-        marks: true,
-        revises: true,
-        writes: true,
-        hush: 0,
-    }
-}
-
-fn meta_rule(m: Mode, s: Stored, w: Meta) -> Rule
-    ensures { λ r. ⌜ r ≡ metaRule m s w ⌝ }
-{
-    let lww = is_last(m);
-    let k = w.kind;
-    let n = w.numbers;
-    let fits = engine::accepted(m, s, n);
-    let fresh = is_add(k);
-    Rule {
-        fault: w.last != lww,
-        anywhere: false,
-        standby: w.force,
-        needs: false,
-        fresh,
-        guarded: true,
-        beaten: !(w.force | (w.skip | fits)),
-        counts: false,
-        marks: w.regenerate,
-        revises: false,
-        writes: true,
-        hush: 0,
-    }
-}
-
-pub(crate) fn rule_of(m: Mode, s: Stored, clock: u32, c: Command) -> Rule
-    ensures { λ r. ⌜ r ≡ ruleOf m s clock c ⌝ }
-{
-    match c {
-        Command::Get(_) => read_rule(),
-        Command::Write(p) => {
-            let k = p.kind;
-            plain_rule(
-                numbers::passes(p.expiry, clock),
-                must_live(k),
-                is_add(k),
-                false,
-            )
-        }
-        Command::Count(k) => plain_rule(
-            numbers::passes(k.expiry, clock),
-            k.expiry == 0xffffffff,
-            false,
-            true,
-        ),
-        Command::Noop => free_rule(),
-        Command::Version => free_rule(),
-        Command::WithMeta(w) => meta_rule(m, s, w),
-    }
-}
-
 // A check that fails gives its status, else the later ones decide.
 fn first(fails: bool, status: u8, rest: u8) -> u8
     ensures { λ r. ⌜ r ≡ cond fails status rest ⌝ }
@@ -191,42 +87,178 @@ fn is_number(n: Number) -> bool
     }
 }
 
-// The request is for this table, in its state.
-fn taken(h: Head, vbucket: u16, t: Rule) -> bool
-    ensures { λ r. ⌜ r ≡ taken h vbucket t ⌝ }
+// The request is for this table, in its state. standby: replica and pending tables take it too.
+fn here(h: Head, vbucket: u16, standby: bool) -> bool
+    ensures { λ r. ⌜ r ≡ (eqb vbucket (h .vbucket) && (eqb (h .state) 1 || (standby && (eqb (h .state) 2 || eqb (h .state) 3)))) ⌝ }
 {
-    t.anywhere
-        | ((vbucket == h.vbucket)
-            & ((h.state == 1) | (t.standby & ((h.state == 2) | (h.state == 3)))))
+    (vbucket == h.vbucket) & ((h.state == 1) | (standby & ((h.state == 2) | (h.state == 3))))
 }
 
-pub(crate) fn tests_of(
+// Whether a number is too large to grow.
+fn spent(n: u64) -> bool
+    ensures { λ r. ⌜ r ≡ eqb n 0xffffffffffffffff ⌝ }
+{
+    n == 0xffffffffffffffff
+}
+
+// Noop and Version.
+pub(crate) fn free_tests(h: Head, s: Stored, free: bool, clock: u32, n: Number, q: Ask) -> Tests
+    ensures { λ r. ⌜ r ≡ testsOf h s free clock n q freeRule ⌝ }
+{
+    Tests {
+        fault: false,
+        long: 1024 < q.size,
+        elsewhere: false,
+        missing: false,
+        conflict: false,
+        number: false,
+        spent: false,
+        full: false,
+    }
+}
+
+// Get and its kin.
+pub(crate) fn read_tests(h: Head, s: Stored, free: bool, clock: u32, n: Number, q: Ask) -> Tests
+    ensures { λ r. ⌜ r ≡ testsOf h s free clock n q readRule ⌝ }
+{
+    let live = engine::live(s, clock);
+    let here = here(h, q.vbucket, false);
+    Tests {
+        fault: false,
+        long: 1024 < q.size,
+        elsewhere: !here,
+        missing: !live,
+        conflict: false,
+        number: false,
+        spent: false,
+        full: false,
+    }
+}
+
+// Plain writes: needs a live document, refused on one, counts on the stored number.
+fn plain_tests(
     h: Head,
     s: Stored,
     free: bool,
     clock: u32,
     n: Number,
     q: Ask,
-    t: Rule,
+    fault: bool,
+    needs: bool,
+    fresh: bool,
+    counts: bool,
 ) -> Tests
-    ensures { λ r. ⌜ r ≡ testsOf h s free clock n q t ⌝ }
+    ensures { λ r. ⌜ r ≡ testsOf h s free clock n q (plainRule fault needs fresh counts) ⌝ }
 {
     let live = engine::live(s, clock);
     let row = engine::numbers_of(s);
     let used = engine::has_row(s);
     let counted = is_number(n);
-    let here = taken(h, q.vbucket, t);
-    let guard = t.guarded & (q.cas.0 != 0);
+    let here = here(h, q.vbucket, false);
+    let guard = q.cas.0 != 0;
+    let marks = spent(h.mark.0);
+    let revises = spent(row.revision.0);
     Tests {
-        fault: t.fault,
+        fault,
         long: 1024 < q.size,
         elsewhere: !here,
-        missing: (t.needs | guard) & !live,
-        conflict: (guard & (q.cas.0 != row.cas.0)) | ((t.fresh & live) | t.beaten),
-        number: t.counts & (live & !counted),
-        spent: (t.marks & (h.mark.0 == 0xffffffffffffffff))
-            | (t.revises & (row.revision.0 == 0xffffffffffffffff)),
-        full: t.writes & !(used | free),
+        missing: (needs | guard) & !live,
+        conflict: (guard & (q.cas.0 != row.cas.0)) | ((fresh & live) | false),
+        number: counts & (live & !counted),
+        spent: marks | revises,
+        full: !(used | free),
+    }
+}
+
+// Set, Add, Replace and Delete.
+pub(crate) fn write_tests(
+    h: Head,
+    s: Stored,
+    free: bool,
+    clock: u32,
+    n: Number,
+    q: Ask,
+    p: Plain,
+) -> Tests
+    ensures { λ r. ⌜ r ≡ testsOf h s free clock n q (plainRule (passes (p .expiry) clock) (mustLive (p .kind)) (isAdd (p .kind)) false) ⌝ }
+{
+    let k = p.kind;
+    let fault = numbers::passes(p.expiry, clock);
+    plain_tests(
+        h,
+        s,
+        free,
+        clock,
+        n,
+        q,
+        fault,
+        must_live(k),
+        is_add(k),
+        false,
+    )
+}
+
+// Increment and Decrement.
+pub(crate) fn count_tests(
+    h: Head,
+    s: Stored,
+    free: bool,
+    clock: u32,
+    n: Number,
+    q: Ask,
+    k: Counter,
+) -> Tests
+    ensures { λ r. ⌜ r ≡ testsOf h s free clock n q (plainRule (passes (k .expiry) clock) (eqb (k .expiry) 0xffffffff) false true) ⌝ }
+{
+    let fault = numbers::passes(k.expiry, clock);
+    plain_tests(
+        h,
+        s,
+        free,
+        clock,
+        n,
+        q,
+        fault,
+        k.expiry == 0xffffffff,
+        false,
+        true,
+    )
+}
+
+// Set, Add and Delete with meta.
+pub(crate) fn meta_tests(
+    h: Head,
+    s: Stored,
+    free: bool,
+    clock: u32,
+    n: Number,
+    q: Ask,
+    w: Meta,
+) -> Tests
+    ensures { λ r. ⌜ r ≡ testsOf h s free clock n q (metaRule (modeOf (h .mode)) s w) ⌝ }
+{
+    let m = numbers::mode_of(h.mode);
+    let k = w.kind;
+    let given = w.numbers;
+    let lww = is_last(m);
+    let wins = engine::accepted(m, s, given);
+    let fresh = is_add(k);
+    let live = engine::live(s, clock);
+    let row = engine::numbers_of(s);
+    let used = engine::has_row(s);
+    let here = here(h, q.vbucket, w.force);
+    let guard = q.cas.0 != 0;
+    let marks = spent(h.mark.0);
+    Tests {
+        fault: w.last != lww,
+        long: 1024 < q.size,
+        elsewhere: !here,
+        missing: guard & !live,
+        conflict: (guard & (q.cas.0 != row.cas.0))
+            | ((fresh & live) | !(w.force | (w.skip | wins))),
+        number: false,
+        spent: (w.regenerate & marks) | false,
+        full: !(used | free),
     }
 }
 

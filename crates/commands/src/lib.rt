@@ -4,7 +4,8 @@ mod effects;
 mod judging;
 
 ghost use mathlib.Core.Path.{_≡_};
-ghost use Rattle.commands.specs.Done.{decision};
+ghost use Rattle.commands.specs.Rules.{writesOf};
+ghost use Rattle.commands.specs.Done.{settled, decision};
 use digits::Number;
 use engine::Head;
 use engine::Stored;
@@ -63,33 +64,6 @@ pub struct Ask {
     pub command: Command,
 }
 
-// How a command stands to each test: its row in the table of rules.
-pub struct Rule {
-    // breaks a rule of status 0x04 that needs mode or clock
-    pub fault: bool,
-    // skips the vbucket test
-    pub anywhere: bool,
-    // passes on replica and pending tables too
-    pub standby: bool,
-    // needs a live document
-    pub needs: bool,
-    // refused on a live document
-    pub fresh: bool,
-    // guarded by the header CAS
-    pub guarded: bool,
-    // loses against the key's row
-    pub beaten: bool,
-    // counts on the stored number
-    pub counts: bool,
-    // raises the mark
-    pub marks: bool,
-    // raises the revision
-    pub revises: bool,
-    pub writes: bool,
-    // the status at which the quiet form sends nothing
-    pub hush: u8,
-}
-
 // What each status asks, in 01's order: 0x04, 0x03, 0x07, 0x01, 0x02, 0x06, 0x84, 0x82.
 pub struct Tests {
     pub fault: bool,
@@ -134,16 +108,25 @@ pub struct Decision {
     pub done: Done,
 }
 
-// free: whether a row is free; n: the number that the stored value says.
-pub fn decide(h: Head, s: Stored, free: bool, clock: u32, n: Number, q: Ask) -> Decision
-    ensures { λ r. ⌜ r ≡ decision h s free clock n q ⌝ }
+// Whether a command writes.
+pub fn writes(c: Command) -> bool
+    ensures { λ r. ⌜ r ≡ writesOf c ⌝ }
 {
-    let c = q.command;
-    let t = judging::rule_of(numbers::mode_of(h.mode), s, clock, c);
-    let status = judging::status_of(judging::tests_of(h, s, free, clock, n, q, t));
-    let silent = q.quiet & (status == t.hush);
+    match c {
+        Command::Get(_) => false,
+        Command::Write(_) => true,
+        Command::Count(_) => true,
+        Command::Noop => false,
+        Command::Version => false,
+        Command::WithMeta(_) => true,
+    }
+}
+
+// What is done where the status is 0, and nothing where it isn't.
+fn settled(h: Head, status: u8, silent: bool, done: Done) -> Decision
+    ensures { λ r. ⌜ r ≡ settled h status silent done ⌝ }
+{
     if status == 0 {
-        let done = effects::done_of(h, s, clock, n, c);
         return Decision {
             status,
             silent,
@@ -155,5 +138,49 @@ pub fn decide(h: Head, s: Stored, free: bool, clock: u32, n: Number, q: Ask) -> 
         status,
         silent,
         done,
+    }
+}
+
+// free: whether a row is free; n: the number that the stored value says.
+pub fn decide(h: Head, s: Stored, free: bool, clock: u32, n: Number, q: Ask) -> Decision
+    ensures { λ r. ⌜ r ≡ decision h s free clock n q ⌝ }
+{
+    let c = q.command;
+    match c {
+        Command::Get(keyed) => {
+            let status = judging::status_of(judging::read_tests(h, s, free, clock, n, q));
+            let silent = q.quiet & (status == 1);
+            settled(h, status, silent, effects::found(h, s, keyed))
+        }
+        Command::Write(p) => {
+            let status = judging::status_of(judging::write_tests(h, s, free, clock, n, q, p));
+            let silent = q.quiet & (status == 0);
+            settled(h, status, silent, effects::write_done(h, s, clock, p))
+        }
+        Command::Count(k) => {
+            let status = judging::status_of(judging::count_tests(h, s, free, clock, n, q, k));
+            let silent = q.quiet & (status == 0);
+            settled(h, status, silent, effects::count_done(h, s, clock, n, k))
+        }
+        Command::Noop => {
+            let status = judging::status_of(judging::free_tests(h, s, free, clock, n, q));
+            let silent = q.quiet & (status == 0);
+            settled(h, status, silent, effects::nothing(h, Reply::Bare, Cas(0)))
+        }
+        Command::Version => {
+            let status = judging::status_of(judging::free_tests(h, s, free, clock, n, q));
+            let silent = q.quiet & (status == 0);
+            settled(
+                h,
+                status,
+                silent,
+                effects::nothing(h, Reply::Release, Cas(0)),
+            )
+        }
+        Command::WithMeta(w) => {
+            let status = judging::status_of(judging::meta_tests(h, s, free, clock, n, q, w));
+            let silent = q.quiet & (status == 0);
+            settled(h, status, silent, effects::meta_done(h, w))
+        }
     }
 }

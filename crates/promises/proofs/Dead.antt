@@ -15,7 +15,7 @@ use Rattle.engine.specs.declared.Stored.the-variants.{Used, Nothing}
 use Rattle.engine.specs.Stored.{storedOf, live, accepted}
 use Rattle.commands.specs.declared.Ask.{Ask}
 use Rattle.commands.specs.declared.Done.{Done}
-use Rattle.commands.specs.declared.Rule.{Rule}
+use Rattle.commands.specs.Rules.{Rule}
 use Rattle.commands.specs.declared.Command.{Command}
 use Rattle.commands.specs.declared.Command.the-variants.{Get, Write, Count, Noop, Version, WithMeta}
 use Rattle.commands.specs.Rules.{ruleOf, testsOf, statusOf}
