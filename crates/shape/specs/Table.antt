@@ -4,6 +4,7 @@ use mathlib.Core.Path.{_≡_, sym, ap, _∙_}
 use mathlib.Core.List.{List, [], _∷_, map}
 use native.Mathlib.Nat.{add-zero, zero-add, add-suc, suc-add, le-of-suc-le-suc, not-suc-le-zero}
 use lib.ListN.{getD, List·getD-map}
+use mathlib.Core.Bool.{cond}
 use lib.Dec.{eqb}
 use Rattle.shape.specs.declared.Shape.{Shape}
 use Rattle.shape.specs.Shapes.{shapeOf}
@@ -18,6 +19,23 @@ spelled n = record {
   meta = n / 0x10 % 16;
   quiet = eqb (n % 16) 1;
 }
+
+-- a kind's digits
+unfoldable pub kindSpelled : ℕ → ℕ
+kindSpelled k =
+    cond (eqb k 1) 0x83000000  -- not built
+    (cond (eqb k 2) 0x00000000  -- nothing
+    (cond (eqb k 3) 0x00001000  -- key
+    (cond (eqb k 4) 0x00001001  -- key, quiet
+    (cond (eqb k 5) 0x00081100  -- flags and expiry, key, value
+    (cond (eqb k 6) 0x00081101  -- the same, quiet
+    (cond (eqb k 7) 0x00141000  -- counter, key
+    (cond (eqb k 8) 0x00141001  -- counter, key, quiet
+    (cond (eqb k 9) 0x00181110  -- with meta, key, value
+    (cond (eqb k 10) 0x00181111  -- the same, quiet
+    (cond (eqb k 11) 0x00181120  -- with meta, key, no value
+    (cond (eqb k 12) 0x00181121  -- the same, quiet
+    0x81000000)))))))))))  -- no such command
 
 -- f at i, i + 1, .., n of them
 unfoldable pub build {ℓ} : {A : Type ℓ} → (ℕ → A) → ℕ → ℕ → List A

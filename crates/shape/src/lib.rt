@@ -1,7 +1,7 @@
 // Every opcode's shape: what stands between the header and the end of the body, and whether the opcode is built.
 ghost use mathlib.Core.Path.{_≡_};
 ghost use Rattle.shape.specs.Shapes.{shapeOf};
-ghost use Rattle.shape.specs.Table.{spelled};
+ghost use Rattle.shape.specs.Table.{kindSpelled, spelled};
 
 pub struct Shape {
     // 0 where the command is built, 0x83 where it is not, 0x81 where there is no such command
@@ -16,26 +16,6 @@ pub struct Shape {
     pub meta: u8,
     pub quiet: bool,
 }
-
-// What the commands of each kind carry, in hexadecimal digits: status 2, extras 2, key, value, meta, quiet.
-const KINDS: [u32; 16] = [
-    0x81000000, // 0 no such command
-    0x83000000, // 1 not built
-    0x00000000, // 2 nothing
-    0x00001000, // 3 key
-    0x00001001, // 4 key, quiet
-    0x00081100, // 5 flags and expiry, key, value
-    0x00081101, // 6 the same, quiet
-    0x00141000, // 7 counter, key
-    0x00141001, // 8 counter, key, quiet
-    0x00181110, // 9 with meta, key, value
-    0x00181111, // 10 the same, quiet
-    0x00181120, // 11 with meta, key, no value
-    0x00181121, // 12 the same, quiet
-    0x81000000, // no opcode is of the last three
-    0x81000000,
-    0x81000000,
-];
 
 // Entry n is the kind of opcode n. A table of bytes is small: where a shape is asked for, the machine lays it out anew.
 const SHAPES: [u8; 256] = [
@@ -297,6 +277,28 @@ const SHAPES: [u8; 256] = [
     0, // ff
 ];
 
+// What the commands of a kind carry, in hexadecimal digits: status 2, extras 2, key, value, meta, quiet. A `match` stands
+// in the program as a table; a constant array is laid out anew at every call.
+fn kind_spelled(kind: u8) -> u32
+    ensures { λ r. ⌜ r ≡ kindSpelled kind ⌝ }
+{
+    match kind {
+        1 => 0x83000000, // not built
+        2 => 0x00000000, // nothing
+        3 => 0x00001000, // key
+        4 => 0x00001001, // key, quiet
+        5 => 0x00081100, // flags and expiry, key, value
+        6 => 0x00081101, // the same, quiet
+        7 => 0x00141000, // counter, key
+        8 => 0x00141001, // counter, key, quiet
+        9 => 0x00181110, // with meta, key, value
+        10 => 0x00181111, // the same, quiet
+        11 => 0x00181120, // with meta, key, no value
+        12 => 0x00181121, // the same, quiet
+        _ => 0x81000000, // no such command
+    }
+}
+
 fn decode(n: u32) -> Shape
     ensures { λ r. ⌜ r ≡ spelled n ⌝ }
 {
@@ -314,6 +316,5 @@ pub fn shape_of(opcode: u8) -> Shape
     ensures { λ r. ⌜ r ≡ shapeOf opcode ⌝ }
 {
     let i = opcode as usize;
-    let kind = (SHAPES[i] % 16) as usize;
-    decode(KINDS[kind])
+    decode(kind_spelled(SHAPES[i]))
 }
