@@ -2,20 +2,25 @@
 use Prim.Native.Nat.{ℕ, _-_, _/_, _%_}
 use mathlib.Core.Bool.{Bool, true, false, cond, _||_}
 use mathlib.Core.List.{List}
-use lib.Dec.{eqb}
+use lib.ListN.{length}
+use lib.Dec.{ltb, eqb}
 use Rattle.octets.specs.Parts.{part}
 use Rattle.octets.specs.BigEndian.{num}
 use Rattle.shape.specs.Shapes.{shapeOf}
+use Rattle.shape.specs.declared.Shape.{Shape}
 use Rattle.header.specs.declared.Header.{Header}
 use Rattle.rules.specs.WithMeta.{withMeta}
 use Rattle.rules.specs.declared.WithMeta.{WithMeta}
-use Rattle.rules.specs.Rules.{metaSize}
+use Rattle.rules.specs.Rules.{withMetaOk, metaSize}
 use Rattle.request.specs.Reading.{extrasSpan, keySpan, valueSpan, bytesIn}
 use Rattle.commands.specs.declared.Kind.{Kind}
 use Rattle.commands.specs.declared.Kind.the-variants.{Set, Add, Replace, Delete}
 use Rattle.commands.specs.declared.Command.{Command}
 use Rattle.commands.specs.declared.Command.the-variants.{Get, Write, Count, Noop, Version, WithMeta as Metas}
+use Rattle.commands.specs.declared.Ask.{Ask}
 use Rattle.commands.specs.Decide.{Request}
+use Rattle.asks.specs.declared.Asked.{Asked}
+use Rattle.asks.specs.declared.Asked.the-variants.{Broken, Whole}
 
 -- an opcode or its quiet twin
 abbrev pub either : ℕ → ℕ → ℕ → Bool
@@ -39,6 +44,10 @@ metaOf k w = Metas (record {
   regenerate = eqb (w .options / 4 % 2) 1;
   skip = eqb (w .options / 8 % 2) 1;
 })
+
+-- a with-meta opcode's kind: Set below a4, Add below a6
+unfoldable pub metaKind : ℕ → Kind
+metaKind op = cond (ltb op 0xa4) Set (cond (ltb op 0xa6) Add Delete)
 
 -- plain commands, in 01's order
 unfoldable pub plainCommand : ℕ → List ℕ → Command
@@ -66,6 +75,18 @@ commandOf op extras =
 -- the value before the extended meta
 unfoldable pub valueOf : List ℕ → Header → List ℕ
 valueOf s h = part s (valueSpan h .at) (valueSpan h .len - metaSize (shapeOf (h .opcode)) (bytesIn s (extrasSpan h)))
+
+-- an ask of a command and a value of this size; the rest is the header's and the opcode's
+abbrev pub askWith : Shape → Header → Command → ℕ → Ask
+askWith s h command size = record { vbucket = h .vbucket; cas = h .cas; quiet = s .quiet; size = size; command = command }
+
+-- what a frame asks for unless it breaks the field rules, from its header, its opcode's shape, its extras and what follows its key
+unfoldable pub askedBy : Shape → Header → List ℕ → List ℕ → Asked
+askedBy s h extras value =
+    cond (eqb (s .meta) 0) (Whole (askWith s h (plainCommand (h .opcode) extras) (length value)))
+    (cond (withMetaOk (s .meta) (withMeta extras) value)
+    (Whole (askWith s h (metaOf (metaKind (h .opcode)) (withMeta extras)) (length value - withMeta extras .section)))
+    Broken)
 
 unfoldable pub requestOf : List ℕ → Header → Request
 unfolding valueOf commandOf

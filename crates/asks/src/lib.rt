@@ -1,12 +1,8 @@
 // What a whole frame asks for: opcode and extras become a command, and the value is told from its extended meta.
 ghost use mathlib.Core.Path.{_≡_};
-ghost use mathlib.Core.Bool.{true, false, cond};
 ghost use Prim.Native.Nat.{_-_};
-ghost use lib.Dec.{eqb};
-ghost use Rattle.octets.specs.Parts.{part};
-ghost use Rattle.request.specs.Reading.{valueSpan};
-ghost use Rattle.commands.specs.Decide.{askOf};
-ghost use Rattle.asks.specs.Asks.{either, plainOf, counterOf, metaOf, plainCommand, commandOf, valueOf, requestOf};
+ghost use Rattle.asks.specs.Asks.{either, plainOf, counterOf, metaOf, metaKind, plainCommand, askWith, askedBy};
+ghost use Rattle.asks.specs.Choice.{isWrite, isCount, writeKind};
 use commands::Ask;
 use commands::Command;
 use commands::Counter;
@@ -15,6 +11,7 @@ use commands::Meta;
 use commands::Plain;
 use header::Header;
 use rules::WithMeta;
+use shape::Shape;
 
 fn either(op: u8, loud: u8, quiet: u8) -> bool
     ensures { λ r. ⌜ r ≡ either op loud quiet ⌝ }
@@ -62,68 +59,63 @@ fn meta_of(kind: Kind, w: WithMeta) -> Command
     })
 }
 
-// Counters, and the commands that carry nothing.
-fn counted(op: u8, extras: &[u8]) -> Command
-    ensures { λ r. ⌜ r ≡ cond (either op 0x05 0x15) (counterOf true (now (extras .entry)))
-        (cond (either op 0x06 0x16) (counterOf false (now (extras .entry)))
-        (cond (eqb op 0x0b) Command.Version Command.Noop)) ⌝ }
+// 01 to 04 and their quiet twins, 11 to 14.
+fn is_write(op: u8) -> bool
+    ensures { λ r. ⌜ r ≡ isWrite op ⌝ }
 {
-    if either(op, 0x05, 0x15) {
-        return counter_of(true, extras);
-    }
-    if either(op, 0x06, 0x16) {
-        return counter_of(false, extras);
-    }
-    if op == 0x0b {
-        return Command::Version;
-    }
-    Command::Noop
+    ((1 <= op) & (op <= 4)) | ((0x11 <= op) & (op <= 0x14))
 }
 
-// A command's extras are read only once the command is known: each read past their end is a slow one. A Noop, which is
-// what's left in the end, is told early.
+// 05 and 06, and their quiet twins, 15 and 16.
+fn is_count(op: u8) -> bool
+    ensures { λ r. ⌜ r ≡ isCount op ⌝ }
+{
+    ((5 <= op) & (op <= 6)) | ((0x15 <= op) & (op <= 0x16))
+}
+
+// What a write's last hexadecimal digit says.
+fn write_kind(digit: u8) -> Kind
+    ensures { λ r. ⌜ r ≡ writeKind digit ⌝ }
+{
+    match digit {
+        1 => Kind::Set,
+        2 => Kind::Add,
+        3 => Kind::Replace,
+        _ => Kind::Delete,
+    }
+}
+
+fn meta_kind(op: u8) -> Kind
+    ensures { λ r. ⌜ r ≡ metaKind op ⌝ }
+{
+    if op < 0xa4 {
+        return Kind::Set;
+    }
+    if op < 0xa6 {
+        return Kind::Add;
+    }
+    Kind::Delete
+}
+
+// Each kind of command is made at one place, so that the compiler puts it there, and its extras are read only once the
+// kind is known: each read past their end is a slow one.
 fn plain_command(op: u8, extras: &[u8]) -> Command
     ensures { λ r. ⌜ r ≡ plainCommand op (now (extras .entry)) ⌝ }
 {
+    if is_write(op) {
+        return plain_of(write_kind(op % 16), extras);
+    }
+    if is_count(op) {
+        return counter_of(op % 16 == 5, extras);
+    }
     if either(op, 0x00, 0x09) {
         return Command::Get(false);
     }
     if either(op, 0x0c, 0x0d) {
         return Command::Get(true);
     }
-    if op == 0x0a {
-        return Command::Noop;
-    }
-    if either(op, 0x01, 0x11) {
-        return plain_of(Kind::Set, extras);
-    }
-    if either(op, 0x02, 0x12) {
-        return plain_of(Kind::Add, extras);
-    }
-    if either(op, 0x03, 0x13) {
-        return plain_of(Kind::Replace, extras);
-    }
-    if either(op, 0x04, 0x14) {
-        return plain_of(Kind::Delete, extras);
-    }
-    counted(op, extras)
-}
-
-// The plain opcodes are all below 0xa2, and the with-meta ones are not.
-pub fn command_of(op: u8, extras: &[u8]) -> Command
-    ensures { λ r. ⌜ r ≡ commandOf op (now (extras .entry)) ⌝ }
-{
-    if op < 0xa2 {
-        return plain_command(op, extras);
-    }
-    if either(op, 0xa2, 0xa3) {
-        return meta_of(Kind::Set, rules::with_meta(extras));
-    }
-    if either(op, 0xa4, 0xa5) {
-        return meta_of(Kind::Add, rules::with_meta(extras));
-    }
-    if either(op, 0xa8, 0xa9) {
-        return meta_of(Kind::Delete, rules::with_meta(extras));
+    if op == 0x0b {
+        return Command::Version;
     }
     Command::Noop
 }
@@ -137,40 +129,41 @@ fn minus(a: usize, b: usize) -> usize
     a - b
 }
 
-// The value before the last bytes, which are its extended meta, as a part of the received bytes.
-fn value_before(s: &[u8], h: Header, meta: usize) -> &[u8]
-    ensures { λ r. ⌜ now r ≡ part (now (s .entry)) (valueSpan h .at) (valueSpan h .len - meta) ⌝ }
+fn ask_with(shape: Shape, h: Header, command: Command, size: usize) -> Ask
+    ensures { λ r. ⌜ r ≡ askWith shape h command size ⌝ }
 {
-    let v = request::value_span(h);
-    octets::part(s, v.at, minus(v.len, meta))
-}
-
-// The value before the extended meta, as a part of the received bytes. No opcode below 0xa2 has one, so that its shape
-// need not be looked up.
-pub fn value_of(s: &[u8], h: Header) -> &[u8]
-    ensures { λ r. ⌜ now r ≡ valueOf (now (s .entry)) h ⌝ }
-{
-    if h.opcode < 0xa2 {
-        return value_before(s, h, 0);
-    }
-    let extras = request::bytes_in(s, request::extras_span(h));
-    let meta = rules::meta_size(shape::shape_of(h.opcode), extras);
-    value_before(s, h, meta)
-}
-
-pub fn ask_of(s: &[u8], h: Header) -> Ask
-    ensures { λ r. ⌜ r ≡ askOf (requestOf (now (s .entry)) h) ⌝ }
-{
-    let shape = shape::shape_of(h.opcode);
-    let extras = request::bytes_in(s, request::extras_span(h));
-    let command = command_of(h.opcode, extras);
-    let value = value_before(s, h, rules::meta_size(shape, extras));
     let cas = h.cas;
     Ask {
         vbucket: h.vbucket,
         cas,
         quiet: shape.quiet,
-        size: value.len(),
+        size,
         command,
     }
+}
+
+// A frame's field rules are broken, or what it asks for.
+pub enum Asked {
+    Broken,
+    Whole(Ask),
+}
+
+// Field rules and command by one reading of the extras, from a frame's header, its opcode's shape, its extras and what
+// follows its key.
+pub fn asked_by(shape: Shape, h: Header, extras: &[u8], value: &[u8]) -> Asked
+    ensures { λ r. ⌜ r ≡ askedBy shape h (now (extras .entry)) (now (value .entry)) ⌝ }
+{
+    if shape.meta == 0 {
+        return Asked::Whole(ask_with(shape, h, plain_command(h.opcode, extras), value.len()));
+    }
+    let w = rules::with_meta(extras);
+    if !rules::with_meta_ok(shape.meta, w, value) {
+        return Asked::Broken;
+    }
+    Asked::Whole(ask_with(
+        shape,
+        h,
+        meta_of(meta_kind(h.opcode), w),
+        minus(value.len(), w.section as usize),
+    ))
 }

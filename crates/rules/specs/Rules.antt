@@ -64,6 +64,23 @@ unfoldable pub fieldRulesOk : Shape → List ℕ → List ℕ → Bool
 unfolding withMetaOk
 fieldRulesOk s extras value = eqb (s .meta) 0 || withMetaOk (s .meta) (withMeta extras) value
 
+-- status 1, and status 2 as far as the header shows it, or 0
+unfoldable pub formStatus : Shape → Header → ℕ
+unfolding formOk
+formStatus s h = cond (not (eqb (s .status) 0)) (s .status) (cond (not (formOk s h)) 0x04 0)
+
+-- status 2 by the field rules of a with-meta request, status 3, or 0
+unfoldable pub metaStatus : ℕ → WithMeta → List ℕ → ℕ
+unfolding withMetaOk
+metaStatus meta w value = cond (not (withMetaOk meta w value)) 0x04 (cond (ltb 1024 (length value - w .section)) 0x03 0)
+
+-- status 2 by the field rules, status 3, or 0
+unfoldable pub fieldStatus : Shape → List ℕ → List ℕ → ℕ
+unfolding fieldRulesOk metaSize
+fieldStatus s extras value =
+    cond (not (fieldRulesOk s extras value)) 0x04
+    (cond (ltb 1024 (length value - metaSize s extras)) 0x03 0)
+
 -- the status of the first rule that applies, or 0
 unfoldable pub judged : Shape → Header → List ℕ → List ℕ → ℕ
 unfolding formOk fieldRulesOk metaSize

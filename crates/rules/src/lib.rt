@@ -6,7 +6,7 @@ ghost use lib.ListN.{length};
 ghost use lib.Dec.{ltb};
 ghost use Rattle.rules.specs.Section.{fieldOk, fieldsOk, sectionOk};
 ghost use Rattle.rules.specs.WithMeta.{numbersOf, optionsOf, sectionOf, withMeta};
-ghost use Rattle.rules.specs.Rules.{formOk, numbersOk, bodyOk, withMetaOk, metaSize, fieldRulesOk, judged, status};
+ghost use Rattle.rules.specs.Rules.{formOk, numbersOk, bodyOk, withMetaOk, metaSize, formStatus, metaStatus, fieldStatus, judged, status};
 use header::Header;
 use numbers::Cas;
 use numbers::Numbers;
@@ -128,7 +128,8 @@ fn body_ok(meta: u8, w: WithMeta, n: usize) -> bool
         | ((meta == 2) & ((n == 0) & ((w.numbers.flags == 0) & (w.numbers.expiry == 0))))
 }
 
-fn with_meta_ok(meta: u8, w: WithMeta, value: &[u8]) -> bool
+// Whether a with-meta request keeps the field rules; value is what follows its key.
+pub fn with_meta_ok(meta: u8, w: WithMeta, value: &[u8]) -> bool
     ensures { λ r. ⌜ r ≡ withMetaOk meta w (now (value .entry)) ⌝ }
 {
     let section = w.section as usize;
@@ -149,15 +150,6 @@ pub fn meta_size(s: Shape, extras: &[u8]) -> usize
     section_of(extras) as usize
 }
 
-fn field_rules_ok(s: Shape, extras: &[u8], value: &[u8]) -> bool
-    ensures { λ r. ⌜ r ≡ fieldRulesOk s (now (extras .entry)) (now (value .entry)) ⌝ }
-{
-    if s.meta == 0 {
-        return true;
-    }
-    with_meta_ok(s.meta, with_meta(extras), value)
-}
-
 // Whether a value is over 1,024 bytes, its extended meta not counted.
 fn too_large(len: usize, meta: usize) -> bool
     ensures { λ r. ⌜ r ≡ ltb 1024 (len - meta) ⌝ }
@@ -168,8 +160,9 @@ fn too_large(len: usize, meta: usize) -> bool
     1024 < len - meta
 }
 
-fn judge(s: Shape, h: Header, extras: &[u8], value: &[u8]) -> u8
-    ensures { λ r. ⌜ r ≡ judged s h (now (extras .entry)) (now (value .entry)) ⌝ }
+// Status 1, and status 2 as far as the header shows it, or 0. Where it is 0, extras and key end within the body.
+pub fn form_status(s: Shape, h: Header) -> u8
+    ensures { λ r. ⌜ r ≡ formStatus s h ⌝ }
 {
     if s.status != 0 {
         return s.status;
@@ -177,13 +170,43 @@ fn judge(s: Shape, h: Header, extras: &[u8], value: &[u8]) -> u8
     if !form_ok(s, h) {
         return 0x04;
     }
-    if !field_rules_ok(s, extras, value) {
+    0
+}
+
+fn meta_status(meta: u8, extras: &[u8], value: &[u8]) -> u8
+    ensures { λ r. ⌜ r ≡ metaStatus meta (withMeta (now (extras .entry))) (now (value .entry)) ⌝ }
+{
+    let w = with_meta(extras);
+    if !with_meta_ok(meta, w, value) {
         return 0x04;
     }
-    if too_large(value.len(), meta_size(s, extras)) {
+    if too_large(value.len(), w.section as usize) {
         return 0x03;
     }
     0
+}
+
+// Status 2 by the field rules, status 3, or 0.
+pub fn field_status(s: Shape, extras: &[u8], value: &[u8]) -> u8
+    ensures { λ r. ⌜ r ≡ fieldStatus s (now (extras .entry)) (now (value .entry)) ⌝ }
+{
+    if s.meta != 0 {
+        return meta_status(s.meta, extras, value);
+    }
+    if 1024 < value.len() {
+        return 0x03;
+    }
+    0
+}
+
+fn judge(s: Shape, h: Header, extras: &[u8], value: &[u8]) -> u8
+    ensures { λ r. ⌜ r ≡ judged s h (now (extras .entry)) (now (value .entry)) ⌝ }
+{
+    let status = form_status(s, h);
+    if status != 0 {
+        return status;
+    }
+    field_status(s, extras, value)
 }
 
 // The status of the first rule that applies to a request's header, extras and value, or 0.

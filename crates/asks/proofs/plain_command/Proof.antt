@@ -1,113 +1,85 @@
+-- `asks::plain_command` meets its contract: each answer is one of `chosen`, which is the definition at every byte.
 use mathlib.Core.Path.{sym, _∙_}
-use Rattle.asks.specs.Asks.{plainCommand}
+use native.Mathlib.Omega.{arith}
+use denote.Ref.{now}
+use borrow.Author.Tests.{eq-eqb, ne-eqb}
 use borrow.Author.Needs.{needs}
+use Rattle.asks.specs.Choice.{chosen}
+use Rattle.asks.proofs.Choosing.{chosen-is}
 use Rattle.asks.proofs.plain_command.Statement.{statement}
 use Rattle.asks.proofs.plain_command.Tie as tie
 
--- src/lib.rt:87:8
-either-requires : tie.Need-either-requires
-either-requires c κs = search needs
+is-write-requires : tie.Need-is-write-requires
+is-write-requires c κs = search needs
 
--- src/lib.rt:88:9
-returns : tie.Need-returns
-unfolding plainCommand
-returns c = simp (sym ((c .before .either) .ensures) ∙ (c .if1) .taken)
+write-kind-requires : tie.Need-write-kind-requires
+write-kind-requires c κs = search needs
 
--- src/lib.rt:90:8
-either-requires-2 : tie.Need-either-requires-2
-either-requires-2 c κs = search needs
-
--- src/lib.rt:91:9
-returns-2 : tie.Need-returns-2
-unfolding plainCommand
-returns-2 c = simp (sym ((c .before .before .before .either) .ensures) ∙ (c .before .before .if1) .left, sym ((c .before .either2) .ensures) ∙ (c .if2) .taken)
-
--- src/lib.rt:94:9
-returns-3 : tie.Need-returns-3
-unfolding plainCommand
-returns-3 c = rw ((c .if3) .taken)
-
--- src/lib.rt:96:8
-either-requires-3 : tie.Need-either-requires-3
-either-requires-3 c κs = search needs
-
--- src/lib.rt:97:9
 plain-of-requires : tie.Need-plain-of-requires
 plain-of-requires c κs = search needs
 
--- src/lib.rt:97:9
+returns : tie.Need-returns
+unfolding chosen
+returns c =
+    let a = c .before .before .before .before .before .args in
+    rw (← chosen-is (now (a .extras)) (a .op) (omega arith)) (simp (sym ((c .before .before .before .is-write) .ensures) ∙ (c .before .before .if1) .taken, (c .plain-of) .ensures, (c .before .write-kind) .ensures))
+
+is-count-requires : tie.Need-is-count-requires
+is-count-requires c κs = search needs
+
+counter-of-requires : tie.Need-counter-of-requires
+counter-of-requires c κs = search needs
+
+returns-2 : tie.Need-returns-2
+unfolding chosen
+returns-2 c =
+    let a = c .before .before .before .before .before .before .args in
+    rw (← chosen-is (now (a .extras)) (a .op) (omega arith)) (simp (sym ((c .before .before .before .before .is-write) .ensures) ∙ (c .before .before .before .if1) .left, sym ((c .before .before .is-count) .ensures) ∙ (c .before .if2) .taken, (c .counter-of) .ensures))
+
+either-requires : tie.Need-either-requires
+either-requires c κs = search needs
+
+returns-3 : tie.Need-returns-3
+unfolding chosen
+returns-3 c =
+    let a = c .before .before .before .before .before .before .before .args in
+    rw (← chosen-is (now (a .extras)) (a .op) (omega arith)) (simp (sym ((c .before .before .before .before .before .is-write) .ensures) ∙ (c .before .before .before .before .if1) .left, sym ((c .before .before .before .is-count) .ensures) ∙ (c .before .before .if2) .left, sym ((c .before .either) .ensures) ∙ (c .if3) .taken))
+
+either-requires-2 : tie.Need-either-requires-2
+either-requires-2 c κs = search needs
+
 returns-4 : tie.Need-returns-4
-unfolding plainCommand
-returns-4 c = simp (sym ((c .before .before .before .before .before .before .before .either) .ensures) ∙ (c .before .before .before .before .before .before .if1) .left, sym ((c .before .before .before .before .before .either2) .ensures) ∙ (c .before .before .before .before .if2) .left, sym ((c .before .before .either3) .ensures) ∙ (c .before .if4) .taken, (c .plain-of) .ensures)
+unfolding chosen
+returns-4 c =
+    let a = c .before .before .before .before .before .before .before .before .before .args in
+    rw (← chosen-is (now (a .extras)) (a .op) (omega arith)) (simp (sym ((c .before .before .before .before .before .before .before .is-write) .ensures) ∙ (c .before .before .before .before .before .before .if1) .left, sym ((c .before .before .before .before .before .is-count) .ensures) ∙ (c .before .before .before .before .if2) .left, sym ((c .before .before .before .either) .ensures) ∙ (c .before .before .if3) .left, sym ((c .before .either2) .ensures) ∙ (c .if4) .taken))
 
--- src/lib.rt:99:8
-either-requires-4 : tie.Need-either-requires-4
-either-requires-4 c κs = search needs
-
--- src/lib.rt:100:9
-plain-of-requires-2 : tie.Need-plain-of-requires-2
-plain-of-requires-2 c κs = search needs
-
--- src/lib.rt:100:9
 returns-5 : tie.Need-returns-5
-unfolding plainCommand
-returns-5 c = simp (sym ((c .before .before .before .before .before .before .before .before .before .either) .ensures) ∙ (c .before .before .before .before .before .before .before .before .if1) .left, sym ((c .before .before .before .before .before .before .before .either2) .ensures) ∙ (c .before .before .before .before .before .before .if2) .left, sym ((c .before .before .before .before .either3) .ensures) ∙ (c .before .before .before .if4) .left, sym ((c .before .before .either4) .ensures) ∙ (c .before .if5) .taken, (c .plain-of2) .ensures)
+unfolding chosen
+returns-5 c =
+    let a = c .before .before .before .before .before .before .before .before .before .before .args in
+    rw (← chosen-is (now (a .extras)) (a .op) (omega arith)) (simp (sym ((c .before .before .before .before .before .before .before .before .is-write) .ensures) ∙ (c .before .before .before .before .before .before .before .if1) .left, sym ((c .before .before .before .before .before .before .is-count) .ensures) ∙ (c .before .before .before .before .before .if2) .left, sym ((c .before .before .before .before .either) .ensures) ∙ (c .before .before .before .if3) .left, sym ((c .before .before .either2) .ensures) ∙ (c .before .if4) .left, eq-eqb _ _ ((c .if5) .taken)))
 
--- src/lib.rt:102:8
-either-requires-5 : tie.Need-either-requires-5
-either-requires-5 c κs = search needs
-
--- src/lib.rt:103:9
-plain-of-requires-3 : tie.Need-plain-of-requires-3
-plain-of-requires-3 c κs = search needs
-
--- src/lib.rt:103:9
 returns-6 : tie.Need-returns-6
-unfolding plainCommand
-returns-6 c = simp (sym ((c .before .before .before .before .before .before .before .before .before .before .before .either) .ensures) ∙ (c .before .before .before .before .before .before .before .before .before .before .if1) .left, sym ((c .before .before .before .before .before .before .before .before .before .either2) .ensures) ∙ (c .before .before .before .before .before .before .before .before .if2) .left, sym ((c .before .before .before .before .before .before .either3) .ensures) ∙ (c .before .before .before .before .before .if4) .left, sym ((c .before .before .before .before .either4) .ensures) ∙ (c .before .before .before .if5) .left, sym ((c .before .before .either5) .ensures) ∙ (c .before .if6) .taken, (c .plain-of3) .ensures)
-
--- src/lib.rt:105:8
-either-requires-6 : tie.Need-either-requires-6
-either-requires-6 c κs = search needs
-
--- src/lib.rt:106:9
-plain-of-requires-4 : tie.Need-plain-of-requires-4
-plain-of-requires-4 c κs = search needs
-
--- src/lib.rt:106:9
-returns-7 : tie.Need-returns-7
-unfolding plainCommand
-returns-7 c = simp (sym ((c .before .before .before .before .before .before .before .before .before .before .before .before .before .either) .ensures) ∙ (c .before .before .before .before .before .before .before .before .before .before .before .before .if1) .left, sym ((c .before .before .before .before .before .before .before .before .before .before .before .either2) .ensures) ∙ (c .before .before .before .before .before .before .before .before .before .before .if2) .left, sym ((c .before .before .before .before .before .before .before .before .either3) .ensures) ∙ (c .before .before .before .before .before .before .before .if4) .left, sym ((c .before .before .before .before .before .before .either4) .ensures) ∙ (c .before .before .before .before .before .if5) .left, sym ((c .before .before .before .before .either5) .ensures) ∙ (c .before .before .before .if6) .left, sym ((c .before .before .either6) .ensures) ∙ (c .before .if7) .taken, (c .plain-of4) .ensures)
-
--- src/lib.rt:108:5
-counted-requires : tie.Need-counted-requires
-counted-requires c κs = search needs
-
--- src/lib.rt:84:1
-returns-8 : tie.Need-returns-8
-unfolding plainCommand
-returns-8 c = simp (sym ((c .before .before .before .before .before .before .before .before .before .before .before .before .before .either) .ensures) ∙ (c .before .before .before .before .before .before .before .before .before .before .before .before .if1) .left, sym ((c .before .before .before .before .before .before .before .before .before .before .before .either2) .ensures) ∙ (c .before .before .before .before .before .before .before .before .before .before .if2) .left, sym ((c .before .before .before .before .before .before .before .before .either3) .ensures) ∙ (c .before .before .before .before .before .before .before .if4) .left, sym ((c .before .before .before .before .before .before .either4) .ensures) ∙ (c .before .before .before .before .before .if5) .left, sym ((c .before .before .before .before .either5) .ensures) ∙ (c .before .before .before .if6) .left, sym ((c .before .before .either6) .ensures) ∙ (c .before .if7) .left, (c .counted) .ensures)
+unfolding chosen
+returns-6 c =
+    let a = c .before .before .before .before .before .before .before .before .before .before .args in
+    rw (← chosen-is (now (a .extras)) (a .op) (omega arith)) (simp (sym ((c .before .before .before .before .before .before .before .before .is-write) .ensures) ∙ (c .before .before .before .before .before .before .before .if1) .left, sym ((c .before .before .before .before .before .before .is-count) .ensures) ∙ (c .before .before .before .before .before .if2) .left, sym ((c .before .before .before .before .either) .ensures) ∙ (c .before .before .before .if3) .left, sym ((c .before .before .either2) .ensures) ∙ (c .before .if4) .left, ne-eqb _ _ ((c .if5) .left)))
 
 pub plain-command-spec : {M : Type 1} → statement M
 plain-command-spec =
     tie.close
     (tie.spec
-    either-requires
-    returns
-    either-requires-2
-    returns-2
-    returns-3
-    either-requires-3
+    is-write-requires
+    write-kind-requires
     plain-of-requires
+    returns
+    is-count-requires
+    counter-of-requires
+    returns-2
+    either-requires
+    returns-3
+    either-requires-2
     returns-4
-    either-requires-4
-    plain-of-requires-2
     returns-5
-    either-requires-5
-    plain-of-requires-3
-    returns-6
-    either-requires-6
-    plain-of-requires-4
-    returns-7
-    counted-requires
-    returns-8)
+    returns-6)

@@ -1,0 +1,40 @@
+use Rattle.rules.specs.Rules.{metaStatus}
+use borrow.Author.Needs.{needs}
+use Rattle.rules.proofs.meta_status.Statement.{statement}
+use Rattle.rules.proofs.meta_status.Tie as tie
+
+with-meta-requires : tie.Need-with-meta-requires
+with-meta-requires c κs = search needs
+
+with-meta-ok-requires : tie.Need-with-meta-ok-requires
+with-meta-ok-requires c κs = search needs
+
+returns : tie.Need-returns
+unfolding metaStatus
+returns c = simp (← c .before .before .with-meta .ensures, ← c .before .with-meta-ok .ensures, c .if1 .taken)
+
+cast-too-large : tie.Need-cast-too-large
+cast-too-large c = search needs
+
+too-large-requires : tie.Need-too-large-requires
+too-large-requires c κs = search needs
+
+returns-2 : tie.Need-returns-2
+unfolding metaStatus
+returns-2 c = simp (← c .before .before .before .before .before .with-meta .ensures, ← c .before .before .before .before .with-meta-ok .ensures, c .before .before .before .if1 .left, ← c .before .too-large .ensures, c .if2 .taken)
+
+returns-3 : tie.Need-returns-3
+unfolding metaStatus
+returns-3 c = simp (← c .before .before .before .before .before .with-meta .ensures, ← c .before .before .before .before .with-meta-ok .ensures, c .before .before .before .if1 .left, ← c .before .too-large .ensures, c .if2 .left)
+
+pub meta-status-spec : {M : Type 1} → statement M
+meta-status-spec =
+    tie.close
+    (tie.spec
+    with-meta-requires
+    with-meta-ok-requires
+    returns
+    cast-too-large
+    too-large-requires
+    returns-2
+    returns-3)
