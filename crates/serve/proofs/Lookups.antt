@@ -35,6 +35,7 @@ use Rattle.table.proofs.RowLaws.{RowGood, row-back}
 use Rattle.table.proofs.TableLaws.{sound-parts}
 use Rattle.serving.specs.Change.{heldAt, valueIn}
 use Rattle.serving.specs.Serve.{goesOn}
+use Rattle.serve.specs.Rows.{usedAt, usedIn}
 
 no-row : rowOf [] ≡ none
 unfolding rowOf slotOf be beFrom
@@ -112,6 +113,19 @@ module _ (b : List ℕ) where
         (λ z. ap (λ (r : List ℕ). docOf r .value) z)
         (λ g. ap (λ (r : List ℕ). docOf r .value) (sym (g .0) ∙ ap rowBytes (sym (row-at i) ∙ e)))
         (row-known i)
+
+    free-slot : (i : ℕ) → getD (tableOf b .rows) i none ≡ none → usedAt b i ≡ 0
+    unfolding slotOf be beFrom rowBytes
+    free-slot i e =
+        ⊎-elim
+        (λ z. ap (λ (r : List ℕ). slotOf r .keylen + slotOf r .vallen) z)
+        (λ g. ap (λ (r : List ℕ). slotOf r .keylen + slotOf r .vallen) (sym (g .0) ∙ ap rowBytes (sym (row-at i) ∙ e)))
+        (row-known i)
+
+    -- a free row uses no bytes
+    pub free-used : (f : Found) → freeIn 0 (tableOf b .rows) ≡ f → usedIn b f ≡ 0
+    free-used (At i) e = let h = free-there 0 i (tableOf b .rows) e in let z : h .0 ≡ i = omega (arith, h .1 .0) in free-slot i (rw z at (h .1 .1))
+    free-used Nothing e = refl
 
     pub value-short : (f : Found) → length (valueIn b f) ≤ 1024
     value-short Nothing = omega arith

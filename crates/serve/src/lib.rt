@@ -4,46 +4,35 @@ mod reply;
 
 ghost use mathlib.Core.Path.{_≡_};
 ghost use mathlib.Core.Bool.{true, not};
-ghost use mathlib.Core.List.{[]};
 ghost use Prim.Native.Nat.{_+_, _≤_};
 ghost use lib.ListN.{length};
-ghost use Rattle.octets.specs.Parts.{written};
+ghost use Rattle.octets.specs.Parts.{part, written};
+ghost use Rattle.shape.specs.Shapes.{shapeOf};
+ghost use Rattle.header.specs.Header.{headerBytes};
+ghost use Rattle.rules.specs.Rules.{formStatus};
 ghost use Rattle.request.specs.Reading.{frameStatus, bytesIn, keySpan};
+ghost use Rattle.digits.specs.Decimal.{numberOf};
+ghost use Rattle.commands.specs.Done.{decision};
+ghost use Rattle.commands.specs.Decide.{askOf};
+ghost use Rattle.asks.specs.Asks.{requestOf, valueOf};
 ghost use Rattle.table.specs.Lookup.{findIn, freeIn, missing};
-ghost use Rattle.serving.specs.Reply.{replyBytes};
 ghost use Rattle.table.specs.Damage.{sound};
-ghost use Rattle.table.specs.Table.{tableOf};
-ghost use Rattle.serving.specs.Serve.{gateAll, goesOn, refusal, decisionOn, answerBy, frameTable, frameReply, served, servedTable, servedReply};
+ghost use Rattle.table.specs.Table.{headOf, tableOf};
+ghost use Rattle.serving.specs.Serve.{goesOn, answerBy, frameTable, frameReply, served, servedTable, servedReply};
+ghost use Rattle.serve.specs.Rows.{heldBy, placeFor};
+ghost use Rattle.serve.specs.Bare.{bareHeader};
+use asks::Asked;
+use commands::Ask;
 use commands::Decision;
-use commands::Done;
-use commands::Reply;
-use commands::Source;
 use engine::Head;
-use engine::Stored;
 use header::Header;
 use numbers::Cas;
 use request::Gate;
 use serving::Served;
+use shape::Shape;
+use table::Checked;
 use table::Found;
-
-// The outcomes, in the order tested.
-fn gate_all(b: &[u8], room: usize, s: &[u8]) -> Gate
-    ensures { λ r. ⌜ r ≡ gateAll (now (b .entry)) room (now (s .entry)) ⌝ }
-{
-    if !table::damage::is_sound(b) {
-        return Gate::Stop(5, 0);
-    }
-    if room < 1302 {
-        return Gate::Stop(4, 0);
-    }
-    request::gate_of(s)
-}
-
-fn goes_on(status: u8) -> bool
-    ensures { λ r. ⌜ r ≡ goesOn status ⌝ }
-{
-    (status == 0) | (status == 0x03)
-}
+use table::Slot;
 
 // Whether there is such a place.
 fn is_place(f: Found) -> bool
@@ -55,79 +44,166 @@ fn is_place(f: Found) -> bool
     }
 }
 
-// The decision on a frame whose form is right, or right but for a value over 1,024 bytes. f: the key's row; free: the
-// lowest free row.
-fn decided(b: &[u8], clock: u32, s: &[u8], h: Header, f: Found, free: Found) -> Decision
-    requires { ⌜ (f ≡ findIn (bytesIn (now s) (keySpan h)) 0 (tableOf (now b) .rows)) × ((free ≡ freeIn 0 (tableOf (now b) .rows)) × (goesOn (frameStatus (now s) h) ≡ true)) ⌝ }
-    ensures { λ r. ⌜ r ≡ decisionOn (tableOf (now (b .entry))) clock (now (s .entry)) h ⌝ }
+// The key's row. No row has an empty key, so that there is nothing to look for.
+fn find_key(b: &[u8], key: &[u8]) -> Found
+    requires { ⌜ sound (now b) ≡ true ⌝ }
+    ensures { λ r. ⌜ r ≡ findIn (now (key .entry)) 0 (tableOf (now (b .entry)) .rows) ⌝ }
 {
-    let number = digits::parse(change::value_in(b, f));
-    let ask = asks::ask_of(s, h);
+    if key.len() == 0 {
+        return Found::Nothing;
+    }
+    table::lookup::find(b, key)
+}
+
+// The place of a write: the key's row, else the lowest free one, which is looked for only then.
+fn place_for(b: &[u8], f: Found, writes: bool) -> Found
+    ensures { λ r. ⌜ r ≡ placeFor writes f (freeIn 0 (tableOf (now (b .entry)) .rows)) ⌝ }
+{
+    match f {
+        Found::At(i) => Found::At(i),
+        Found::Nothing => {
+            if writes {
+                return table::lookup::free(b);
+            }
+            Found::Nothing
+        }
+    }
+}
+
+// The decision on a request, from its key's row and the place of a write. old: the row's value.
+fn decided(
+    head: Head,
+    clock: u32,
+    f: Found,
+    slot: Slot,
+    place: Found,
+    old: &[u8],
+    ask: Ask,
+) -> Decision
+    ensures { λ r. ⌜ r ≡ decision head (heldBy f slot) (not (missing place)) clock (numberOf (now (old .entry))) ask ⌝ }
+{
     commands::decide(
-        table::head_of(b),
-        change::held_at(b, f),
-        is_place(free),
+        head,
+        change::held_by(f, slot),
+        is_place(place),
         clock,
-        number,
+        digits::parse(old),
         ask,
     )
 }
 
-// Answers and stores a frame whose form is right, or right but for a value over 1,024 bytes.
-fn serve_formed(b: &mut [u8], clock: u32, s: &[u8], h: Header, out: &mut [u8]) -> Served
-    requires { ⌜ (sound (now b) ≡ true) × ((1302 ≤ length (now out)) × (goesOn (frameStatus (now s) h) ≡ true)) ⌝ }
+// Answers and stores a frame whose form is right, or right but for a value over 1,024 bytes. key and value are parts of
+// the received bytes s.
+fn serve_formed(
+    b: &mut [u8],
+    head: Head,
+    clock: u32,
+    s: &[u8],
+    h: Header,
+    ask: Ask,
+    key: &[u8],
+    value: &[u8],
+    out: &mut [u8],
+) -> Served
+    requires { ⌜ (sound (now b) ≡ true) × ((head ≡ headOf (now b)) × (1302 ≤ length (now out))) ⌝ }
+    requires { ⌜ (goesOn (frameStatus (now s) h) ≡ true) × ((ask ≡ askOf (requestOf (now s) h)) × ((now key ≡ bytesIn (now s) (keySpan h)) × (part (now value) 0 (ask .size) ≡ valueOf (now s) h))) ⌝ }
     ensures { λ r. ⌜ (r ≡ answerBy (now (b .entry)) clock (now (s .entry)) (Gate.Whole h))
         × ((now (b .exit) ≡ frameTable (now (b .entry)) clock (now (s .entry)) h)
         × (now (out .exit) ≡ written (now (out .entry)) 0 (frameReply (now (b .entry)) clock (now (s .entry)) h))) ⌝ }
 {
-    let key = request::bytes_in(s, request::key_span(h));
-    let f = table::lookup::find(b, key);
-    let free = table::lookup::free(b);
-    let d = decided(b, clock, s, h, f, free);
-    let n = reply::put_reply(out, h.opcode, h.opaque, d, key, change::value_in(b, f));
+    let f = find_key(b, key);
+    let command = ask.command;
+    let place = place_for(b, f, commands::writes(command));
+    let slot = change::slot_in(b, f);
+    let old = change::value_by(b, f, slot);
+    let size = ask.size;
+    let d = decided(head, clock, f, slot, place, old, ask);
+    let n = reply::put_reply(out, h.opcode, h.opaque, d, key, old);
     let done = d.done;
-    change::change(
-        b,
-        table::lookup::either(f, free),
-        key,
-        done,
-        asks::value_of(s, h),
-    );
+    let used = slot.keylen as usize + slot.vallen as usize;
+    change::change(b, place, key, done, octets::part(value, 0, size), used);
     Served::Done(d.status, 24 + h.body as usize, n)
 }
 
 // Answers a frame whose status the reader gives: a bare header, and nothing stored.
-fn put_refusal(out: &mut [u8], h: Header, head: Head, status: u8) -> usize
+fn refused(out: &mut [u8], h: Header, status: u8) -> Served
     requires { ⌜ 1302 ≤ length (now out) ⌝ }
-    ensures { λ r. ⌜ (r ≡ 24) × (now (out .exit) ≡ written (now (out .entry)) 0 (replyBytes (h .opcode) (h .opaque) (refusal head status) [] [])) ⌝ }
+    ensures { λ r. ⌜ (r ≡ Served.Done status (24 + h .body) 24)
+        × (now (out .exit) ≡ written (now (out .entry)) 0 (headerBytes (bareHeader (h .opcode) (h .opaque) status))) ⌝ }
 {
-    let done = Done {
-        store: Stored::Nothing,
-        source: Source::Empty,
-        reply: Reply::Bare,
-        cas: Cas(0),
-        head,
-    };
-    let d = Decision {
-        status,
-        silent: false,
-        done,
-    };
-    reply::put_reply(out, h.opcode, h.opaque, d, b"", b"")
+    header::put(
+        out,
+        Header {
+            magic: 0x81,
+            opcode: h.opcode,
+            keylen: 0,
+            extlen: 0,
+            datatype: 0,
+            vbucket: status as u16,
+            body: 0,
+            opaque: h.opaque,
+            cas: Cas(0),
+        },
+    );
+    Served::Done(status, 24 + h.body as usize, 24)
 }
 
-fn serve_whole(b: &mut [u8], clock: u32, s: &[u8], h: Header, out: &mut [u8]) -> Served
-    requires { ⌜ (sound (now b) ≡ true) × (1302 ≤ length (now out)) ⌝ }
+// A frame whose lengths are right: its parts are cut out, and then its fields are judged.
+fn serve_parts(
+    b: &mut [u8],
+    head: Head,
+    clock: u32,
+    s: &[u8],
+    h: Header,
+    shape: Shape,
+    out: &mut [u8],
+) -> Served
+    requires { ⌜ (sound (now b) ≡ true) × ((head ≡ headOf (now b)) × (1302 ≤ length (now out))) ⌝ }
+    requires { ⌜ (shape ≡ shapeOf (h .opcode)) × ((formStatus shape h ≡ 0) × (24 + h .body ≤ length (now s))) ⌝ }
     ensures { λ r. ⌜ (r ≡ answerBy (now (b .entry)) clock (now (s .entry)) (Gate.Whole h))
         × ((now (b .exit) ≡ frameTable (now (b .entry)) clock (now (s .entry)) h)
         × (now (out .exit) ≡ written (now (out .entry)) 0 (frameReply (now (b .entry)) clock (now (s .entry)) h))) ⌝ }
 {
-    let status = request::frame_status(s, h);
-    if goes_on(status) {
-        return serve_formed(b, clock, s, h, out);
+    let a = 24 + h.extlen as usize;
+    let k = a + h.keylen as usize;
+    let end = 24 + h.body as usize;
+    let extras = &s[24..a];
+    let key = &s[a..k];
+    let value = &s[k..end];
+    match asks::asked_by(shape, h, extras, value) {
+        Asked::Broken => refused(out, h, 0x04),
+        Asked::Whole(ask) => serve_formed(b, head, clock, s, h, ask, key, value, out),
     }
-    let n = put_refusal(out, h, table::head_of(b), status);
-    Served::Done(status, 24 + h.body as usize, n)
+}
+
+fn serve_whole(b: &mut [u8], head: Head, clock: u32, s: &[u8], h: Header, out: &mut [u8]) -> Served
+    requires { ⌜ (sound (now b) ≡ true) × ((head ≡ headOf (now b)) × ((1302 ≤ length (now out)) × (24 + h .body ≤ length (now s)))) ⌝ }
+    ensures { λ r. ⌜ (r ≡ answerBy (now (b .entry)) clock (now (s .entry)) (Gate.Whole h))
+        × ((now (b .exit) ≡ frameTable (now (b .entry)) clock (now (s .entry)) h)
+        × (now (out .exit) ≡ written (now (out .entry)) 0 (frameReply (now (b .entry)) clock (now (s .entry)) h))) ⌝ }
+{
+    let shape = shape::shape_of(h.opcode);
+    let status = rules::form_status(shape, h);
+    if status == 0 {
+        return serve_parts(b, head, clock, s, h, shape, out);
+    }
+    refused(out, h, status)
+}
+
+// On a table that is not damaged: the outcomes from 4 on, in the order tested.
+fn serve_sound(b: &mut [u8], head: Head, clock: u32, s: &[u8], out: &mut [u8]) -> Served
+    requires { ⌜ (sound (now b) ≡ true) × (head ≡ headOf (now b)) ⌝ }
+    ensures { λ r. ⌜ (r ≡ served (now (b .entry)) clock (now (s .entry)) (length (now (out .entry))))
+        × ((now (b .exit) ≡ servedTable (now (b .entry)) clock (now (s .entry)) (length (now (out .entry))))
+        × (now (out .exit) ≡ servedReply (now (b .entry)) clock (now (s .entry)) (now (out .entry)))) ⌝ }
+{
+    if out.len() < 1302 {
+        return Served::Refused(4, 0);
+    }
+    match request::gate_of(s) {
+        Gate::Stop(outcome, needed) => Served::Refused(outcome, needed),
+        Gate::Whole(h) => serve_whole(b, head, clock, s, h, out),
+    }
 }
 
 // Serves the request at the start of the received bytes. The tally stands apart.
@@ -136,8 +212,8 @@ pub fn serve_one(b: &mut [u8], clock: u32, s: &[u8], out: &mut [u8]) -> Served
         × ((now (b .exit) ≡ servedTable (now (b .entry)) clock (now (s .entry)) (length (now (out .entry))))
         × (now (out .exit) ≡ servedReply (now (b .entry)) clock (now (s .entry)) (now (out .entry)))) ⌝ }
 {
-    match gate_all(b, out.len(), s) {
-        Gate::Stop(outcome, needed) => Served::Refused(outcome, needed),
-        Gate::Whole(h) => serve_whole(b, clock, s, h, out),
+    match table::damage::checked(b) {
+        Checked::Damaged => Served::Refused(5, 0),
+        Checked::Sound(head) => serve_sound(b, head, clock, s, out),
     }
 }

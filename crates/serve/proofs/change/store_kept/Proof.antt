@@ -19,16 +19,18 @@ slice-aggregate-part c = search needs
 part-requires : tie.Need-part-requires
 part-requires c κs = search needs
 
-store-requires : tie.Need-store-requires
-store-requires c κs = search needs
+put-requires : tie.Need-put-requires
+put-requires c κs =
+    let p = c .before .before .before .before .before .before .before .before .before .before .pre in
+    (p .0, p .1 .0)
 
 same-length : tie.Need-same-length
 same-length c = search needs
 
 returns : tie.Need-returns
 returns c =
-    let a = c .before .before .before .before .before .before .before .before .before .before .before .before .before .before .args in
-    c .before .before .store .ensures ∙ ap (storing (a .b .now) (a .i) (a .key .now) (a .d) (a .mark .0)) (copy-back _ _ _ _ _ (c .before .before .before .before .before .before .before .before .before .before .value .ensures) (c .before .before .before .before .before .before .before .before .put-bytes .ensures) (c .before .before .before .part .ensures) (c .before .before .before .before .before .before .before .before .before .before .before .before .before .before .pre))
+    let a = c .before .before .before .before .before .before .before .before .before .before .before .before .before .args in
+    c .before .before .put .ensures ∙ ap (storing (a .b .now) (a .i) (a .key .now) (a .d) (a .mark .0)) (copy-back _ _ _ _ _ (c .before .before .before .before .before .before .before .before .before .value .ensures) (c .before .before .before .before .before .before .before .put-bytes .ensures) (c .before .before .before .part .ensures) (c .before .before .before .before .before .before .before .before .before .before .before .before .before .pre .1 .1))
 
 pub store-kept-spec : {M : Type 1} → statement M
 store-kept-spec =
@@ -39,6 +41,6 @@ store-kept-spec =
     put-bytes-requires
     slice-aggregate-part
     part-requires
-    store-requires
+    put-requires
     same-length
     returns)

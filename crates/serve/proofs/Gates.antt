@@ -1,0 +1,34 @@
+-- Which gate a call meets, and what serving is by the gate it met.
+use Prim.Native.Nat.{ℕ, _≤_, _<_}
+use mathlib.Core.Path.{_≡_, sym, ap, _∙_}
+use mathlib.Core.Bool.{true, false}
+use mathlib.Core.List.{List}
+use lib.ListN.{length}
+use borrow.Author.Tests.{lt-ltb, le-ltb}
+use Rattle.request.specs.declared.Gate.{Gate}
+use Rattle.request.specs.declared.Gate.the-variants.{Stop}
+use Rattle.request.specs.Reading.{gateOf}
+use Rattle.table.specs.Damage.{sound}
+use Rattle.serving.specs.declared.Served.{Served}
+use Rattle.serving.specs.Serve.{gateAll, answerBy, tableBy, replyBy, served, servedTable, servedReply}
+
+module _ (b s : List ℕ) (room : ℕ) where
+  pub gate-damaged : sound b ≡ false → gateAll b room s ≡ Stop 5 0
+  unfolding gateAll
+  gate-damaged d = rw d
+
+  module _ (u : sound b ≡ true) where
+    pub gate-room : room < 1302 → gateAll b room s ≡ Stop 4 0
+    unfolding gateAll
+    gate-room l = rw (u, lt-ltb room 1302 l)
+
+    pub gate-open : 1302 ≤ room → gateAll b room s ≡ gateOf s
+    unfolding gateAll
+    gate-open l = rw (u, le-ltb room 1302 l)
+
+pub gated : (b s out : List ℕ) (clock : ℕ) (g : Gate) → gateAll b (length out) s ≡ g → (r : Served) (b′ out′ : List ℕ)
+    → r ≡ answerBy b clock s g → b′ ≡ tableBy b clock s g → out′ ≡ replyBy b clock s out g
+    → (r ≡ served b clock s (length out)) × ((b′ ≡ servedTable b clock s (length out)) × (out′ ≡ servedReply b clock s out))
+unfolding served servedTable servedReply
+gated b s out clock g e r b′ out′ er eb eo =
+    (er ∙ sym (ap (answerBy b clock s) e), (eb ∙ sym (ap (tableBy b clock s) e), eo ∙ sym (ap (replyBy b clock s out) e)))

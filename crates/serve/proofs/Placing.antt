@@ -1,0 +1,61 @@
+-- A key's row read by its fixed part, and the place of a write, against what serving means by them.
+use Prim.Native.Nat.{ℕ, _+_}
+use mathlib.Core.Path.{_≡_, refl, sym, _∙_}
+use mathlib.Core.Bool.{Bool, true, false, not}
+use mathlib.Core.List.{List}
+use Rattle.octets.specs.Parts.{Bytes}
+use Rattle.digits.specs.declared.Number.{Number}
+use Rattle.engine.specs.Documents.{Key}
+use Rattle.engine.specs.declared.Head.{Head}
+use Rattle.engine.specs.declared.Stored.{Stored}
+use Rattle.engine.specs.declared.Stored.the-variants.{Nothing as NoRow}
+use Rattle.commands.specs.declared.Ask.{Ask}
+use Rattle.commands.specs.declared.Source.{Source}
+use Rattle.commands.specs.Rules.{testsOf, writesOf}
+use Rattle.commands.specs.Done.{decision}
+use Rattle.commands.specs.Decide.{docFrom, bytesFrom}
+use Rattle.commands.proofs.Writing.{free-unread}
+use Rattle.table.specs.declared.Found.{Found}
+use Rattle.table.specs.declared.Found.the-variants.{At, Nothing}
+use Rattle.table.specs.Row.{docOf}
+use Rattle.table.specs.Table.{tableOf}
+use Rattle.table.specs.Lookup.{freeIn, orElse, missing}
+use Rattle.table.specs.Damage.{sound}
+use Rattle.serving.specs.Change.{storedAt, heldAt, valueIn}
+use Rattle.serving.proofs.Storing.{stored-none}
+use Rattle.serve.specs.Rows.{slotIn, heldBy, valueBy, usedIn, placeFor}
+use Rattle.serve.proofs.Lookups.{free-used}
+
+module _ (b : List ℕ) where
+  pub held-by : (f : Found) → heldBy f (slotIn b f) ≡ heldAt b f
+  unfolding docOf
+  held-by (At i) = refl
+  held-by Nothing = refl
+
+  pub value-by : (f : Found) → valueBy b f (slotIn b f) ≡ valueIn b f
+  unfolding docOf
+  value-by (At i) = refl
+  value-by Nothing = refl
+
+  -- a free row uses no bytes
+  pub used-place : Bytes b → sound b ≡ true → (f : Found) (w : Bool)
+      → slotIn b f .keylen + slotIn b f .vallen ≡ usedIn b (placeFor w f (freeIn 0 (tableOf b .rows)))
+  used-place y s (At i) w = refl
+  used-place y s Nothing true = sym (free-used b y s (freeIn 0 (tableOf b .rows)) refl)
+  used-place y s Nothing false = refl
+
+  module _ (free : Found) where
+    -- a key with a row needs no free one, and a command that doesn't write doesn't look for one
+    pub placed : (clock : ℕ) (h : Head) (n : Number) (q : Ask) (f : Found) (w : Bool) → w ≡ writesOf (q .command)
+        → decision h (heldAt b f) (not (missing (placeFor w f free))) clock n q ≡ decision h (heldAt b f) (not (missing free)) clock n q
+    unfolding decision testsOf
+    placed clock h n q (At i) w e = refl
+    placed clock h n q Nothing true e = refl
+    placed clock h n q Nothing false e = free-unread h (heldAt b Nothing) clock n q (not (missing (placeFor false Nothing free))) (not (missing free)) (sym e)
+
+    pub placed-table : (f : Found) (w : Bool) (key : Key) (st : Stored) (source : Source) (value : List ℕ) (mark : ℕ) → (w ≡ false → st ≡ NoRow)
+        → storedAt b (placeFor w f free) key (docFrom st (bytesFrom source value (valueIn b (placeFor w f free)))) mark
+        ≡ storedAt b (orElse f free) key (docFrom st (bytesFrom source value (valueIn b (orElse f free)))) mark
+    placed-table (At i) w key st source value mark p = refl
+    placed-table Nothing true key st source value mark p = refl
+    placed-table Nothing false key st source value mark p = rw (p refl) (stored-none b Nothing key mark ∙ sym (stored-none b free key mark))

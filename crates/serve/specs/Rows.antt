@@ -1,0 +1,40 @@
+-- A key's row as serving reads it: its fixed part once, and the rest by that. On the row's own fixed part these are what serving/specs/Change.antt says of the row.
+use Prim.Native.Nat.{ℕ, _+_}
+use mathlib.Core.Bool.{Bool, cond}
+use mathlib.Core.List.{List, []}
+use lib.Dec.{eqb}
+use Rattle.octets.specs.Parts.{part}
+use Rattle.engine.specs.declared.Stored.{Stored}
+use Rattle.engine.specs.declared.Stored.the-variants.{Nothing as NoRow, Used}
+use Rattle.table.specs.declared.Slot.{Slot}
+use Rattle.table.specs.declared.Found.{Found}
+use Rattle.table.specs.declared.Found.the-variants.{At, Nothing}
+use Rattle.table.specs.Row.{slotOf}
+use Rattle.table.specs.Store.{rowAt}
+use Rattle.table.specs.Lookup.{orElse}
+
+-- the fixed part of the row at a place, a free one's where there is none
+abbrev pub slotIn : List ℕ → Found → Slot
+slotIn b (At i) = slotOf (rowAt b i)
+slotIn b Nothing = record { kind = 0; keylen = 0; vallen = 0; numbers = record { flags = 0; expiry = 0; revision = record { 0 = 0 }; cas = record { 0 = 0 } } }
+
+-- what a row with this fixed part holds, and its value
+abbrev pub heldBy : Found → Slot → Stored
+heldBy (At i) s = Used (record { tomb = eqb (s .kind) 2; numbers = s .numbers })
+heldBy Nothing s = NoRow
+
+abbrev pub valueBy : List ℕ → Found → Slot → List ℕ
+valueBy b (At i) s = part (rowAt b i) (32 + s .keylen) (s .vallen)
+valueBy b Nothing s = []
+
+-- how many bytes after its fixed part a row uses
+abbrev pub usedAt : List ℕ → ℕ → ℕ
+usedAt b i = slotOf (rowAt b i) .keylen + slotOf (rowAt b i) .vallen
+
+abbrev pub usedIn : List ℕ → Found → ℕ
+usedIn b (At i) = usedAt b i
+usedIn b Nothing = 0
+
+-- the place of a write: the key's row, else the free one; a command that doesn't write has none but its key's
+abbrev pub placeFor : Bool → Found → Found → Found
+placeFor writes f free = orElse f (cond writes free Nothing)
