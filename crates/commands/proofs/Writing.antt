@@ -1,8 +1,7 @@
 -- A command that doesn't write stores nothing, and doesn't look at whether a row is free.
 use Prim.Native.Nat.{ℕ}
 use mathlib.Core.Path.{_≡_, refl}
-use mathlib.Core.Bool.{Bool, true, false, cond}
-use native.Mathlib.Omega.{arith}
+use mathlib.Core.Bool.{Bool, true, false, true≢false, cond}
 use lib.Dec.{eqb}
 use Rattle.digits.specs.declared.Number.{Number}
 use Rattle.engine.specs.declared.Head.{Head}
@@ -16,9 +15,6 @@ use Rattle.commands.specs.Rules.{ruleOf, testsOf, writesOf}
 use Rattle.commands.specs.declared.Reply.the-variants.{Bare}
 use Rattle.commands.specs.Done.{nothing, doneOf, decision}
 
-true-false {ℓ} : {A : Type ℓ} → true ≡ false → A
-true-false e = absurd (let z : _≡_ {A = ℕ} 0 1 = cc in omega arith)
-
 either-none : (t : Bool) (x y : Done) → x .store ≡ Nothing → y .store ≡ Nothing → cond t x y .store ≡ Nothing
 either-none true x y p q = p
 either-none false x y p q = q
@@ -27,20 +23,20 @@ module _ (h : Head) (s : Stored) (clock : ℕ) (n : Number) (q : Ask) where
   unread-by : (free free′ : Bool) (c : Command) → q .command ≡ c → writesOf c ≡ false → decision h s free clock n q ≡ decision h s free′ clock n q
   unfolding decision ruleOf testsOf
   unread-by free free′ (Get keyed) e w = rw e
-  unread-by free free′ (Write p) e w = true-false w
-  unread-by free free′ (Count k) e w = true-false w
+  unread-by free free′ (Write p) e w = absurd (true≢false w)
+  unread-by free free′ (Count k) e w = absurd (true≢false w)
   unread-by free free′ Noop e w = rw e
   unread-by free free′ Version e w = rw e
-  unread-by free free′ (WithMeta m) e w = true-false w
+  unread-by free free′ (WithMeta m) e w = absurd (true≢false w)
 
   done-none : (c : Command) → writesOf c ≡ false → doneOf h s clock n c .store ≡ Nothing
   unfolding doneOf
   done-none (Get keyed) w = refl
-  done-none (Write p) w = true-false w
-  done-none (Count k) w = true-false w
+  done-none (Write p) w = absurd (true≢false w)
+  done-none (Count k) w = absurd (true≢false w)
   done-none Noop w = refl
   done-none Version w = refl
-  done-none (WithMeta m) w = true-false w
+  done-none (WithMeta m) w = absurd (true≢false w)
 
   pub free-unread : (free free′ : Bool) → writesOf (q .command) ≡ false → decision h s free clock n q ≡ decision h s free′ clock n q
   free-unread free free′ w = unread-by free free′ (q .command) refl w

@@ -28,7 +28,7 @@ use Rattle.table.specs.Purge.{purgedTable}
 use Rattle.table.proofs.RowLaws.{Used as UsedSlot, used-parts}
 use Rattle.table.proofs.PlainLaws.{none-some}
 use Rattle.table.proofs.Places.{founds, find-place, find-nothing}
-use Rattle.table.proofs.TableLaws.{sound-parts, sound-good, good-sound, length-rows, no-key}
+use Rattle.table.proofs.TableLaws.{each-sound, sound-parts, sound-good, good-sound, length-rows, no-key}
 use Rattle.table.proofs.ChangeLaws.{purge-good, fresh-good}
 use Rattle.table.proofs.Rows.{row-there}
 use Rattle.table.proofs.Heads.{part-in}
@@ -57,12 +57,6 @@ row-at : (n i : ℕ) (b : List ℕ) → getD (rowsOf n b) i none ≡ rowOf (getD
 unfolding rowOf slotOf be beFrom
 row-at n i b = List·getD-map rowOf (chunks n b) i []
 
-sound-at : (mark n i : ℕ) (b : List ℕ) → allSound mark (chunks n b) ≡ true → i < n → rowSound mark (getD (chunks n b) i []) ≡ true
-sound-at mark zero i b e h = absurd (omega arith)
-sound-at mark (suc n) zero b e h = both (rowSound mark (take 1312 b)) (allSound mark (chunks n (drop 1312 b))) e .0
-sound-at mark (suc n) (suc i) b e h =
-    sound-at mark n i (drop 1312 b) (both (rowSound mark (take 1312 b)) (allSound mark (chunks n (drop 1312 b))) e .1) (omega arith)
-
 said : (r : List ℕ) → slotOf r .numbers ≡ docOf r .numbers
 unfolding docOf
 said r = refl
@@ -82,7 +76,7 @@ seen b key i e f =
     let h = find-place key (rowsOf n (drop 16 b)) i f in
     let l : i < n = rw (length-rows n (drop 16 b)) at (h .below) in
     let u = used-row (rowAt b i) (h .entry) (sym (row-at n i (drop 16 b)) ∙ h .there) in
-    let m = used (rowAt b i) (headOf b .mark .0) (sound-at (headOf b .mark .0) n i (drop 16 b) (s .each) l) (u .0) in
+    let m = used (rowAt b i) (headOf b .mark .0) (each-sound (headOf b .mark .0) (chunks n (drop 16 b)) i (s .each)) (u .0) in
     record { below = l; found = h .found ∙ ap (λ (d : Doc). some d) (sym (u .1)); key-most = m .key-most; value-most = m .value-most }
 
 -- where the value of a row stands

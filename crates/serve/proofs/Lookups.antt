@@ -11,8 +11,7 @@ use lib.ListN.{length, drop, getD, List·getD-map}
 use borrow.Author.Tests.{lt-ltb, ltb-true, ltb-false}
 use Rattle.octets.specs.Parts.{Bytes}
 use Rattle.octets.specs.BigEndian.{be, beFrom}
-use Rattle.octets.specs.Compare.{zeros}
-use Rattle.octets.proofs.Choices.{cases, both, cond-elim}
+use Rattle.octets.proofs.Choices.{cases, cond-elim}
 use Rattle.octets.proofs.Lists.{bytes-part, part-length, part-most}
 use Rattle.header.specs.declared.Header.{Header}
 use Rattle.rules.proofs.RuleLaws.{key-most}
@@ -25,14 +24,14 @@ use Rattle.table.specs.declared.Found.the-variants.{At, Nothing}
 use Rattle.table.specs.Row.{Row, slotOf, docOf, rowOf, rowBytes}
 use Rattle.table.specs.Table.{headOf, chunks, rowCount, tableOf}
 use Rattle.table.specs.Lookup.{findIn, freeIn, placeIn, missing}
-use Rattle.table.specs.Damage.{rowSound, allSound, sound}
+use Rattle.table.specs.Damage.{sound}
 use Rattle.table.specs.Plain.{findRow, freeRows}
 use Rattle.table.specs.Store.{rowAt}
 use Rattle.table.proofs.PlainLaws.{options, none-some}
 use Rattle.table.proofs.Places.{founds, nothing-at, find-place, find-nothing}
 use Rattle.table.proofs.Rows.{row-there, row-nowhere}
 use Rattle.table.proofs.RowLaws.{RowGood, row-back}
-use Rattle.table.proofs.TableLaws.{sound-parts}
+use Rattle.table.proofs.TableLaws.{each-sound, sound-parts}
 use Rattle.serving.specs.Change.{heldAt, valueIn}
 use Rattle.serving.specs.Serve.{goesOn}
 use Rattle.serve.specs.Rows.{usedAt, usedIn}
@@ -55,12 +54,6 @@ free-some : (k : ℕ) (ws : List Row) → ltb 0 (freeRows ws) ≡ not (missing (
 free-some k [] = refl
 free-some k (none ∷ ws) = lt-ltb 0 (freeRows (none ∷ ws)) (omega arith)
 free-some k (some x ∷ ws) = free-some (k + 1) ws
-
-all-sound : (mark : ℕ) (rs : List (List ℕ)) (i : ℕ) → allSound mark rs ≡ true → rowSound mark (getD rs i []) ≡ true
-unfolding rowSound slotOf be beFrom zeros
-all-sound mark [] i e = refl
-all-sound mark (r ∷ rs) zero e = both (rowSound mark r) (allSound mark rs) e .0
-all-sound mark (r ∷ rs) (suc i) e = all-sound mark rs i (both (rowSound mark r) (allSound mark rs) e .1)
 
 module _ (b : List ℕ) where
   -- the row at a place, as bytes and as what they say
@@ -103,24 +96,20 @@ module _ (b : List ℕ) where
         let r = row-there b i h in
         let y′ : Bytes (rowAt b i) = subst Bytes (sym r) (bytes-part b (16 + i * 1312) 1312 y) in
         let l : length (rowAt b i) ≡ 1312 = ap length r ∙ part-length b (16 + i * 1312) 1312 (omega (arith, p .size)) in
-        inr (row-back mark (rowAt b i) y′ l (all-sound mark (chunks (rowCount b) (drop 16 b)) i (p .each))))
+        inr (row-back mark (rowAt b i) y′ l (each-sound mark (chunks (rowCount b) (drop 16 b)) i (p .each))))
         (λ f. inl (row-nowhere b i (ltb-false i (rowCount b) f)))
+
+    -- what is read of a free row is what is read of no bytes
+    free-is {ℓ} : {A : Type ℓ} (f : List ℕ → A) → f (rowBytes none) ≡ f [] → (i : ℕ) → getD (tableOf b .rows) i none ≡ none → f (rowAt b i) ≡ f []
+    free-is f p i e = ⊎-elim (λ z. ap f z) (λ g. ap f (sym (g .0) ∙ ap rowBytes (sym (row-at i) ∙ e)) ∙ p) (row-known i)
 
     free-value : (i : ℕ) → getD (tableOf b .rows) i none ≡ none → docOf (rowAt b i) .value ≡ []
     unfolding docOf slotOf be beFrom rowBytes
-    free-value i e =
-        ⊎-elim
-        (λ z. ap (λ (r : List ℕ). docOf r .value) z)
-        (λ g. ap (λ (r : List ℕ). docOf r .value) (sym (g .0) ∙ ap rowBytes (sym (row-at i) ∙ e)))
-        (row-known i)
+    free-value i e = free-is (λ (r : List ℕ). docOf r .value) refl i e
 
     free-slot : (i : ℕ) → getD (tableOf b .rows) i none ≡ none → usedAt b i ≡ 0
     unfolding slotOf be beFrom rowBytes
-    free-slot i e =
-        ⊎-elim
-        (λ z. ap (λ (r : List ℕ). slotOf r .keylen + slotOf r .vallen) z)
-        (λ g. ap (λ (r : List ℕ). slotOf r .keylen + slotOf r .vallen) (sym (g .0) ∙ ap rowBytes (sym (row-at i) ∙ e)))
-        (row-known i)
+    free-slot i e = free-is (λ (r : List ℕ). slotOf r .keylen + slotOf r .vallen) refl i e
 
     -- a free row uses no bytes
     pub free-used : (f : Found) → freeIn 0 (tableOf b .rows) ≡ f → usedIn b f ≡ 0

@@ -7,7 +7,7 @@ use mathlib.Core.Bool.{true, _&&_, cond, and-false}
 use mathlib.Core.List.{List, [], _∷_, _++_, append-assoc}
 use mathlib.Core.Option.{some}
 use lib.Dec.{eqb, ltb, leb}
-use lib.ListN.{length, take, drop, getD, replicate, length-append, length-drop, length-replicate, replicate-append-replicate}
+use lib.ListN.{length, drop, replicate, length-append, length-drop, length-replicate, replicate-append-replicate}
 use lib.Seq.{drop-drop}
 use borrow.Author.Tests.{eqb-true, eqb-false, ltb-true, leb-true}
 use Rattle.octets.specs.Parts.{pasted, written}
@@ -19,11 +19,11 @@ use Rattle.octets.proofs.Tests.{zeros-true}
 use Rattle.engine.specs.Documents.{Entry}
 use Rattle.table.specs.Row.{slotOf, sizeBytes, shortBytes, longBytes, slotBytes, slotFor, usedBytes, rowBytes}
 use Rattle.table.specs.Table.{headOf, chunks, rowCount}
-use Rattle.table.specs.Damage.{usedOk, rowSound, allSound, sound}
+use Rattle.table.specs.Damage.{usedOk, rowSound, sound}
 use Rattle.table.specs.Store.{rowAt, stored, overBytes, storedOver}
 use Rattle.table.proofs.Rows.{sound-free, sound-used, row-size}
 use Rattle.table.proofs.RowLaws.{used-parts}
-use Rattle.table.proofs.TableLaws.{sound-parts}
+use Rattle.table.proofs.TableLaws.{each-sound, sound-parts}
 
 zeros-drop : (n : ℕ) (s : List ℕ) → zeros s ≡ true → zeros (drop n s) ≡ true
 unfolding zeros
@@ -35,12 +35,6 @@ zeros-drop (suc n) (x ∷ s) z = zeros-drop n s (both (eqb x 0) (zeros s) z .1)
 at-start : (s xs : List ℕ) (n : ℕ) → length xs ≡ n → pasted s 0 xs ≡ xs ++ drop n s
 unfolding pasted
 at-start s xs n e = rw (zero-add, e)
-
--- each row of a sound run is sound
-row-of-all : (mark n i : ℕ) (b : List ℕ) → i < n → allSound mark (chunks n b) ≡ true → rowSound mark (getD (chunks n b) i []) ≡ true
-row-of-all mark zero i b h e = absurd (omega arith)
-row-of-all mark (suc n) zero b h e = both (rowSound mark (take 1312 b)) (allSound mark (chunks n (drop 1312 b))) e .0
-row-of-all mark (suc n) (suc i) b h e = row-of-all mark n i (drop 1312 b) (omega arith) (both (rowSound mark (take 1312 b)) (allSound mark (chunks n (drop 1312 b))) e .1)
 
 -- a row of which no more is in use than fits, and the rest is zero
 record Padded (r : List ℕ) (used : ℕ) : Type 0 where
@@ -129,7 +123,7 @@ stored-over b i e mark used s u =
     let h = ltb-true i (rowCount b) t in
     let r = rowAt b i in
     let l = row-size b i h in
-    let p = sound-padded (headOf b .mark .0) r l (row-of-all (headOf b .mark .0) (rowCount b) i (drop 16 b) h (sound-parts b s .each)) in
+    let p = sound-padded (headOf b .mark .0) r l (each-sound (headOf b .mark .0) (chunks (rowCount b) (drop 16 b)) i (sound-parts b s .each)) in
     let o : overBytes r e used ≡ rowBytes (some e) = rw u (over-row r e (slotOf r .keylen + slotOf r .vallen) l (leb-true _ _ f) p) in
     ap (λ (x : List ℕ). cond (ltb i (rowCount b) && leb (length (e .key) + length (e .doc .value)) 1280) (pasted (pasted b (16 + i * 1312) x) 8 (bytesOf 8 mark)) b) o)
     (λ f. rw (f, and-false)))

@@ -6,13 +6,13 @@ use mathlib.Core.Bool.{true, _&&_, true≢false}
 use mathlib.Core.List.{List, [], _∷_, _++_}
 use mathlib.Core.Option.{none, some}
 use Prim.Native.Nat.{ℕ, zero, suc, _+_, _*_, _^_, _≤_, _<_}
-use lib.ListN.{length, take, drop, length-append, length-take, length-drop, take-append-drop}
+use lib.ListN.{length, take, drop, getD, length-append, length-take, length-drop, take-append-drop}
 use lib.Seq.{take-at, drop-at}
 use lib.Dec.{eqb, leb}
 use borrow.Author.Tests.{leb-true, eqb-true, le-leb, eq-eqb}
 use Rattle.octets.specs.Parts.{Bytes, part}
-use Rattle.octets.specs.BigEndian.{bytesOf}
-use Rattle.octets.specs.Compare.{same}
+use Rattle.octets.specs.BigEndian.{be, beFrom, bytesOf}
+use Rattle.octets.specs.Compare.{zeros, same}
 use Rattle.octets.proofs.Choices.{cases, both}
 use Rattle.octets.proofs.Lists.{bytes-take, bytes-drop, glue, glue-rest}
 use Rattle.octets.proofs.Numbers.{be-bytes, num-back, num-below}
@@ -21,7 +21,7 @@ use Rattle.engine.specs.Documents.{Key}
 use Rattle.engine.specs.declared.Head.{Head}
 use Rattle.table.specs.declared.Found.{Found}
 use Rattle.table.specs.declared.Found.the-variants.{At, Nothing}
-use Rattle.table.specs.Row.{Row, rowOf, rowBytes}
+use Rattle.table.specs.Row.{Row, slotOf, rowOf, rowBytes}
 use Rattle.table.specs.Table.{Table, headOf, chunks, rowCount, rowsOf, tableOf, headBytes, rowsBytes, tableBytes}
 use Rattle.table.specs.Lookup.{findIn, missing}
 use Rattle.table.specs.Damage.{sizeOk, headOk, rowSound, allSound, distinct, sound}
@@ -119,6 +119,13 @@ pub record Sound (b : List ℕ) : Type 0 where
   pub header : headOk (headOf b) ≡ true
   pub each : allSound (headOf b .mark .0) (chunks (rowCount b) (drop 16 b)) ≡ true
   pub keys : distinct (rowsOf (rowCount b) (drop 16 b)) ≡ true
+
+-- each row of sound rows is sound; where there is none, no bytes are
+pub each-sound : (mark : ℕ) (rs : List (List ℕ)) (i : ℕ) → allSound mark rs ≡ true → rowSound mark (getD rs i []) ≡ true
+unfolding rowSound slotOf be beFrom zeros
+each-sound mark [] i e = refl
+each-sound mark (r ∷ rs) zero e = both (rowSound mark r) (allSound mark rs) e .0
+each-sound mark (r ∷ rs) (suc i) e = each-sound mark rs i (both (rowSound mark r) (allSound mark rs) e .1)
 
 pub sound-parts : (b : List ℕ) → sound b ≡ true → Sound b
 unfolding sound sizeOk
