@@ -19,13 +19,13 @@ mod setting;
 mod show;
 mod text;
 
-use requests::Asked;
+use requests::Decoded;
 use setting::Setting;
 
 fn answer_request(line: &[u8], t: Setting) {
     let a = requests::read(line);
     match a {
-        Asked::Request(q) => {
+        Decoded::Request(q) => {
             let head = t.head;
             let row = t.row;
             let number = t.number;
@@ -35,7 +35,7 @@ fn answer_request(line: &[u8], t: Setting) {
                 commands::decide(head, row, t.free, t.clock, number, q),
             );
         }
-        Asked::Unknown => show::text(b": what?"),
+        Decoded::Unknown => show::text(b": what?"),
     }
 }
 

@@ -1,16 +1,16 @@
 // The request that a line describes.
 use crate::text;
 use crate::text::Fields;
-use commands::Ask;
 use commands::Command;
 use commands::Counter;
+use commands::Instruction;
 use commands::Kind;
 use commands::Meta;
 use commands::Plain;
 use numbers::Cas;
 
-pub(crate) enum Asked {
-    Request(Ask),
+pub(crate) enum Decoded {
+    Request(Instruction),
     Unknown,
 }
 
@@ -137,9 +137,9 @@ fn command(opcode: u8, f: Fields) -> Command {
     }
 }
 
-fn request(opcode: u8, quiet: bool, f: Fields) -> Ask {
+fn request(opcode: u8, quiet: bool, f: Fields) -> Instruction {
     let command = command(opcode, f);
-    Ask {
+    Instruction {
         vbucket: text::low16(text::field(f, 0)),
         cas: Cas(text::field(f, 1)),
         quiet,
@@ -148,16 +148,16 @@ fn request(opcode: u8, quiet: bool, f: Fields) -> Ask {
     }
 }
 
-fn read_as(line: &[u8], quiet: bool) -> Asked {
+fn read_as(line: &[u8], quiet: bool) -> Decoded {
     let code = opcode(text::before(line, b' '));
     let f = text::spelled(text::after(line, b' '));
     if (code != 0xff) & text::are(f, width(code)) {
-        return Asked::Request(request(code, quiet, f));
+        return Decoded::Request(request(code, quiet, f));
     }
-    Asked::Unknown
+    Decoded::Unknown
 }
 
-pub(crate) fn read(line: &[u8]) -> Asked {
+pub(crate) fn read(line: &[u8]) -> Decoded {
     if octets::same(text::before(line, b' '), b"quiet") {
         return read_as(text::after(line, b' '), true);
     }

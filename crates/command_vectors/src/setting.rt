@@ -2,9 +2,9 @@
 use crate::text;
 use crate::text::Fields;
 use digits::Number;
-use engine::Head;
-use engine::Held;
-use engine::Stored;
+use document::Head;
+use document::Metadata;
+use document::Stored;
 use numbers::Cas;
 
 pub(crate) struct Setting {
@@ -119,7 +119,7 @@ fn document(f: Fields) -> Stored {
         text::field(f, 2),
         text::field(f, 3),
     );
-    Stored::Used(Held {
+    Stored::Used(Metadata {
         tomb: false,
         numbers,
     })
@@ -127,7 +127,7 @@ fn document(f: Fields) -> Stored {
 
 fn tombstone(f: Fields) -> Stored {
     let numbers = text::numbers(0, 0, text::field(f, 0), text::field(f, 1));
-    Stored::Used(Held {
+    Stored::Used(Metadata {
         tomb: true,
         numbers,
     })

@@ -7,10 +7,10 @@ use lib.ListN.{length}
 use borrow.Author.Tests.{eq-eqb, le-ltb}
 use Rattle.octets.proofs.Choices.{cases}
 use Rattle.numbers.specs.Order.{modeOf}
-use Rattle.engine.specs.Stored.{storedOf, accepted}
+use Rattle.document.specs.Stored.{storedOf, accepted}
 use Rattle.commands.specs.declared.Kind.{Kind}
 use Rattle.commands.specs.declared.Kind.the-variants.{Set, Add, Replace, Delete}
-use Rattle.commands.specs.Rules.{isAdd, isLast, sourceOf, ruleOf, testsOf, statusOf, firstFailure}
+use Rattle.commands.specs.Rules.{isAdd, isLast, sourceOf, ruleOf, testsOf, firstStatus, firstFailure}
 use Rattle.commands.specs.Done.{decision, doneOf}
 use Rattle.commands.specs.Decide.{decide, bytesFrom}
 use Rattle.commands.specs.Merging.{SetOrDelete}
@@ -34,7 +34,7 @@ same-beq true = refl
 same-beq false = refl
 
 pub merging-decided : MergingDecided
-unfolding decide decision ruleOf testsOf statusOf firstFailure doneOf
+unfolding decide decision ruleOf testsOf firstStatus firstFailure doneOf
 merging-decided h row free w c active p room =
     let fault : not (Bool·beq (w .last) (isLast (modeOf (h .mode)))) ≡ false = rw (p .mode) (same-beq (isLast (modeOf (h .mode)))) in
     let long = le-ltb 1024 (length (c .request .value)) (p .short) in

@@ -15,13 +15,13 @@ use Rattle.digits.proofs.DecimalLaws.{digits-most}
 use Rattle.numbers.specs.declared.Cas.{Cas}
 use Rattle.numbers.specs.Order.{modeOf}
 use Rattle.numbers.specs.Expiry.{absolute}
-use Rattle.engine.specs.declared.Head.{Head}
-use Rattle.engine.specs.declared.Held.{Held}
-use Rattle.engine.specs.declared.Stored.{Stored}
-use Rattle.engine.specs.declared.Stored.the-variants.{Nothing, Used}
-use Rattle.engine.specs.Head.{marked}
-use Rattle.engine.specs.Documents.{Doc}
-use Rattle.engine.specs.Stored.{live, hasRow, numbersOf, storedOf}
+use Rattle.document.specs.declared.Head.{Head}
+use Rattle.document.specs.declared.Metadata.{Metadata}
+use Rattle.document.specs.declared.Stored.{Stored}
+use Rattle.document.specs.declared.Stored.the-variants.{Nothing, Used}
+use Rattle.document.specs.Head.{marked}
+use Rattle.document.specs.Documents.{Doc}
+use Rattle.document.specs.Stored.{live, hasRow, numbersOf, storedOf}
 use Rattle.commands.specs.declared.Kind.{Kind}
 use Rattle.commands.specs.declared.Kind.the-variants.{Set, Add, Replace, Delete}
 use Rattle.commands.specs.declared.Meta.{Meta}
@@ -33,19 +33,20 @@ use Rattle.commands.specs.declared.Reply.the-variants.{Bare, Counted}
 use Rattle.commands.specs.declared.Done.{Done}
 use Rattle.commands.specs.declared.Command.{Command}
 use Rattle.commands.specs.declared.Command.the-variants.{Get, Write, Count, Noop, Version, WithMeta}
-use Rattle.commands.specs.Rules.{isDelete, sourceOf, ruleOf, testsOf, statusOf}
-use Rattle.commands.specs.Done.{decision, doneOf, nothing, kept, plainNumbers, metaNumbers, sum}
-use Rattle.commands.specs.Decide.{Request, decide, valueOf, askOf, docFrom, bytesFrom}
-use Rattle.commands.specs.Claims.{Fits, SoundDoc, Formed, RefusedKeeps, StoresWithRoom, StoresSound}
+use Rattle.commands.specs.Rules.{isDelete, sourceOf, ruleOf, testsOf, firstStatus}
+use Rattle.commands.specs.Done.{decision, doneOf, nothing, storing, plainNumbers, metaNumbers, sum}
+use Rattle.commands.specs.Decide.{Request, decide, instructionOf, docFrom, bytesFrom}
+use Rattle.document.specs.Documents.{docValue}
+use Rattle.commands.specs.Claims.{NumbersFit, SoundDoc, Formed, StatusStoresNothing, StoresWithRoom, StoresSound}
 use Rattle.commands.proofs.Passed.{passed}
 
 -- the tests of a request
 abbrev testsFor : Head → Option Doc → Bool → ℕ → Request → Tests
-testsFor h row free clock q = testsOf h (storedOf row) free clock (numberOf (valueOf row)) (askOf q) (ruleOf (modeOf (h .mode)) (storedOf row) clock (q .command))
+testsFor h row free clock q = testsOf h (storedOf row) free clock (numberOf (docValue row)) (instructionOf q) (ruleOf (modeOf (h .mode)) (storedOf row) clock (q .command))
 
-pub refused-keeps : RefusedKeeps
+pub refused-keeps : StatusStoresNothing
 unfolding decide decision
-refused-keeps h row free clock q n = rw (ne-eqb (statusOf (testsFor h row free clock q)) 0 n) (refl, refl)
+refused-keeps h row free clock q n = rw (ne-eqb (firstStatus (testsFor h row free clock q)) 0 n) (refl, refl)
 
 -- ---- room
 -- a command stores exactly if its rule says so
@@ -80,7 +81,7 @@ unfolding decide decision testsOf
 stores-with-room h free clock q d e =
     let x = doneOf h Nothing clock (numberOf []) (q .command) in
     let t = testsFor h none free clock q in
-    let (z, y) = by-status (eqb (statusOf t) 0) x _ (q .value) [] d refl e in
+    let (z, y) = by-status (eqb (firstStatus t) 0) x _ (q .value) [] d refl e in
     let p = passed t (eqb-true _ _ z) in
     free-left (ruleOf (modeOf (h .mode)) Nothing clock (q .command) .writes) free
     (sym (writes h Nothing clock (numberOf []) (q .command)) ∙ has-some (x .store) (bytesFrom (x .source) (q .value) []) d y)
@@ -118,9 +119,9 @@ module _ (h : Head) (low : h .mark .0 < 2 ^ 64) (frame old : List ℕ) where
   safe-nothing : (reply : Reply) (cas : Cas) → Safe (nothing h reply cas)
   safe-nothing reply cas = record { doc = λ d e. no-doc d e; head = refl; grows = omega arith; fits = low }
 
-  safe-kept : (row : Held) (source : Source) (reply : Reply)
+  safe-kept : (row : Metadata) (source : Source) (reply : Reply)
       → SoundDoc (max (h .mark .0) (row .numbers .cas .0)) (record { tomb = row .tomb; value = bytesFrom source frame old; numbers = row .numbers })
-      → Safe (kept h row source reply)
+      → Safe (storing h row source reply)
   safe-kept row source reply p = record {
     doc = λ d e. let z : record { tomb = row .tomb; value = bytesFrom source frame old; numbers = row .numbers } ≡ d = cc in rw (← z) p;
     head = refl;
@@ -128,11 +129,11 @@ module _ (h : Head) (low : h .mark .0 < 2 ^ 64) (frame old : List ℕ) where
     fits = let c = p .fits .cas in omega arith;
   }
 
-  plain-fits : (s : Stored) (flags expiry : ℕ) → flags < 2 ^ 32 → expiry < 2 ^ 32 → Fits (plainNumbers h s flags expiry)
+  plain-fits : (s : Stored) (flags expiry : ℕ) → flags < 2 ^ 32 → expiry < 2 ^ 32 → NumbersFit (plainNumbers h s flags expiry)
   plain-fits s flags expiry p q = record { flags = p; expiry = q; revision = omega arith; cas = omega arith }
 
   safe-counted : (s : Stored) (flags expiry n : ℕ) → flags < 2 ^ 32 → expiry < 2 ^ 32
-      → Safe (kept h (record { tomb = false; numbers = plainNumbers h s flags expiry }) (Digits n) (Counted n))
+      → Safe (storing h (record { tomb = false; numbers = plainNumbers h s flags expiry }) (Digits n) (Counted n))
   safe-counted s flags expiry n p q = safe-kept (record { tomb = false; numbers = plainNumbers h s flags expiry }) (Digits n) (Counted n) (record {
     fits = plain-fits s flags expiry p q;
     one = omega arith;
@@ -141,7 +142,7 @@ module _ (h : Head) (low : h .mark .0 < 2 ^ 64) (frame old : List ℕ) where
     bare = λ t. absurd (false≢true t);
   })
 
-  meta-fits : (w : Meta) → Fits (w .numbers) → 1 ≤ w .numbers .cas .0 → Fits (metaNumbers h w) × (1 ≤ metaNumbers h w .cas .0)
+  meta-fits : (w : Meta) → NumbersFit (w .numbers) → 1 ≤ w .numbers .cas .0 → NumbersFit (metaNumbers h w) × (1 ≤ metaNumbers h w .cas .0)
   meta-fits w p q =
       cases (w .regenerate)
       (λ t. rw t (record { flags = p .flags; expiry = p .expiry; revision = p .revision; cas = omega arith }, omega arith))
@@ -150,7 +151,7 @@ module _ (h : Head) (low : h .mark .0 < 2 ^ 64) (frame old : List ℕ) where
   meta-same : (w : Meta) → (metaNumbers h w .flags ≡ w .numbers .flags) × (metaNumbers h w .expiry ≡ w .numbers .expiry)
   meta-same w = cases (w .regenerate) (λ t. rw t (refl, refl)) (λ f. rw f (refl, refl))
 
-  done-safe : (s : Stored) (clock : ℕ) (n : Number) (c : Command) → Formed c → Fits (numbersOf s) → length frame ≤ 1024 → Safe (doneOf h s clock n c)
+  done-safe : (s : Stored) (clock : ℕ) (n : Number) (c : Command) → Formed c → NumbersFit (numbersOf s) → length frame ≤ 1024 → Safe (doneOf h s clock n c)
   unfolding doneOf
   done-safe s clock n (Get k) p r l = safe-nothing _ _
   done-safe s clock n (Write p) (f, e, b) r l =
@@ -184,9 +185,9 @@ pub stores-sound : StoresSound
 unfolding decide decision testsOf
 stores-sound h row free clock q low formed fits =
     let s = storedOf row in
-    let n = numberOf (valueOf row) in
+    let n = numberOf (docValue row) in
     let t = testsFor h row free clock q in
-    let safe = safe-cond h low (q .value) (valueOf row) (eqb (statusOf t) 0) (doneOf h s clock n (q .command)) _
-    (λ z. done-safe h low (q .value) (valueOf row) s clock n (q .command) formed fits (ltb-false _ _ (passed t (eqb-true _ _ z) .long)))
-    (safe-nothing h low (q .value) (valueOf row) Bare (record { 0 = 0 })) in
+    let safe = safe-cond h low (q .value) (docValue row) (eqb (firstStatus t) 0) (doneOf h s clock n (q .command)) _
+    (λ z. done-safe h low (q .value) (docValue row) s clock n (q .command) formed fits (ltb-false _ _ (passed t (eqb-true _ _ z) .long)))
+    (safe-nothing h low (q .value) (docValue row) Bare (record { 0 = 0 })) in
     record { doc = safe .doc; head = safe .head; grows = safe .grows; fits = safe .fits }

@@ -3,4 +3,3 @@ pub mod Done
 pub mod Decide
 pub mod Merging
 pub mod Claims
-pub mod Examples

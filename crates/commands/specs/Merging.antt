@@ -5,7 +5,7 @@ use mathlib.Core.Bool.{false}
 use mathlib.Core.List.{List, []}
 use lib.ListN.{length}
 use Rattle.numbers.specs.declared.Mode.{Mode}
-use Rattle.engine.specs.Documents.{Doc, Entry}
+use Rattle.document.specs.Documents.{Doc, Entry}
 use Rattle.commands.specs.declared.Kind.{Kind}
 use Rattle.commands.specs.declared.Kind.the-variants.{Set, Add, Replace, Delete}
 use Rattle.commands.specs.declared.Meta.{Meta}
@@ -15,7 +15,7 @@ use Rattle.commands.specs.Rules.{isDelete, isLast, sourceOf}
 use Rattle.commands.specs.Decide.{Request, bytesFrom}
 
 -- a request served at a clock
-pub record Call : Type 0 where
+pub record RequestAt : Type 0 where
   pub clock : ℕ
   pub request : Request
 
@@ -33,25 +33,25 @@ carried value w = record { tomb = isDelete (w .kind); value = bytesFrom (sourceO
 abbrev pub noMeta : Meta
 noMeta = record { kind = Set; numbers = record { flags = 0; expiry = 0; revision = record { 0 = 0 }; cas = record { 0 = 0 } }; force = false; last = false; regenerate = false; skip = false }
 
-abbrev pub metaOf : Command → Meta
-metaOf (Get k) = noMeta
-metaOf (Write p) = noMeta
-metaOf (Count k) = noMeta
-metaOf Noop = noMeta
-metaOf Version = noMeta
-metaOf (WithMeta w) = w
+abbrev pub metaIn : Command → Meta
+metaIn (Get k) = noMeta
+metaIn (Write p) = noMeta
+metaIn (Count k) = noMeta
+metaIn Noop = noMeta
+metaIn Version = noMeta
+metaIn (WithMeta w) = w
 
-abbrev pub meta : Call → Meta
-meta c = metaOf (c .request .command)
+abbrev pub meta : RequestAt → Meta
+meta c = metaIn (c .request .command)
 
-abbrev pub docOf : Call → Doc
-docOf c = carried (c .request .value) (meta c)
+abbrev pub carriedDoc : RequestAt → Doc
+carriedDoc c = carried (c .request .value) (meta c)
 
-abbrev pub writeOf : Call → Entry
-writeOf c = record { key = c .request .key; doc = docOf c }
+abbrev pub writeOf : RequestAt → Entry
+writeOf c = record { key = c .request .key; doc = carriedDoc c }
 
 -- a set- or delete-with-meta call for a table of this mode and vbucket, "that break no form, field or size rule of its mode, with header CAS 0 and none of options 0x01, 0x04, 0x08"
-pub record Merging (m : Mode) (vbucket : ℕ) (w : Meta) (c : Call) : Type 0 where
+pub record MergingRequest (m : Mode) (vbucket : ℕ) (w : Meta) (c : RequestAt) : Type 0 where
   pub with-meta : c .request .command ≡ WithMeta w
   pub kind : SetOrDelete (w .kind)
   pub mode : w .last ≡ isLast m

@@ -5,18 +5,18 @@ use mathlib.Core.List.{List, [], _∷_}
 use lib.Dec.{ltb, eqb}
 use Rattle.numbers.specs.declared.Mode.{Mode}
 use Rattle.numbers.specs.declared.Mode.the-variants.{ByRevision, LastWrite}
-use Rattle.engine.specs.declared.Stored.{Stored}
-use Rattle.engine.specs.Stored.{accepted, live, hasRow, numbersOf}
+use Rattle.document.specs.declared.Stored.{Stored}
+use Rattle.document.specs.Stored.{accepted, live, hasRow, numbersOf}
 use Rattle.numbers.specs.Expiry.{passes}
 use Rattle.digits.specs.declared.Number.{Number}
 use Rattle.digits.specs.declared.Number.the-variants.{Value, NoNumber}
-use Rattle.engine.specs.declared.Head.{Head}
+use Rattle.document.specs.declared.Head.{Head}
 use Rattle.commands.specs.declared.Kind.{Kind}
 use Rattle.commands.specs.declared.Kind.the-variants.{Set, Add, Replace, Delete}
 use Rattle.commands.specs.declared.Meta.{Meta}
 use Rattle.commands.specs.declared.Command.{Command}
 use Rattle.commands.specs.declared.Command.the-variants.{Get, Write, Count, Noop, Version, WithMeta}
-use Rattle.commands.specs.declared.Ask.{Ask}
+use Rattle.commands.specs.declared.Instruction.{Instruction}
 use Rattle.commands.specs.declared.Tests.{Tests}
 use Rattle.commands.specs.declared.Source.{Source}
 use Rattle.commands.specs.declared.Source.the-variants.{Empty, Frame}
@@ -77,7 +77,7 @@ pub record Rule : Type 0 where
   pub revises : Bool
   pub writes : Bool
   -- the status at which the quiet form sends nothing
-  pub hush : ℕ
+  pub silentOn : ℕ
 
 -- Get, GetQ, GetK, GetKQ: "Not live: 0x01"; "The quiet two send nothing on 0x01. Header CAS ignored."
 abbrev pub readRule : Rule
@@ -93,7 +93,7 @@ readRule = record {
   marks = false;
   revises = false;
   writes = false;
-  hush = 1;
+  silentOn = 1;
 }
 
 -- Noop, Version: they skip 0x07, and have no other test
@@ -110,7 +110,7 @@ freeRule = record {
   marks = false;
   revises = false;
   writes = false;
-  hush = 0;
+  silentOn = 0;
 }
 
 -- Set, Add, Replace, Delete, Increment, Decrement. "Header CAS not 0: not live 0x01, different 0x02"; "Quiet writes send nothing on status 0. Each plain write stores CAS mark + 1 [..]; its revision is the key's row's plus 1"
@@ -127,7 +127,7 @@ plainRule fault needs fresh counts = record {
   marks = true;
   revises = true;
   writes = true;
-  hush = 0;
+  silentOn = 0;
 }
 
 -- Set, Add and Delete with meta. "option 0x02 missing in last-write-wins or set in revision mode"; "Without options 0x01 and 0x08, a key with any row, expired or tombstone included, is compared; the write must be greater, else 0x02."
@@ -144,7 +144,7 @@ metaRule m s w = record {
   marks = w .regenerate;
   revises = false;
   writes = true;
-  hush = 0;
+  silentOn = 0;
 }
 
 unfoldable pub ruleOf : Mode → Stored → ℕ → Command → Rule
@@ -156,13 +156,13 @@ ruleOf m s clock Version = freeRule
 ruleOf m s clock (WithMeta w) = metaRule m s w
 
 -- whether a command writes, as its row says
-abbrev pub writesOf : Command → Bool
-writesOf (Get keyed) = false
-writesOf (Write p) = true
-writesOf (Count k) = true
-writesOf Noop = false
-writesOf Version = false
-writesOf (WithMeta w) = true
+abbrev pub isWrite : Command → Bool
+isWrite (Get keyed) = false
+isWrite (Write p) = true
+isWrite (Count k) = true
+isWrite Noop = false
+isWrite Version = false
+isWrite (WithMeta w) = true
 
 -- ---- the checks
 pub record Check : Type 0 where
@@ -182,10 +182,10 @@ firstFailure (c ∷ cs) = cond (c .fails) (c .status) (firstFailure cs)
 abbrev pub taken : Head → ℕ → Rule → Bool
 taken h vbucket t = t .anywhere || (eqb vbucket (h .vbucket) && (eqb (h .state) 1 || (t .standby && (eqb (h .state) 2 || eqb (h .state) 3))))
 
-abbrev pub guard : Ask → Rule → Bool
+abbrev pub guard : Instruction → Rule → Bool
 guard q t = t .guarded && not (eqb (q .cas .0) 0)
 
-unfoldable pub testsOf : Head → Stored → Bool → ℕ → Number → Ask → Rule → Tests
+unfoldable pub testsOf : Head → Stored → Bool → ℕ → Number → Instruction → Rule → Tests
 testsOf h s free clock n q t = record {
   fault = t .fault;
   long = ltb 1024 (q .size);
@@ -197,8 +197,8 @@ testsOf h s free clock n q t = record {
   full = t .writes && not (hasRow s || free);
 }
 
-unfoldable pub statusOf : Tests → ℕ
-statusOf x = firstFailure (
+unfoldable pub firstStatus : Tests → ℕ
+firstStatus x = firstFailure (
     x .fault ⇒ 0x04
     ∷ x .long ⇒ 0x03
     ∷ x .elsewhere ⇒ 0x07

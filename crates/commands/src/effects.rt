@@ -1,8 +1,8 @@
 // What a command does once no test fails.
 ghost use mathlib.Core.Path.{_≡_};
 ghost use Prim.Native.Nat.{_-_};
-ghost use Rattle.engine.specs.Head.{marked};
-ghost use Rattle.commands.specs.Done.{nothing, kept, found, plainNumbers, metaNumbers, counted, sum, writeDone, countDone, metaDone};
+ghost use Rattle.document.specs.Head.{marked};
+ghost use Rattle.commands.specs.Done.{nothing, storing, found, plainNumbers, metaNumbers, counted, sum, writeDone, countDone, metaDone};
 use crate::Counter;
 use crate::Done;
 use crate::Meta;
@@ -10,9 +10,9 @@ use crate::Plain;
 use crate::Reply;
 use crate::Source;
 use digits::Number;
-use engine::Head;
-use engine::Held;
-use engine::Stored;
+use document::Head;
+use document::Metadata;
+use document::Stored;
 use numbers::Cas;
 use numbers::Numbers;
 use numbers::Revision;
@@ -43,8 +43,8 @@ fn marked(h: Head, mark: u64) -> Head
 }
 
 // The row is stored, and the mark raised to its CAS where lower.
-fn kept(h: Head, row: Held, source: Source, reply: Reply) -> Done
-    ensures { λ r. ⌜ r ≡ kept h row source reply ⌝ }
+fn kept(h: Head, row: Metadata, source: Source, reply: Reply) -> Done
+    ensures { λ r. ⌜ r ≡ storing h row source reply ⌝ }
 {
     let cas = row.numbers.cas;
     let head = marked(h, numbers::larger(h.mark.0, cas.0));
@@ -61,7 +61,7 @@ fn kept(h: Head, row: Held, source: Source, reply: Reply) -> Done
 fn plain_numbers(h: Head, s: Stored, flags: u32, expiry: u32) -> Numbers
     ensures { λ r. ⌜ r ≡ plainNumbers h s flags expiry ⌝ }
 {
-    let old = engine::numbers_of(s);
+    let old = document::numbers_of(s);
     let revision = numbers::next(old.revision.0);
     let cas = numbers::next(h.mark.0);
     Numbers {
@@ -80,7 +80,7 @@ pub(crate) fn write_done(h: Head, s: Stored, clock: u32, p: Plain) -> Done
     let numbers = plain_numbers(h, s, p.flags, numbers::absolute(p.expiry, clock));
     kept(
         h,
-        Held { tomb, numbers },
+        Metadata { tomb, numbers },
         crate::judging::source_of(k),
         Reply::Bare,
     )
@@ -92,7 +92,7 @@ fn counted(h: Head, s: Stored, flags: u32, expiry: u32, n: u64) -> Done
     let numbers = plain_numbers(h, s, flags, expiry);
     kept(
         h,
-        Held {
+        Metadata {
             tomb: false,
             numbers,
         },
@@ -125,8 +125,8 @@ fn sum(n: Number, k: Counter) -> u64
 pub(crate) fn count_done(h: Head, s: Stored, clock: u32, n: Number, k: Counter) -> Done
     ensures { λ r. ⌜ r ≡ countDone h s clock n k ⌝ }
 {
-    let old = engine::numbers_of(s);
-    if engine::live(s, clock) {
+    let old = document::numbers_of(s);
+    if document::live(s, clock) {
         counted(h, s, old.flags, old.expiry, sum(n, k))
     } else {
         counted(h, s, 0, numbers::absolute(k.expiry, clock), k.initial)
@@ -158,7 +158,7 @@ pub(crate) fn meta_done(h: Head, w: Meta) -> Done
     let numbers = meta_numbers(h, w);
     kept(
         h,
-        Held { tomb, numbers },
+        Metadata { tomb, numbers },
         crate::judging::source_of(k),
         Reply::Bare,
     )
@@ -167,7 +167,7 @@ pub(crate) fn meta_done(h: Head, w: Meta) -> Done
 pub(crate) fn found(h: Head, s: Stored, keyed: bool) -> Done
     ensures { λ r. ⌜ r ≡ found h s keyed ⌝ }
 {
-    let n = engine::numbers_of(s);
+    let n = document::numbers_of(s);
     let cas = n.cas;
     nothing(h, Reply::Found(n.flags, keyed), cas)
 }

@@ -5,17 +5,17 @@ ghost use mathlib.Core.Bool.{true, false, cond, _&&_, _||_};
 ghost use lib.Dec.{eqb};
 ghost use Rattle.numbers.specs.Order.{modeOf};
 ghost use Rattle.numbers.specs.Expiry.{passes};
-ghost use Rattle.commands.specs.Rules.{isDelete, isAdd, mustLive, isLast, isNumber, sourceOf, readRule, freeRule, plainRule, metaRule, testsOf, statusOf};
-use crate::Ask;
+ghost use Rattle.commands.specs.Rules.{isDelete, isAdd, mustLive, isLast, isNumber, sourceOf, readRule, freeRule, plainRule, metaRule, testsOf, firstStatus};
 use crate::Counter;
+use crate::Instruction;
 use crate::Kind;
 use crate::Meta;
 use crate::Plain;
 use crate::Source;
 use crate::Tests;
 use digits::Number;
-use engine::Head;
-use engine::Stored;
+use document::Head;
+use document::Stored;
 use numbers::Mode;
 
 pub(crate) fn is_delete(k: Kind) -> bool
@@ -102,7 +102,14 @@ fn spent(n: u64) -> bool
 }
 
 // Noop and Version.
-pub(crate) fn free_tests(h: Head, s: Stored, free: bool, clock: u32, n: Number, q: Ask) -> Tests
+pub(crate) fn free_tests(
+    h: Head,
+    s: Stored,
+    free: bool,
+    clock: u32,
+    n: Number,
+    q: Instruction,
+) -> Tests
     ensures { λ r. ⌜ r ≡ testsOf h s free clock n q freeRule ⌝ }
 {
     Tests {
@@ -118,10 +125,17 @@ pub(crate) fn free_tests(h: Head, s: Stored, free: bool, clock: u32, n: Number, 
 }
 
 // Get and its kin.
-pub(crate) fn read_tests(h: Head, s: Stored, free: bool, clock: u32, n: Number, q: Ask) -> Tests
+pub(crate) fn read_tests(
+    h: Head,
+    s: Stored,
+    free: bool,
+    clock: u32,
+    n: Number,
+    q: Instruction,
+) -> Tests
     ensures { λ r. ⌜ r ≡ testsOf h s free clock n q readRule ⌝ }
 {
-    let live = engine::live(s, clock);
+    let live = document::live(s, clock);
     let here = here(h, q.vbucket, false);
     Tests {
         fault: false,
@@ -142,7 +156,7 @@ fn plain_tests(
     free: bool,
     clock: u32,
     n: Number,
-    q: Ask,
+    q: Instruction,
     fault: bool,
     needs: bool,
     fresh: bool,
@@ -150,9 +164,9 @@ fn plain_tests(
 ) -> Tests
     ensures { λ r. ⌜ r ≡ testsOf h s free clock n q (plainRule fault needs fresh counts) ⌝ }
 {
-    let live = engine::live(s, clock);
-    let row = engine::numbers_of(s);
-    let used = engine::has_row(s);
+    let live = document::live(s, clock);
+    let row = document::numbers_of(s);
+    let used = document::has_row(s);
     let counted = is_number(n);
     let here = here(h, q.vbucket, false);
     let guard = q.cas.0 != 0;
@@ -177,7 +191,7 @@ pub(crate) fn write_tests(
     free: bool,
     clock: u32,
     n: Number,
-    q: Ask,
+    q: Instruction,
     p: Plain,
 ) -> Tests
     ensures { λ r. ⌜ r ≡ testsOf h s free clock n q (plainRule (passes (p .expiry) clock) (mustLive (p .kind)) (isAdd (p .kind)) false) ⌝ }
@@ -205,7 +219,7 @@ pub(crate) fn count_tests(
     free: bool,
     clock: u32,
     n: Number,
-    q: Ask,
+    q: Instruction,
     k: Counter,
 ) -> Tests
     ensures { λ r. ⌜ r ≡ testsOf h s free clock n q (plainRule (passes (k .expiry) clock) (eqb (k .expiry) 0xffffffff) false true) ⌝ }
@@ -232,7 +246,7 @@ pub(crate) fn meta_tests(
     free: bool,
     clock: u32,
     n: Number,
-    q: Ask,
+    q: Instruction,
     w: Meta,
 ) -> Tests
     ensures { λ r. ⌜ r ≡ testsOf h s free clock n q (metaRule (modeOf (h .mode)) s w) ⌝ }
@@ -241,11 +255,11 @@ pub(crate) fn meta_tests(
     let k = w.kind;
     let given = w.numbers;
     let lww = is_last(m);
-    let wins = engine::accepted(m, s, given);
+    let wins = document::accepted(m, s, given);
     let fresh = is_add(k);
-    let live = engine::live(s, clock);
-    let row = engine::numbers_of(s);
-    let used = engine::has_row(s);
+    let live = document::live(s, clock);
+    let row = document::numbers_of(s);
+    let used = document::has_row(s);
     let here = here(h, q.vbucket, w.force);
     let guard = q.cas.0 != 0;
     let marks = spent(h.mark.0);
@@ -263,7 +277,7 @@ pub(crate) fn meta_tests(
 }
 
 pub(crate) fn status_of(x: Tests) -> u8
-    ensures { λ r. ⌜ r ≡ statusOf x ⌝ }
+    ensures { λ r. ⌜ r ≡ firstStatus x ⌝ }
 {
     first(
         x.fault,

@@ -4,11 +4,11 @@ mod effects;
 mod judging;
 
 ghost use mathlib.Core.Path.{_≡_};
-ghost use Rattle.commands.specs.Rules.{writesOf};
+ghost use Rattle.commands.specs.Rules.{isWrite};
 ghost use Rattle.commands.specs.Done.{settled, decision};
 use digits::Number;
-use engine::Head;
-use engine::Stored;
+use document::Head;
+use document::Stored;
 use numbers::Cas;
 use numbers::Numbers;
 
@@ -55,7 +55,7 @@ pub enum Command {
 }
 
 // A request whose form is right, its key and value aside.
-pub struct Ask {
+pub struct Instruction {
     pub vbucket: u16,
     pub cas: Cas,
     pub quiet: bool,
@@ -81,7 +81,6 @@ pub enum Source {
     Empty,
     Frame,
     Digits(u64),
-    Kept,
 }
 
 // What a reply carries beside its CAS.
@@ -90,7 +89,7 @@ pub enum Reply {
     // flags and the stored value, and the key where it is true
     Found(u32, bool),
     Counted(u64),
-    Release,
+    Version,
 }
 
 pub struct Done {
@@ -110,7 +109,7 @@ pub struct Decision {
 
 // Whether a command writes.
 pub fn writes(c: Command) -> bool
-    ensures { λ r. ⌜ r ≡ writesOf c ⌝ }
+    ensures { λ r. ⌜ r ≡ isWrite c ⌝ }
 {
     match c {
         Command::Get(_) => false,
@@ -142,7 +141,7 @@ fn settled(h: Head, status: u8, silent: bool, done: Done) -> Decision
 }
 
 // free: whether a row is free; n: the number that the stored value says.
-pub fn decide(h: Head, s: Stored, free: bool, clock: u32, n: Number, q: Ask) -> Decision
+pub fn decide(h: Head, s: Stored, free: bool, clock: u32, n: Number, q: Instruction) -> Decision
     ensures { λ r. ⌜ r ≡ decision h s free clock n q ⌝ }
 {
     let c = q.command;
@@ -174,7 +173,7 @@ pub fn decide(h: Head, s: Stored, free: bool, clock: u32, n: Number, q: Ask) -> 
                 h,
                 status,
                 silent,
-                effects::nothing(h, Reply::Release, Cas(0)),
+                effects::nothing(h, Reply::Version, Cas(0)),
             )
         }
         Command::WithMeta(w) => {

@@ -14,8 +14,8 @@ use Rattle.serving.specs.declared.Served.the-variants.{Refused, Done}
 use Rattle.owner.specs.declared.Document.{Document}
 use Rattle.owner.specs.declared.Document.the-variants.{Damaged, Missing, Live}
 use Rattle.owner.specs.declared.Purged.{Purged}
-use Rattle.owner.specs.declared.Purged.the-variants.{Spoiled, Freed}
-use Rattle.owner.specs.Owner.{outcomeOf, statusOf, purgeOutcome}
+use Rattle.owner.specs.declared.Purged.the-variants.{Damaged as NotPurged, Freed}
+use Rattle.owner.specs.Owner.{readOutcome, readStatus, purgeOutcome}
 use Rattle.run.specs.declared.Ran.{Ran}
 use Rattle.contacts.specs.declared.answers.Part.{Part}
 use Rattle.contacts.specs.declared.answers.ServedAnswer.{ServedAnswer}
@@ -68,12 +68,12 @@ noDocument outcome status = record {
 }
 
 abbrev pub documentAnswer : Document → DocumentAnswer
-documentAnswer Damaged = noDocument (outcomeOf Damaged) (statusOf Damaged)
-documentAnswer Missing = noDocument (outcomeOf Missing) (statusOf Missing)
+documentAnswer Damaged = noDocument (readOutcome Damaged) (readStatus Damaged)
+documentAnswer Missing = noDocument (readOutcome Missing) (readStatus Missing)
 documentAnswer (Live n at len) = liveAnswer n at len
 
 abbrev pub purgedAnswer : Purged → PurgedAnswer
-purgedAnswer Spoiled = record { outcome = purgeOutcome Spoiled; freed = 0 }
+purgedAnswer NotPurged = record { outcome = purgeOutcome NotPurged; freed = 0 }
 purgedAnswer (Freed n) = record { outcome = 0; freed = n }
 
 abbrev pub requestRefused : ℕ → ℕ → RequestAnswer

@@ -170,7 +170,7 @@ pub fn purged_answer(p: Purged) -> PurgedAnswer
     ensures { λ a. ⌜ a ≡ purgedAnswer p ⌝ }
 {
     match p {
-        Purged::Spoiled => PurgedAnswer {
+        Purged::Damaged => PurgedAnswer {
             outcome: 5,
             freed: 0,
         },

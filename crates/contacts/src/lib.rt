@@ -2,7 +2,7 @@
 // it passes on. include/contacts.h documents them.
 ghost use mathlib.Core.Path.{_≡_};
 ghost use lib.ListN.{length};
-ghost use Rattle.table.specs.Damage.{sound};
+ghost use Rattle.plain.specs.Damage.{sound};
 ghost use Rattle.owner.specs.Owner.{sizeOf, makeOutcome, made, readOf, purgeOf, purgedBytes};
 ghost use Rattle.request.specs.Reading.{reading};
 ghost use Rattle.request.specs.Writing.{writing, frameBytes, outputOf};
@@ -43,7 +43,7 @@ pub extern "C" fn contacts_make(b: &mut [u8], rows: usize, state: u8, mode: u8, 
 pub extern "C" fn contacts_sound(b: &[u8]) -> bool
     ensures { λ r. ⌜ r ≡ sound (now (b .entry)) ⌝ }
 {
-    table::damage::is_sound(b)
+    plain::damage::is_sound(b)
 }
 
 // Serves the request at the start of the received bytes, and counts it.

@@ -5,8 +5,8 @@ use crate::tell;
 use numbers::Cas;
 use numbers::Numbers;
 use numbers::Revision;
+use plain::Found;
 use serving::Served;
-use table::Found;
 
 const CLOCK_COLUMN: usize = 2;
 
@@ -126,18 +126,18 @@ pub(crate) fn get(boat: &mut [u8], clock: u32, key: &[u8]) {
 }
 
 fn put_row(line: &mut [u8], boat: &[u8], i: usize) -> usize {
-    let slot = table::store::slot_at(boat, i);
+    let slot = plain::store::slot_at(boat, i);
     let numbers = slot.numbers;
     if slot.kind == 2 {
         tell::put(line, VALUE_COLUMN, b"deleted");
         return put_numbers(line, numbers);
     }
-    tell::put(line, VALUE_COLUMN, table::store::value(boat, i));
+    tell::put(line, VALUE_COLUMN, plain::store::value(boat, i));
     put_numbers(line, numbers)
 }
 
 fn put_held(line: &mut [u8], boat: &[u8], key: &[u8]) -> usize {
-    match table::lookup::find(boat, key) {
+    match plain::lookup::find(boat, key) {
         Found::At(i) => put_row(line, boat, i),
         Found::Nothing => tell::put(line, VALUE_COLUMN, b"nothing"),
     }

@@ -4,7 +4,7 @@ use mathlib.Core.Bool.{Bool, true, false, cond}
 use mathlib.Core.Option.{Option, none, some}
 use Prim.Native.Nat.{ℕ, suc, _<_}
 use Rattle.octets.specs.Compare.{same}
-use Rattle.engine.specs.Documents.{Key, Doc}
+use Rattle.document.specs.Documents.{Key, Doc}
 
 abbrev pub isSome {ℓ} : {A : Type ℓ} → Option A → Bool
 isSome none = false
@@ -22,14 +22,19 @@ pub record Engine : Type 1 where
   -- frees the rows whose document the test picks
   pub purge : Rows → (Doc → Bool) → Rows
 
+-- the rows after a document is stored for a key, or nothing
+abbrev pub storeRow : (E : Engine) → E .Rows → Key → Option Doc → E .Rows
+storeRow E r k none = r
+storeRow E r k (some d) = E .put r k d
+
 -- the key has a row, or there is a free one
 abbrev pub Room : (E : Engine) → E .Rows → Key → Type 0
 Room E r k = E .find r k ≡ none → 0 < E .free r
 
 -- what is left of a key's document by a purge
-abbrev pub kept : (Doc → Bool) → Option Doc → Option Doc
-kept p none = none
-kept p (some d) = cond (p d) none (some d)
+abbrev pub afterPurge : (Doc → Bool) → Option Doc → Option Doc
+afterPurge p none = none
+afterPurge p (some d) = cond (p d) none (some d)
 
 pub record Laws (E : Engine) : Type 0 where
   pub good-put : (r : E .Rows) (k : Key) (d : Doc) → E .Good r → Room E r k → E .Good (E .put r k d)
@@ -38,4 +43,4 @@ pub record Laws (E : Engine) : Type 0 where
   pub free-new : (r : E .Rows) (k : Key) (d : Doc) → E .Good r → E .find r k ≡ none → 0 < E .free r → suc (E .free (E .put r k d)) ≡ E .free r
   pub free-old : (r : E .Rows) (k : Key) (d e : Doc) → E .Good r → E .find r k ≡ some e → E .free (E .put r k d) ≡ E .free r
   pub good-purge : (r : E .Rows) (p : Doc → Bool) → E .Good r → E .Good (E .purge r p)
-  pub find-purge : (r : E .Rows) (p : Doc → Bool) → E .Good r → (k : Key) → E .find (E .purge r p) k ≡ kept p (E .find r k)
+  pub find-purge : (r : E .Rows) (p : Doc → Bool) → E .Good r → (k : Key) → E .find (E .purge r p) k ≡ afterPurge p (E .find r k)

@@ -1,4 +1,1 @@
-pub mod Documents
-pub mod Stored
-pub mod Head
 pub mod Engine

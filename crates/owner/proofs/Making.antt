@@ -12,9 +12,9 @@ use Rattle.octets.specs.BigEndian.{bytesOf}
 use Rattle.octets.proofs.Choices.{both}
 use Rattle.octets.proofs.Lists.{then, then-two, written-fits, length-written}
 use Rattle.octets.proofs.Numbers.{length-bytes}
-use Rattle.table.specs.Table.{tableBytes, fresh}
-use Rattle.table.specs.Damage.{sizeOk}
-use Rattle.table.proofs.ChangeLaws.{fresh-bytes}
+use Rattle.rows.specs.Table.{tableBytes, fresh}
+use Rattle.rows.specs.RowRules.{sizeOk}
+use Rattle.plain.proofs.ChangeLaws.{fresh-bytes}
 use Rattle.owner.specs.Owner.{makeOk, makeOutcome, made}
 
 pasted-all : (s xs : List ℕ) → length xs ≡ length s → pasted s 0 xs ≡ xs

@@ -11,14 +11,14 @@ use Rattle.octets.specs.Parts.{Bytes, part, pasted, written}
 use Rattle.octets.proofs.Choices.{cases}
 use Rattle.octets.proofs.Lists.{part-length, pasted-self, take-pasted, drop-pasted, written-fits}
 use Rattle.numbers.specs.Expiry.{expired}
-use Rattle.engine.specs.Documents.{Doc}
-use Rattle.table.specs.Row.{slotOf, docOf, rowOf}
-use Rattle.table.specs.Table.{rowCount, tableOf}
-use Rattle.table.specs.Damage.{sound}
-use Rattle.table.specs.Purge.{gone, one, purgeRow, purgeBytes, purgeCount}
-use Rattle.table.proofs.TableLaws.{sound-good, length-rows}
-use Rattle.table.proofs.PurgeBytes.{purge-bytes}
-use Rattle.owner.specs.declared.Purged.the-variants.{Spoiled, Freed}
+use Rattle.document.specs.Documents.{Doc}
+use Rattle.rows.specs.Row.{slotOf, docOf, rowOf}
+use Rattle.rows.specs.Table.{rowCount, tableOf}
+use Rattle.plain.specs.Damage.{sound}
+use Rattle.plain.specs.Purge.{gone, one, purgeRow, purgeBytes, purgeCount}
+use Rattle.plain.proofs.TableLaws.{sound-good, length-rows}
+use Rattle.plain.proofs.PurgeBytes.{purge-bytes}
+use Rattle.owner.specs.declared.Purged.the-variants.{Damaged, Freed}
 use Rattle.owner.specs.Owner.{goneDoc, purgeOf, purgedBytes}
 
 -- the test of a row, by its fixed part
@@ -77,7 +77,7 @@ module _ (p : Doc → Bool) where
       count-step = ap (λ (k : ℕ). purgeCount p k (drop at s)) one-more ∙ rw (drop-drop 1312 at s, behind)
 
 module _ (clock bound : ℕ) (b : List ℕ) where
-  pub purge-refused : sound b ≡ false → (Spoiled ≡ purgeOf b clock bound) × (b ≡ purgedBytes b clock bound)
+  pub purge-refused : sound b ≡ false → (Damaged ≡ purgeOf b clock bound) × (b ≡ purgedBytes b clock bound)
   unfolding purgeOf purgedBytes
   purge-refused e = (rw e, rw e)
 

@@ -3,13 +3,13 @@ use mathlib.Core.Path.{_≡_, ap}
 use mathlib.Core.Bool.{Bool, true, false, cond}
 use mathlib.Core.List.{List}
 use Prim.Native.Nat.{ℕ}
-use Rattle.engine.specs.Stored.{heldOf, live}
-use Rattle.engine.specs.declared.Stored.the-variants.{Used}
-use Rattle.table.specs.Row.{slotOf, docOf}
-use Rattle.table.specs.Table.{tableOf}
-use Rattle.table.specs.Lookup.{findIn}
-use Rattle.table.specs.Damage.{sound}
-use Rattle.table.specs.Store.{rowAt, valueAt}
+use Rattle.document.specs.Stored.{metadataOf, live}
+use Rattle.document.specs.declared.Stored.the-variants.{Used}
+use Rattle.rows.specs.Row.{slotOf, docOf}
+use Rattle.rows.specs.Table.{tableOf}
+use Rattle.plain.specs.Lookup.{findIn}
+use Rattle.plain.specs.Damage.{sound}
+use Rattle.rows.specs.Table.{rowAt, valueAt}
 use Rattle.owner.specs.declared.Document.{Document}
 use Rattle.owner.specs.declared.Document.the-variants.{Damaged, Missing, Live}
 use Rattle.owner.specs.Owner.{shownAt, shown, readOf}
@@ -20,11 +20,11 @@ module _ (b : List ℕ) (clock : ℕ) where
     abbrev document : Document
     document = Live (slotOf (rowAt b i) .numbers) (valueAt b i) (slotOf (rowAt b i) .vallen)
 
-    pub row-over : live (Used (heldOf (docOf (rowAt b i)))) clock ≡ false → shownAt b clock i ≡ Missing
+    pub row-over : live (Used (metadataOf (docOf (rowAt b i)))) clock ≡ false → shownAt b clock i ≡ Missing
     unfolding shownAt
     row-over e = ap (λ (t : Bool). cond t document Missing) e
 
-    pub row-live : live (Used (heldOf (docOf (rowAt b i)))) clock ≡ true → shownAt b clock i ≡ Live (slotOf (rowAt b i) .numbers) (valueAt b i) (slotOf (rowAt b i) .vallen)
+    pub row-live : live (Used (metadataOf (docOf (rowAt b i)))) clock ≡ true → shownAt b clock i ≡ Live (slotOf (rowAt b i) .numbers) (valueAt b i) (slotOf (rowAt b i) .vallen)
     unfolding shownAt
     row-live e = ap (λ (t : Bool). cond t document Missing) e
 

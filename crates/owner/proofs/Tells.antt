@@ -14,24 +14,25 @@ use Rattle.octets.specs.BigEndian.{be, beFrom}
 use Rattle.octets.specs.Compare.{zeros}
 use Rattle.octets.proofs.Choices.{cases, both, cond-elim}
 use Rattle.numbers.specs.declared.Numbers.{Numbers}
-use Rattle.engine.specs.Documents.{Key, Doc, Entry}
-use Rattle.engine.specs.Stored.{heldOf, storedOf, live}
-use Rattle.engine.specs.declared.Stored.the-variants.{Used}
-use Rattle.table.specs.declared.Found.the-variants.{At}
-use Rattle.table.specs.Row.{slotOf, docOf, keyOf, rowOf}
-use Rattle.table.specs.Table.{headOf, chunks, rowCount, rowsOf, tableOf, fresh}
-use Rattle.table.specs.Lookup.{findIn}
-use Rattle.table.specs.Damage.{usedOk, rowSound, allSound, sound}
-use Rattle.table.specs.Store.{rowAt, valueAt}
-use Rattle.table.specs.Plain.{findRow}
-use Rattle.table.specs.Purge.{purgedTable}
-use Rattle.table.proofs.RowLaws.{Used as UsedSlot, used-parts}
-use Rattle.table.proofs.PlainLaws.{none-some}
-use Rattle.table.proofs.Places.{founds, find-place, find-nothing}
-use Rattle.table.proofs.TableLaws.{each-sound, sound-parts, sound-good, good-sound, length-rows, no-key}
-use Rattle.table.proofs.ChangeLaws.{purge-good, fresh-good}
-use Rattle.table.proofs.Rows.{row-there}
-use Rattle.table.proofs.Heads.{part-in}
+use Rattle.document.specs.Documents.{Key, Doc, Entry}
+use Rattle.document.specs.Stored.{metadataOf, storedOf, live}
+use Rattle.document.specs.declared.Stored.the-variants.{Used}
+use Rattle.plain.specs.declared.Found.the-variants.{At}
+use Rattle.rows.specs.Row.{slotOf, docOf, keyOf, rowOf}
+use Rattle.rows.specs.Table.{headOf, chunks, rowCount, rowsOf, tableOf, fresh}
+use Rattle.plain.specs.Lookup.{findIn}
+use Rattle.plain.specs.Damage.{sound}
+use Rattle.rows.specs.RowRules.{usedOk, rowSound, allSound}
+use Rattle.rows.specs.Table.{rowAt, valueAt}
+use Rattle.rows.specs.Find.{findRow}
+use Rattle.plain.specs.Purge.{purgedTable}
+use Rattle.rows.proofs.RowLaws.{Used as UsedSlot, used-parts}
+use Rattle.octets.proofs.Options.{none-some}
+use Rattle.plain.proofs.Places.{founds, find-place, find-nothing}
+use Rattle.plain.proofs.TableLaws.{each-sound, sound-parts, sound-good, good-sound, length-rows, no-key}
+use Rattle.plain.proofs.ChangeLaws.{purge-good, fresh-good}
+use Rattle.rows.proofs.OneRow.{row-there}
+use Rattle.rows.proofs.Heads.{part-in}
 use Rattle.owner.specs.declared.Document.the-variants.{Live}
 use Rattle.owner.specs.Owner.{shown, goneDoc, purgedBytes, makeOk}
 use Rattle.owner.specs.Claims.{ReadShows, ReadMisses, NoSuchKey, PurgeSound, MakeSound}
@@ -99,10 +100,10 @@ module _ (b : List ℕ) (i : ℕ) (h : i < rowCount b) where
 abbrev kept : ℕ → Option Doc → Option Doc
 kept clock o = cond (live (storedOf o) clock) o none
 
-kept-live : (clock : ℕ) (d : Doc) → live (Used (heldOf d)) clock ≡ true → kept clock (some d) ≡ some d
+kept-live : (clock : ℕ) (d : Doc) → live (Used (metadataOf d)) clock ≡ true → kept clock (some d) ≡ some d
 kept-live clock d t = ap (λ (c : Bool). cond c (some d) none) t
 
-kept-over : (clock : ℕ) (d : Doc) → live (Used (heldOf d)) clock ≡ false → kept clock (some d) ≡ none
+kept-over : (clock : ℕ) (d : Doc) → live (Used (metadataOf d)) clock ≡ false → kept clock (some d) ≡ none
 kept-over clock d t = ap (λ (c : Bool). cond c (some d) none) t
 
 kept-none : (clock : ℕ) → kept clock none ≡ none
@@ -115,7 +116,7 @@ read-shows b clock key d y s e =
     (λ i f.
     let k = seen b key i s f in
     let r = rowAt b i in
-    cases (live (Used (heldOf (docOf r))) clock)
+    cases (live (Used (metadataOf (docOf r))) clock)
     (λ t.
     let o : some (docOf r) ≡ some d = sym (ap (kept clock) (k .found) ∙ kept-live clock (docOf r) t) ∙ e in
     let q : docOf r ≡ d = cc in
@@ -137,7 +138,7 @@ read-misses b clock key y s e =
     let k = seen b key i s f in
     let d = docOf (rowAt b i) in
     ap (shown b clock) f
-    ∙ row-over b clock i (cases (live (Used (heldOf d)) clock)
+    ∙ row-over b clock i (cases (live (Used (metadataOf d)) clock)
     (λ t. none-some d (sym e ∙ ap (kept clock) (k .found) ∙ kept-live clock d t))
     (λ t. t)))
     (λ f. ap (shown b clock) f)

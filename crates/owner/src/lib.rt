@@ -3,16 +3,16 @@ ghost use mathlib.Core.Path.{_≡_};
 ghost use mathlib.Core.List.{_++_};
 ghost use Prim.Native.Nat.{_+_, _*_, _≤_};
 ghost use lib.ListN.{length, take, drop};
-ghost use Rattle.engine.specs.Stored.{heldOf};
-ghost use Rattle.table.specs.Row.{docOf, rowOf};
-ghost use Rattle.table.specs.Table.{tableBytes, fresh};
-ghost use Rattle.table.specs.Purge.{purgeBytes, purgeCount, purgeRow, gone};
+ghost use Rattle.document.specs.Stored.{metadataOf};
+ghost use Rattle.rows.specs.Row.{docOf, rowOf};
+ghost use Rattle.rows.specs.Table.{tableBytes, fresh};
+ghost use Rattle.plain.specs.Purge.{purgeBytes, purgeCount, purgeRow, gone};
 ghost use Rattle.owner.specs.Owner.{sizeOf, makeOk, makeOutcome, made, shownAt, shown, readOf, goneDoc, purgeOf, purgedBytes};
 ghost use Rattle.octets.specs.Parts.{part, pasted};
-use engine::Stored;
+use document::Stored;
 use numbers::Cas;
 use numbers::Numbers;
-use table::Found;
+use plain::Found;
 
 // Outcome 5, status 0x01, or the live document's four numbers and where its value stands: a place and a length.
 pub enum Document {
@@ -23,7 +23,7 @@ pub enum Document {
 
 // Outcome 5, or how many rows were freed.
 pub enum Purged {
-    Spoiled,
+    Damaged,
     Freed(usize),
 }
 
@@ -43,7 +43,7 @@ pub fn size(rows: usize) -> usize
 fn make_ok(len: usize, rows: usize, state: u8, mode: u8) -> bool
     ensures { λ r. ⌜ r ≡ makeOk len rows state mode ⌝ }
 {
-    let size = table::damage::size_ok(len, rows);
+    let size = rows::damage::size_ok(len, rows);
     size & (((1 <= state) & (state <= 4)) & ((1 <= mode) & (mode <= 2)))
 }
 
@@ -71,12 +71,12 @@ pub fn make(s: &mut [u8], rows: usize, state: u8, mode: u8, vbucket: u16) -> u8
 fn shown_at(s: &[u8], clock: u32, i: usize) -> Document
     ensures { λ r. ⌜ r ≡ shownAt (now (s .entry)) clock i ⌝ }
 {
-    if !engine::live(Stored::Used(table::store::held_at(s, i)), clock) {
+    if !document::live(Stored::Used(plain::store::held_at(s, i)), clock) {
         return Document::Missing;
     }
-    let h = table::store::slot_at(s, i);
+    let h = plain::store::slot_at(s, i);
     let numbers = h.numbers;
-    Document::Live(numbers, table::store::value_at(s, i), h.vallen as usize)
+    Document::Live(numbers, plain::store::value_at(s, i), h.vallen as usize)
 }
 
 fn shown(s: &[u8], clock: u32, f: Found) -> Document
@@ -92,17 +92,17 @@ fn shown(s: &[u8], clock: u32, f: Found) -> Document
 pub fn read(s: &[u8], clock: u32, key: &[u8]) -> Document
     ensures { λ r. ⌜ r ≡ readOf (now (s .entry)) clock (now (key .entry)) ⌝ }
 {
-    if !table::damage::is_sound(s) {
+    if !plain::damage::is_sound(s) {
         return Document::Damaged;
     }
-    shown(s, clock, table::lookup::find(s, key))
+    shown(s, clock, plain::lookup::find(s, key))
 }
 
 // Whether a purge frees a row.
 fn row_gone(r: &[u8], clock: u32, bound: u64) -> bool
     ensures { λ b. ⌜ b ≡ gone (goneDoc clock bound) (rowOf (now (r .entry))) ⌝ }
 {
-    let h = table::row::slot(r);
+    let h = rows::row::slot(r);
     let over = (h.kind == 2) | numbers::expired(h.numbers.expiry, clock);
     (h.kind != 0) & (over & (h.numbers.cas.0 <= bound))
 }
@@ -140,8 +140,8 @@ fn purge_rows(s: &mut [u8], n: usize, clock: u32, bound: u64) -> usize
 pub fn purge(s: &mut [u8], clock: u32, bound: Cas) -> Purged
     ensures { λ r. ⌜ (r ≡ purgeOf (now (s .entry)) clock (bound .0)) × (now (s .exit) ≡ purgedBytes (now (s .entry)) clock (bound .0)) ⌝ }
 {
-    if !table::damage::is_sound(s) {
-        return Purged::Spoiled;
+    if !plain::damage::is_sound(s) {
+        return Purged::Damaged;
     }
-    Purged::Freed(purge_rows(s, table::rows_in(s.len()), clock, bound.0))
+    Purged::Freed(purge_rows(s, rows::rows_in(s.len()), clock, bound.0))
 }

@@ -9,20 +9,21 @@ use Rattle.numbers.specs.declared.Numbers.{Numbers}
 use Rattle.numbers.specs.declared.Mode.{Mode}
 use Rattle.numbers.specs.Expiry.{expired}
 use Rattle.numbers.specs.Order.{modeOf}
-use Rattle.engine.specs.declared.Head.{Head}
-use Rattle.engine.specs.declared.Stored.{Stored}
-use Rattle.engine.specs.declared.Stored.the-variants.{Used, Nothing}
-use Rattle.engine.specs.Stored.{storedOf, live, accepted}
-use Rattle.commands.specs.declared.Ask.{Ask}
+use Rattle.document.specs.declared.Head.{Head}
+use Rattle.document.specs.declared.Stored.{Stored}
+use Rattle.document.specs.declared.Stored.the-variants.{Used, Nothing}
+use Rattle.document.specs.Stored.{storedOf, live, accepted}
+use Rattle.commands.specs.declared.Instruction.{Instruction}
 use Rattle.commands.specs.declared.Done.{Done}
 use Rattle.commands.specs.Rules.{Rule}
 use Rattle.commands.specs.declared.Command.{Command}
 use Rattle.commands.specs.declared.Command.the-variants.{Get, Write, Count, Noop, Version, WithMeta}
-use Rattle.commands.specs.Rules.{ruleOf, testsOf, statusOf}
+use Rattle.commands.specs.Rules.{ruleOf, testsOf, firstStatus}
 use Rattle.commands.specs.Done.{decision, doneOf}
-use Rattle.commands.specs.Decide.{decide, askOf, valueOf}
-use Rattle.asks.specs.Asks.{requestOf}
-use Rattle.table.specs.Plain.{freeRows}
+use Rattle.commands.specs.Decide.{decide, instructionOf}
+use Rattle.document.specs.Documents.{docValue}
+use Rattle.decode.specs.Decode.{requestOf}
+use Rattle.rows.specs.Find.{freeRows}
 use Rattle.serving.specs.Serve.{decisionOn, answerOn}
 use Rattle.promises.proofs.Formed.{by-cond}
 use Rattle.promises.specs.Expiry.{ExpiredIsDead, ExpiredServed, GetKeeps}
@@ -46,7 +47,7 @@ module _ (r : Numbers) (clock : ℕ) (past : expired (r .expiry) clock ≡ true)
   same-rule m Version = refl
   same-rule m (WithMeta w) = refl
 
-  same-tests : (h : Head) (free : Bool) (n : Number) (q : Ask) (t : Rule)
+  same-tests : (h : Head) (free : Bool) (n : Number) (q : Instruction) (t : Rule)
       → testsOf h (row false r) free clock n q t ≡ testsOf h (row true r) free clock n q t
   unfolding testsOf
   same-tests h free n q t = rw (dead false, dead true)
@@ -60,7 +61,7 @@ module _ (r : Numbers) (clock : ℕ) (past : expired (r .expiry) clock ≡ true)
   same-done h n Version = refl
   same-done h n (WithMeta w) = refl
 
-  same-decision : (h : Head) (free : Bool) (n : Number) (q : Ask) → decision h (row false r) free clock n q ≡ decision h (row true r) free clock n q
+  same-decision : (h : Head) (free : Bool) (n : Number) (q : Instruction) → decision h (row false r) free clock n q ≡ decision h (row true r) free clock n q
   unfolding decision
   same-decision h free n q =
       rw (
@@ -71,12 +72,12 @@ module _ (r : Numbers) (clock : ℕ) (past : expired (r .expiry) clock ≡ true)
 
 pub expired-is-dead : ExpiredIsDead
 unfolding decide
-expired-is-dead h d free clock q held past = rw (held, same-decision (d .numbers) clock past h free (numberOf (d .value)) (askOf q))
+expired-is-dead h d free clock q held past = rw (held, same-decision (d .numbers) clock past h free (numberOf (d .value)) (instructionOf q))
 
 pub expired-served : ExpiredServed
 unfolding decisionOn answerOn
 expired-served t u clock s h d heads frees found buried-there held past =
-    let same = same-decision (d .numbers) clock past (u .head) (ltb 0 (freeRows (u .rows))) (numberOf (d .value)) (askOf (requestOf s h)) in
+    let same = same-decision (d .numbers) clock past (u .head) (ltb 0 (freeRows (u .rows))) (numberOf (d .value)) (instructionOf (requestOf s h)) in
     (rw (heads, frees, found, buried-there, held, same), rw (heads, frees, found, buried-there, held, same))
 
 -- of a Get, found or not, nothing is stored
@@ -88,14 +89,14 @@ module _ (h : Head) where
   unfolding doneOf
   got s clock n keyed = (refl, refl)
 
-  get-kept : (s : Stored) (free : Bool) (clock : ℕ) (n : Number) (q : Ask) (keyed : Bool) → q .command ≡ Get keyed → Kept (decision h s free clock n q .done)
+  get-kept : (s : Stored) (free : Bool) (clock : ℕ) (n : Number) (q : Instruction) (keyed : Bool) → q .command ≡ Get keyed → Kept (decision h s free clock n q .done)
   unfolding decision
   get-kept s free clock n q keyed e =
-      by-cond Kept (eqb (statusOf (testsOf h s free clock n q (ruleOf (modeOf (h .mode)) s clock (q .command)))) 0) _ _
+      by-cond Kept (eqb (firstStatus (testsOf h s free clock n q (ruleOf (modeOf (h .mode)) s clock (q .command)))) 0) _ _
       (λ t. subst (λ (c : Command). Kept (doneOf h s clock n c)) (sym e) (got s clock n keyed)) (λ t. (refl, refl))
 
 pub get-keeps : GetKeeps
 unfolding decide
 get-keeps h row free clock q keyed e =
-    let k = get-kept h (storedOf row) free clock (numberOf (valueOf row)) (askOf q) keyed e in
+    let k = get-kept h (storedOf row) free clock (numberOf (docValue row)) (instructionOf q) keyed e in
     (rw (k .0) refl, k .1)

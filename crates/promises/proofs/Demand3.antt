@@ -9,30 +9,33 @@ use Rattle.octets.specs.Parts.{Bytes}
 use Rattle.octets.specs.Compare.{same}
 use Rattle.octets.proofs.Choices.{cases}
 use Rattle.numbers.specs.declared.Mode.{Mode}
-use Rattle.engine.specs.Documents.{Key, Doc}
+use Rattle.document.specs.Documents.{Key, Doc}
 use Rattle.header.specs.Header.{headerOf}
 use Rattle.request.specs.declared.Gate.the-variants.{Whole}
 use Rattle.request.specs.Reading.{gateOf, frameStatus, keySpan, bytesIn}
 use Rattle.commands.specs.Decide.{Effect, decide}
-use Rattle.asks.specs.Asks.{requestOf}
-use Rattle.table.specs.Row.{Row}
-use Rattle.table.specs.Table.{Table, tableOf, tableBytes}
-use Rattle.table.specs.Claims.{AllGood, Good}
-use Rattle.table.specs.Plain.{findRow, plain}
-use Rattle.table.proofs.PlainLaws.{none-some, plain-laws}
-use Rattle.table.proofs.TableLaws.{sound-good, good-sound}
+use Rattle.decode.specs.Decode.{requestOf}
+use Rattle.rows.specs.Row.{Row}
+use Rattle.rows.specs.Table.{Table, tableOf, tableBytes}
+use Rattle.plain.specs.Claims.{Good}
+use Rattle.rows.specs.Good.{AllGood}
+use Rattle.plain.specs.Plain.{plain}
+use Rattle.rows.specs.Find.{findRow}
+use Rattle.plain.proofs.PlainLaws.{plain-laws}
+use Rattle.octets.proofs.Options.{none-some}
+use Rattle.plain.proofs.TableLaws.{sound-good, good-sound}
 use Rattle.merge.specs.Merge.{All, changed, effectOn, tableOn, tableAfter, statusesOf}
 use Rattle.merge.specs.Merge as abstract
 use Rattle.merge.proofs.Demand3 as abstractly
 use Rattle.serving.specs.Serve.{served, servedTable, gateAll, decisionOn, answerOn}
 use Rattle.promises.proofs.Step.{step-good}
-use Rattle.promises.specs.Calls.{Call, servedBy, tableBy, bytesAfter, answers, statusOf}
+use Rattle.promises.specs.Calls.{Call, servedBy, tableServed, bytesAfter, answers, statusIn}
 use Rattle.promises.specs.Step.{stepTable, StepGood}
-use Rattle.promises.specs.Merge.{Merging, modeAt, docAt, writes, Premises, Merged, Demand3}
+use Rattle.promises.specs.Merge.{MergingCall, modeAt, docAt, writes, Premises, Merged, Demand3}
 use Rattle.promises.proofs.MergingCall.{asked, all-asked}
 
 -- a table, as an engine's
-abbrev viewed : Table → abstract.Table plain
+abbrev viewed : Table → abstract.State plain
 viewed t = record { head = t .head; rows = t .rows }
 
 -- a call that is served, and whose frame keeps the reader's rules
@@ -42,7 +45,7 @@ record Serves (c : Call) : Type 0 where
   whole : gateOf (c .received) ≡ Whole (headerOf (c .received))
   form : frameStatus (c .received) (headerOf (c .received)) ≡ 0
 
-all-serve : (m : Mode) (v : ℕ) (cs : List Call) → All (Merging m v) cs → All Serves cs
+all-serve : (m : Mode) (v : ℕ) (cs : List Call) → All (MergingCall m v) cs → All Serves cs
 all-serve m v [] p = tt
 all-serve m v (c ∷ cs) p = (record { bytes = p .0 .bytes; room = p .0 .room; whole = p .0 .whole; form = p .0 .form }, all-serve m v cs (p .1))
 
@@ -66,7 +69,7 @@ gate-go : (t : Table) (c : Call) → Good t → Serves c → gateAll (tableBytes
 unfolding gateAll
 gate-go t c g w = rw (good-sound t g .0, le-ltb (length (c .reply)) 1302 (w .room)) (w .whole)
 
-status-same : (t : Table) (c : Call) → Good t → Serves c → statusOf (servedBy (tableBytes t) c) ≡ effectOn plain (viewed t) (asked c) .status
+status-same : (t : Table) (c : Call) → Good t → Serves c → statusIn (servedBy (tableBytes t) c) ≡ effectOn plain (viewed t) (asked c) .status
 unfolding served
 status-same t c g w = rw (gate-go t c g w, good-sound t g .1) (ap (λ (x : Effect). x .status) (effect-same t c w))
 
@@ -75,10 +78,10 @@ record Lifted (t : Table) (cs : List Call) : Type 0 where
   good : Good (steppedAll t cs)
   bytes : bytesAfter (tableBytes t) cs ≡ tableBytes (steppedAll t cs)
   table : viewed (steppedAll t cs) ≡ tableAfter plain (viewed t) (map asked cs)
-  statuses : map statusOf (answers (tableBytes t) cs) ≡ statusesOf plain (viewed t) (map asked cs)
+  statuses : map statusIn (answers (tableBytes t) cs) ≡ statusesOf plain (viewed t) (map asked cs)
 
 module _ (step : StepGood) where
-  table-same : (t : Table) (c : Call) → Good t → Serves c → tableBy (tableBytes t) c ≡ tableBytes (stepped t c)
+  table-same : (t : Table) (c : Call) → Good t → Serves c → tableServed (tableBytes t) c ≡ tableBytes (stepped t c)
   unfolding servedTable
   table-same t c g w = rw (gate-go t c g w) (step t (c .clock) (c .received) (headerOf (c .received)) g (w .bytes) (w .whole) .bytes)
 
@@ -91,16 +94,16 @@ module _ (step : StepGood) where
       record {
         good = r .good;
         bytes = ap (λ (x : List ℕ). bytesAfter x cs) e ∙ r .bytes;
-        table = r .table ∙ ap (λ (x : abstract.Table plain). tableAfter plain x (map asked cs)) v;
+        table = r .table ∙ ap (λ (x : abstract.State plain). tableAfter plain x (map asked cs)) v;
         statuses =
-            ap (λ (x : List ℕ). statusOf (servedBy (tableBytes t) c) ∷ map statusOf (answers x cs)) e
-            ∙ ap (λ (n : ℕ). n ∷ map statusOf (answers (tableBytes (stepped t c)) cs)) (status-same t c g (w .0))
+            ap (λ (x : List ℕ). statusIn (servedBy (tableBytes t) c) ∷ map statusIn (answers x cs)) e
+            ∙ ap (λ (n : ℕ). n ∷ map statusIn (answers (tableBytes (stepped t c)) cs)) (status-same t c g (w .0))
             ∙ ap (λ (l : List ℕ). effectOn plain (viewed t) (asked c) .status ∷ l) (r .statuses)
-            ∙ ap (λ (x : abstract.Table plain). effectOn plain (viewed t) (asked c) .status ∷ statusesOf plain x (map asked cs)) v;
+            ∙ ap (λ (x : abstract.State plain). effectOn plain (viewed t) (asked c) .status ∷ statusesOf plain x (map asked cs)) v;
       }
 
 -- ---- the premises and the promises
-writes-same : (cs : List Call) → abstract.writes (map asked cs) ≡ writes cs
+writes-same : (cs : List Call) → abstract.writesOf (map asked cs) ≡ writes cs
 writes-same [] = refl
 writes-same (c ∷ cs) = rw (writes-same cs)
 
@@ -119,7 +122,7 @@ module _ (step : StepGood) (b : List ℕ) (cs : List Call) (p : Premises b cs) w
   back : tableBytes (tableOf b) ≡ b
   back = sound-good b (p .bytes) (p .undamaged) .0
 
-  premises : abstract.Premises plain (viewed (tableOf b)) (map asked cs)
+  premises : abstract.MergePremises plain (viewed (tableOf b)) (map asked cs)
   premises = record {
     sound = record { good = good .keys; below = λ k d e. found-below (tableOf b .head .mark .0) (tableOf b .rows) k d (good .rows) e };
     active = p .active;
@@ -128,7 +131,7 @@ module _ (step : StepGood) (b : List ℕ) (cs : List Call) (p : Premises b cs) w
     unique = λ k. rw (writes-same cs) (p .unique k);
   }
 
-  merged : abstract.Merged plain (viewed (tableOf b)) (map asked cs)
+  merged : abstract.MergedState plain (viewed (tableOf b)) (map asked cs)
   merged = abstractly.demand-3 plain plain-laws (viewed (tableOf b)) (map asked cs) premises
 
   run : Lifted (tableOf b) cs
@@ -140,11 +143,11 @@ module _ (step : StepGood) (b : List ℕ) (cs : List Call) (p : Premises b cs) w
   after : viewed (tableOf (bytesAfter b cs)) ≡ tableAfter plain (viewed (tableOf b)) (map asked cs)
   after = ap viewed (ap tableOf ends ∙ good-sound (steppedAll (tableOf b) cs) (run .good) .1) ∙ run .table
 
-  codes : map statusOf (answers b cs) ≡ statusesOf plain (viewed (tableOf b)) (map asked cs)
-  codes = ap (λ (x : List ℕ). map statusOf (answers x cs)) (sym back) ∙ run .statuses
+  codes : map statusIn (answers b cs) ≡ statusesOf plain (viewed (tableOf b)) (map asked cs)
+  codes = ap (λ (x : List ℕ). map statusIn (answers x cs)) (sym back) ∙ run .statuses
 
   docs : (k : Key) → docAt (bytesAfter b cs) k ≡ abstract.docIn plain (tableAfter plain (viewed (tableOf b)) (map asked cs)) k
-  docs k = ap (λ (x : abstract.Table plain). abstract.docIn plain x k) after
+  docs k = ap (λ (x : abstract.State plain). abstract.docIn plain x k) after
 
   on-bytes : Merged b cs
   on-bytes = record {
@@ -153,8 +156,8 @@ module _ (step : StepGood) (b : List ℕ) (cs : List Call) (p : Premises b cs) w
         (d, docs k ∙ e, rw (writes-same cs) at g);
     others = λ k w. docs k ∙ merged .others k (rw (writes-same cs) w);
     statuses = codes ∙ rw (writes-same cs) at (merged .statuses);
-    mark = ap (λ (x : abstract.Table plain). x .head) after ∙ (rw (codes, ← writes-same cs) (merged .mark));
-    mark-last = λ e. ap (λ (x : abstract.Table plain). x .head .mark .0) after ∙ (rw (writes-same cs) at (merged .mark-last e));
+    mark = ap (λ (x : abstract.State plain). x .head) after ∙ (rw (codes, ← writes-same cs) (merged .mark));
+    mark-last = λ e. ap (λ (x : abstract.State plain). x .head .mark .0) after ∙ (rw (writes-same cs) at (merged .mark-last e));
     undamaged = rw ends (good-sound (steppedAll (tableOf b) cs) (run .good) .0);
   }
 

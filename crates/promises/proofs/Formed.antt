@@ -17,7 +17,7 @@ use Rattle.shape.specs.declared.Shape.{Shape}
 use Rattle.shape.specs.Shapes.{Command as Listed, commands, bare, unbuilt, lookUp, among, shapeOf}
 use Rattle.header.specs.declared.Header.{Header}
 use Rattle.rules.specs.declared.WithMeta.{WithMeta}
-use Rattle.rules.specs.WithMeta.{withMeta, numbersOf}
+use Rattle.rules.specs.WithMeta.{withMeta, carriedNumbers}
 use Rattle.rules.specs.Rules.{formOk, extrasOk, keyOk, numbersOk, bodyOk, withMetaOk, fieldRulesOk, judged, status}
 use Rattle.rules.proofs.RuleLaws.{formed}
 use Rattle.request.specs.Reading.{extrasSpan, valueSpan, bytesIn, frameStatus}
@@ -27,8 +27,8 @@ use Rattle.commands.specs.declared.Command.{Command}
 use Rattle.commands.specs.declared.Command.the-variants.{Get, Write, Count, Noop, Version, WithMeta as Metas}
 use Rattle.commands.specs.Rules.{isDelete}
 use Rattle.commands.specs.Claims.{Formed}
-use Rattle.asks.specs.Asks.{either, plainOf, counterOf, metaOf, plainCommand, commandOf, requestOf}
-use Rattle.serving.specs.Serve.{goesOn}
+use Rattle.decode.specs.Decode.{either, plainOf, counterOf, metaCommand, plainCommand, commandOf, requestOf}
+use Rattle.serving.specs.Serve.{reachesDecision}
 
 pub no {ℓ} : {X : Type ℓ} → false ≡ true → X
 no e = absurd (let y : _≡_ {A = ℕ} 0 1 = cc in omega arith)
@@ -49,7 +49,7 @@ Named n (Metas w) = 1 ≤ n
 
 -- ---- an opcode whose status lets the frame go on is built
 abbrev Built : Shape → Type 0
-Built s = goesOn (s .status) ≡ true → s .status ≡ 0
+Built s = reachesDecision (s .status) ≡ true → s .status ≡ 0
 
 built-in : (op : ℕ) (cs : List Listed) (other : Shape) → Built other → Built (lookUp op cs other)
 unfolding lookUp
@@ -62,12 +62,12 @@ built : (op : ℕ) → Built (shapeOf op)
 unfolding shapeOf
 built op = built-in op commands _ (by-cond Built (among op bare) _ _ (λ t e. refl) (λ t. by-cond Built (among op unbuilt) _ _ (λ u e. no e) (λ u e. no e)))
 
-judged-built : (s : Shape) (h : Header) (extras value : List ℕ) → Built s → goesOn (judged s h extras value) ≡ true → s .status ≡ 0
+judged-built : (s : Shape) (h : Header) (extras value : List ℕ) → Built s → reachesDecision (judged s h extras value) ≡ true → s .status ≡ 0
 unfolding judged
 judged-built s h extras value b e = cases (eqb (s .status) 0) (λ t. eqb-true (s .status) 0 t) (λ t. b (rw t at e))
 
 -- ---- a frame that goes on breaks no field rule
-judged-fields : (s : Shape) (h : Header) (extras value : List ℕ) → formOk s h ≡ true → s .status ≡ 0 → goesOn (judged s h extras value) ≡ true → fieldRulesOk s extras value ≡ true
+judged-fields : (s : Shape) (h : Header) (extras value : List ℕ) → formOk s h ≡ true → s .status ≡ 0 → reachesDecision (judged s h extras value) ≡ true → fieldRulesOk s extras value ≡ true
 unfolding judged
 judged-fields s h extras value f z e =
     cases (fieldRulesOk s extras value) (λ t. t) (λ t. no (rw (z, f, t) at e))
@@ -124,7 +124,7 @@ form-parts s h e =
     let d = both (keyOk (s .key) (h .keylen)) _ (c .1) in
     record { inside = leb-true (h .extlen + h .keylen) (h .body) (b .0); extras = c .0; key = d .0 }
 
-module _ (s : List ℕ) (y : Bytes s) (h : Header) (g : goesOn (frameStatus s h) ≡ true) where
+module _ (s : List ℕ) (y : Bytes s) (h : Header) (g : reachesDecision (frameStatus s h) ≡ true) where
   abbrev extras : List ℕ
   extras = bytesIn s (extrasSpan h)
 
@@ -156,8 +156,8 @@ module _ (s : List ℕ) (y : Bytes s) (h : Header) (g : goesOn (frameStatus s h)
   named a b e p q = key-least (shapeOf op .key) (h .keylen) (two (λ (x : Shape). x .key) op a b 1 e p q) (form .key)
 
   meta-right : (k : Kind) (m a b : ℕ) → either op a b ≡ true → shapeOf a .key ≡ 1 → shapeOf b .key ≡ 1 → shapeOf a .meta ≡ m → shapeOf b .meta ≡ m
-      → eqb m 0 ≡ false → (isDelete k ≡ true → m ≡ 2) → Right (metaOf k (withMeta extras))
-  unfolding metaOf withMeta numbersOf
+      → eqb m 0 ≡ false → (isDelete k ≡ true → m ≡ 2) → Right (metaCommand k (withMeta extras))
+  unfolding metaCommand withMeta carriedNumbers
   meta-right k m a b e p q v w z d =
       let r = meta-ok (shapeOf op) extras value m (two (λ (x : Shape). x .meta) op a b m e v w) z fields in (
         (

@@ -11,14 +11,14 @@ use Rattle.request.specs.declared.Gate.the-variants.{Stop, Whole}
 use Rattle.request.specs.Reading.{frameStatus, bytesIn, keySpan}
 use Rattle.commands.specs.Decide.{decide}
 use Rattle.commands.proofs.Stores.{refused-keeps as decided-keeps}
-use Rattle.asks.specs.Asks.{requestOf}
-use Rattle.table.specs.Table.{Table, tableOf}
-use Rattle.table.specs.Lookup.{placeIn}
-use Rattle.table.specs.Plain.{findRow, freeRows}
+use Rattle.decode.specs.Decode.{requestOf}
+use Rattle.rows.specs.Table.{Table, tableOf}
+use Rattle.plain.specs.Lookup.{placeIn}
+use Rattle.rows.specs.Find.{findRow, freeRows}
 use Rattle.serving.specs.declared.Served.the-variants.{Done}
 use Rattle.serving.proofs.Gated.{refused-keeps as call-keeps}
 use Rattle.serving.proofs.Storing.{stored-none}
-use Rattle.serving.specs.Serve.{goesOn, decisionOn, answerOn, frameTable, answerBy, tableBy, served, servedTable, gateAll}
+use Rattle.serving.specs.Serve.{reachesDecision, decisionOn, answerOn, frameTable, answerBy, tableBy, served, servedTable, gateAll}
 use Rattle.promises.specs.Table.{RefusedKeeps, StatusKeeps}
 
 pub refused-keeps : RefusedKeeps
@@ -28,7 +28,7 @@ refused-keeps = call-keeps
 nothing-stored : (t : Table) (clock : ℕ) (s : List ℕ) (h : Header) → (answerOn t clock s h .effect .status ≡ 0 → ⊥) → answerOn t clock s h .effect .store ≡ none
 unfolding answerOn decisionOn decide
 nothing-stored t clock s h n =
-    cases (goesOn (frameStatus s h))
+    cases (reachesDecision (frameStatus s h))
     (λ y. rw y (decided-keeps (t .head) (findRow (t .rows) (bytesIn s (keySpan h))) (ltb 0 (freeRows (t .rows))) clock (requestOf s h) (rw y at n) .0))
     (λ y. rw y)
 

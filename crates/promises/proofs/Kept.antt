@@ -11,22 +11,23 @@ use Rattle.octets.proofs.Choices.{cases}
 use Rattle.digits.specs.declared.Number.{Number}
 use Rattle.digits.specs.Decimal.{numberOf}
 use Rattle.numbers.specs.Order.{modeOf}
-use Rattle.engine.specs.declared.Head.{Head}
-use Rattle.engine.specs.declared.Stored.{Stored}
-use Rattle.engine.specs.Documents.{Key, Doc}
-use Rattle.engine.specs.Stored.{live, numbersOf, storedOf}
+use Rattle.document.specs.declared.Head.{Head}
+use Rattle.document.specs.declared.Stored.{Stored}
+use Rattle.document.specs.Documents.{Key, Doc}
+use Rattle.document.specs.Stored.{live, numbersOf, storedOf}
 use Rattle.commands.specs.declared.Done.{Done}
 use Rattle.commands.specs.declared.Command.{Command}
 use Rattle.commands.specs.declared.Command.the-variants.{Get, Write, Count, Noop, Version, WithMeta}
 use Rattle.commands.specs.declared.Reply.the-variants.{Bare}
-use Rattle.commands.specs.Rules.{ruleOf, testsOf, statusOf}
+use Rattle.commands.specs.Rules.{ruleOf, testsOf, firstStatus}
 use Rattle.commands.specs.Done.{decision, doneOf, nothing}
-use Rattle.commands.specs.Decide.{Request, decide, valueOf, askOf, docFrom, bytesFrom}
-use Rattle.commands.specs.Claims.{Fits}
-use Rattle.table.specs.Row.{Row}
-use Rattle.table.specs.Plain.{findRow}
-use Rattle.table.specs.Claims.{AllGood}
-use Rattle.table.proofs.PlainLaws.{none-some}
+use Rattle.commands.specs.Decide.{Request, decide, instructionOf, docFrom, bytesFrom}
+use Rattle.document.specs.Documents.{docValue}
+use Rattle.commands.specs.Claims.{NumbersFit}
+use Rattle.rows.specs.Row.{Row}
+use Rattle.rows.specs.Find.{findRow}
+use Rattle.rows.specs.Good.{AllGood}
+use Rattle.octets.proofs.Options.{none-some}
 use Rattle.promises.proofs.Formed.{by-cond, Named}
 
 module _ (h : Head) (frame old : List ℕ) (n : ℕ) where
@@ -51,14 +52,14 @@ pub decide-keeps : (h : Head) (row : Option Doc) (free : Bool) (clock : ℕ) (q 
 unfolding decide decision
 decide-keeps h row free clock q n p =
     let s = storedOf row in
-    let v = numberOf (valueOf row) in
-    by-cond (Keeps h (q .value) (valueOf row) n) (eqb (statusOf (testsOf h s free clock v (askOf q) (ruleOf (modeOf (h .mode)) s clock (q .command)))) 0)
+    let v = numberOf (docValue row) in
+    by-cond (Keeps h (q .value) (docValue row) n) (eqb (firstStatus (testsOf h s free clock v (instructionOf q) (ruleOf (modeOf (h .mode)) s clock (q .command)))) 0)
     (doneOf h s clock v (q .command)) (nothing h Bare (record { 0 = 0 }))
-    (λ t. done-keeps h (q .value) (valueOf row) n s clock v (q .command) p)
+    (λ t. done-keeps h (q .value) (docValue row) n s clock v (q .command) p)
     (λ t. (λ e. refl, λ d e. none-some d e))
 
 -- the numbers of a key's row fit
-pub fits-found : (mark : ℕ) (ws : List Row) (k : Key) → mark < 2 ^ 64 → AllGood mark ws → Fits (numbersOf (storedOf (findRow ws k)))
+pub fits-found : (mark : ℕ) (ws : List Row) (k : Key) → mark < 2 ^ 64 → AllGood mark ws → NumbersFit (numbersOf (storedOf (findRow ws k)))
 fits-found mark [] k m g = record { flags = omega arith; expiry = omega arith; revision = omega arith; cas = omega arith }
 fits-found mark (none ∷ ws) k m g = fits-found mark ws k m g
 fits-found mark (some x ∷ ws) k m g =

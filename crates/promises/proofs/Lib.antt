@@ -8,3 +8,4 @@ pub mod Keeps
 pub mod Dead
 pub mod Judged
 pub mod Worked
+pub mod Candidates

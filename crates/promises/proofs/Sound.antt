@@ -9,9 +9,9 @@ use Rattle.header.specs.declared.Header.{Header}
 use Rattle.request.specs.declared.Gate.{Gate}
 use Rattle.request.specs.declared.Gate.the-variants.{Stop, Whole}
 use Rattle.request.specs.Reading.{gateOf}
-use Rattle.table.specs.Table.{tableOf}
-use Rattle.table.specs.Damage.{sound}
-use Rattle.table.proofs.TableLaws.{sound-good, good-sound}
+use Rattle.rows.specs.Table.{tableOf}
+use Rattle.plain.specs.Damage.{sound}
+use Rattle.plain.proofs.TableLaws.{sound-good, good-sound}
 use Rattle.serving.specs.Serve.{gateAll, frameTable, tableBy, servedTable}
 use Rattle.promises.specs.Step.{stepTable}
 use Rattle.promises.specs.Table.{StaysSound}

@@ -14,25 +14,27 @@ use Rattle.octets.proofs.Lists.{part-length}
 use Rattle.header.specs.declared.Header.{Header}
 use Rattle.rules.proofs.RuleLaws.{key-most}
 use Rattle.request.specs.Reading.{frameStatus, bytesIn, extrasSpan, keySpan, valueSpan}
-use Rattle.engine.specs.Documents.{Key, Doc, Entry}
-use Rattle.engine.specs.Head.{marked}
+use Rattle.document.specs.Documents.{Key, Doc, Entry}
+use Rattle.document.specs.Head.{marked}
 use Rattle.commands.specs.Decide.{Answer, decide}
 use Rattle.commands.specs.Claims.{StoredSound}
 use Rattle.commands.proofs.Stores.{stores-with-room, stores-sound}
-use Rattle.asks.specs.Asks.{requestOf}
-use Rattle.table.specs.Table.{Table, tableBytes, withMark}
-use Rattle.table.specs.Lookup.{placeIn}
-use Rattle.table.specs.Plain.{plain, findRow, freeRows}
-use Rattle.table.specs.Claims.{EntryGood, Good, withEntry}
-use Rattle.table.proofs.PlainLaws.{options}
-use Rattle.table.proofs.Places.{place-room}
-use Rattle.table.proofs.TableLaws.{good-sound}
-use Rattle.table.proofs.ChangeLaws.{store-good}
-use Rattle.merge.specs.Merge.{storeRow}
+use Rattle.decode.specs.Decode.{requestOf}
+use Rattle.rows.specs.Table.{Table, tableBytes, withMark}
+use Rattle.plain.specs.Lookup.{placeIn}
+use Rattle.plain.specs.Plain.{plain}
+use Rattle.rows.specs.Find.{findRow, freeRows}
+use Rattle.plain.specs.Claims.{Good, withEntry}
+use Rattle.rows.specs.Good.{EntryGood}
+use Rattle.octets.proofs.Options.{options}
+use Rattle.plain.proofs.Places.{place-room}
+use Rattle.plain.proofs.TableLaws.{good-sound}
+use Rattle.plain.proofs.ChangeLaws.{store-good}
+use Rattle.engine.specs.Engine.{storeRow}
 use Rattle.request.proofs.Gated.{whole-frame}
 use Rattle.serving.specs.Change.{storedAt}
 use Rattle.serving.proofs.Storing.{stored-none}
-use Rattle.serving.specs.Serve.{goesOn, decisionOn, answerOn, frameTable}
+use Rattle.serving.specs.Serve.{reachesDecision, decisionOn, answerOn, frameTable}
 use Rattle.promises.specs.Step.{stepTable, Steps, StepGood}
 use Rattle.promises.proofs.Formed.{form, command-right}
 use Rattle.promises.proofs.Kept.{decide-keeps, fits-found}
@@ -65,11 +67,11 @@ module _ (t : Table) (clock : ℕ) (s : List ℕ) (h : Header) (g : Good t) wher
         good = subst Good (sym same) g;
       }
 
-  refused : goesOn (frameStatus s h) ≡ false → Steps t clock s h
+  refused : reachesDecision (frameStatus s h) ≡ false → Steps t clock s h
   unfolding answerOn decisionOn
   refused f = kept (rw f) (rw f)
 
-  module _ (y : Bytes s) (whole : 24 + h .body ≤ length s) (o : goesOn (frameStatus s h) ≡ true) where
+  module _ (y : Bytes s) (whole : 24 + h .body ≤ length s) (o : reachesDecision (frameStatus s h) ≡ true) where
     is-decided : answer ≡ decided
     unfolding answerOn decisionOn decide
     is-decided = rw o
@@ -129,4 +131,4 @@ module _ (t : Table) (clock : ℕ) (s : List ℕ) (h : Header) (g : Good t) wher
         stored
 
 pub step-good : StepGood
-step-good t clock s h g y w = cases (goesOn (frameStatus s h)) (went t clock s h g y (whole-frame s h w .inside)) (refused t clock s h g)
+step-good t clock s h g y w = cases (reachesDecision (frameStatus s h)) (went t clock s h g y (whole-frame s h w .inside)) (refused t clock s h g)

@@ -6,10 +6,10 @@ use Rattle.octets.specs.Parts.{Bytes}
 use Rattle.header.specs.declared.Header.{Header}
 use Rattle.request.specs.declared.Gate.the-variants.{Whole}
 use Rattle.request.specs.Reading.{bytesIn, keySpan, gateOf}
-use Rattle.table.specs.Table.{Table, tableBytes}
-use Rattle.table.specs.Claims.{Good}
-use Rattle.table.specs.Plain.{plain}
-use Rattle.merge.specs.Merge.{storeRow}
+use Rattle.rows.specs.Table.{Table, tableBytes}
+use Rattle.plain.specs.Claims.{Good}
+use Rattle.plain.specs.Plain.{plain}
+use Rattle.engine.specs.Engine.{storeRow}
 use Rattle.serving.specs.Serve.{answerOn, frameTable}
 
 abbrev pub stepTable : Table → ℕ → List ℕ → Header → Table

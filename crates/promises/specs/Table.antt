@@ -5,7 +5,7 @@ use mathlib.Core.Bool.{true}
 use mathlib.Core.List.{List}
 use lib.ListN.{length}
 use Rattle.octets.specs.Parts.{Bytes}
-use Rattle.table.specs.Damage.{sound}
+use Rattle.plain.specs.Damage.{sound}
 use Rattle.serving.specs.declared.Served.the-variants.{Refused, Done}
 use Rattle.serving.specs.Serve.{served, servedTable, servedReply}
 

@@ -18,15 +18,15 @@ use Rattle.request.specs.declared.Reading.{Reading}
 use Rattle.request.specs.declared.Reading.the-variants.{Outcome, Status, Accepted}
 
 -- 01's numbers for an answer of the reader: its outcome, 0 where a whole frame stands there, and its status, 0 where no rule applies
-abbrev pub outcomeOf : Reading → ℕ
-outcomeOf (Outcome n) = n
-outcomeOf (Status n) = 0
-outcomeOf (Accepted f) = 0
+abbrev pub readingOutcome : Reading → ℕ
+readingOutcome (Outcome n) = n
+readingOutcome (Status n) = 0
+readingOutcome (Accepted f) = 0
 
-abbrev pub statusOf : Reading → ℕ
-statusOf (Outcome n) = 0
-statusOf (Status n) = n
-statusOf (Accepted f) = 0
+abbrev pub readingStatus : Reading → ℕ
+readingStatus (Outcome n) = 0
+readingStatus (Status n) = n
+readingStatus (Accepted f) = 0
 
 -- the outcomes, in the order tested, each with the bytes needed from the frame's start (0 where 01 promises none), or the header of a whole frame
 unfoldable pub gateOf : List ℕ → Gate

@@ -29,15 +29,15 @@ formOk s h =
     && (eqb (s .value) 1 || eqb (h .body) (h .extlen + h .keylen)))))
 
 -- the largest CAS and revision that a request carries
-abbrev pub largest : ℕ
-largest = 0xfffffffeffffffff
+abbrev pub largestNumber : ℕ
+largestNumber = 0xfffffffeffffffff
 
 -- "CAS outside 1 to 0xfffffffeffffffff; revision over that; option bits other than 0x0f; 0x04 without 0x08"
 unfoldable pub numbersOk : WithMeta → Bool
 numbersOk w =
     leb 1 (w .numbers .cas .0)
-    && (leb (w .numbers .cas .0) largest
-    && (leb (w .numbers .revision .0) largest
+    && (leb (w .numbers .cas .0) largestNumber
+    && (leb (w .numbers .revision .0) largestNumber
     && (leb (w .options) 0x0f
     && (eqb (w .options / 4 % 2) 0 || eqb (w .options / 8 % 2) 1))))
 

@@ -5,7 +5,7 @@ ghost use Prim.Native.Nat.{_-_, _≤_};
 ghost use lib.ListN.{length};
 ghost use lib.Dec.{ltb};
 ghost use Rattle.rules.specs.Section.{fieldOk, fieldsOk, sectionOk};
-ghost use Rattle.rules.specs.WithMeta.{numbersOf, optionsOf, sectionOf, withMeta};
+ghost use Rattle.rules.specs.WithMeta.{carriedNumbers, optionsOf, sectionOf, withMeta};
 ghost use Rattle.rules.specs.Rules.{formOk, numbersOk, bodyOk, withMetaOk, metaSize, formStatus, metaStatus, fieldStatus, judged, status};
 use header::Header;
 use numbers::Cas;
@@ -22,7 +22,7 @@ pub struct WithMeta {
 }
 
 fn numbers_of(extras: &[u8]) -> Numbers
-    ensures { λ r. ⌜ r ≡ numbersOf (now (extras .entry)) ⌝ }
+    ensures { λ r. ⌜ r ≡ carriedNumbers (now (extras .entry)) ⌝ }
 {
     Numbers {
         flags: octets::be32(extras, 0),

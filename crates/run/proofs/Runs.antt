@@ -16,15 +16,15 @@ use Rattle.request.specs.declared.Gate.{Gate}
 use Rattle.request.specs.declared.Gate.the-variants.{Stop, Whole}
 use Rattle.request.specs.Reading.{frameStatus, bytesIn, keySpan}
 use Rattle.commands.specs.declared.Decision.{Decision}
-use Rattle.table.specs.Table.{tableOf, headOf}
-use Rattle.table.specs.Damage.{sound}
-use Rattle.table.specs.Lookup.{findIn}
+use Rattle.rows.specs.Table.{tableOf, headOf}
+use Rattle.plain.specs.Damage.{sound}
+use Rattle.plain.specs.Lookup.{findIn}
 use Rattle.tally.specs.declared.Tally.{Tally}
 use Rattle.tally.specs.Counts.{countedOf}
 use Rattle.serving.specs.declared.Served.{Served}
 use Rattle.serving.specs.declared.Served.the-variants.{Refused, Done}
 use Rattle.serving.specs.Reply.{replyBytes, bodyOf, replyHeader}
-use Rattle.serving.specs.Serve.{gateAll, goesOn, decisionOn, frameReply, answerBy, served, servedTable, servedReply}
+use Rattle.serving.specs.Serve.{gateAll, reachesDecision, decisionOn, frameReply, answerBy, served, servedTable, servedReply}
 use Rattle.serve.proofs.Replies.{body-most}
 use Rattle.serve.proofs.Lookups.{key-short, value-short, value-found}
 use Rattle.serve.proofs.Joint.{refused-reply, refusal-length}
@@ -43,7 +43,7 @@ bytes-most op opaque d key old h k =
 reply-most : (b : List ℕ) (clock : ℕ) (s : List ℕ) (h : Header) → Bytes b → sound b ≡ true → length (frameReply b clock s h) ≤ 1302
 unfolding frameReply
 reply-most b clock s h y k =
-    cases (goesOn (frameStatus s h))
+    cases (reachesDecision (frameStatus s h))
     (λ t. bytes-most (h .opcode) (h .opaque) (decisionOn (tableOf b) clock s h) (bytesIn s (keySpan h)) _ (key-short s h t) (omega (arith, ap length (value-found b (bytesIn s (keySpan h))), value-short b y k (findIn (bytesIn s (keySpan h)) 0 (tableOf b .rows)))))
     (λ f. omega (arith, ap length (refused-reply b s clock h f), refusal-length (h .opcode) (h .opaque) (headOf b) (frameStatus s h)))
 

@@ -8,7 +8,7 @@ use borrow.Author.Tests.{lt-ltb, le-ltb}
 use Rattle.request.specs.declared.Gate.{Gate}
 use Rattle.request.specs.declared.Gate.the-variants.{Stop}
 use Rattle.request.specs.Reading.{gateOf}
-use Rattle.table.specs.Damage.{sound}
+use Rattle.plain.specs.Damage.{sound}
 use Rattle.serving.specs.declared.Served.{Served}
 use Rattle.serving.specs.Serve.{gateAll, answerBy, tableBy, replyBy, served, servedTable, servedReply}
 

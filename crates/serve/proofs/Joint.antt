@@ -10,28 +10,28 @@ use Rattle.header.specs.declared.Header.{Header}
 use Rattle.header.specs.Header.{headerBytes}
 use Rattle.request.specs.declared.Gate.the-variants.{Whole}
 use Rattle.request.specs.Reading.{bytesIn, keySpan, frameStatus}
-use Rattle.engine.specs.declared.Head.{Head}
-use Rattle.engine.specs.declared.Stored.{Stored}
-use Rattle.engine.specs.declared.Stored.the-variants.{Nothing as NoRow}
+use Rattle.document.specs.declared.Head.{Head}
+use Rattle.document.specs.declared.Stored.{Stored}
+use Rattle.document.specs.declared.Stored.the-variants.{Nothing as NoRow}
 use Rattle.digits.specs.declared.Number.{Number}
 use Rattle.digits.specs.Decimal.{numberOf}
-use Rattle.commands.specs.declared.Ask.{Ask}
+use Rattle.commands.specs.declared.Instruction.{Instruction}
 use Rattle.commands.specs.declared.Decision.{Decision}
-use Rattle.commands.specs.Rules.{writesOf}
+use Rattle.commands.specs.Rules.{isWrite}
 use Rattle.commands.specs.Done.{decision}
 use Rattle.commands.proofs.Writing.{stores-none}
-use Rattle.commands.specs.Decide.{askOf, docFrom, bytesFrom}
-use Rattle.asks.specs.Asks.{requestOf, valueOf}
-use Rattle.table.specs.declared.Found.{Found}
-use Rattle.table.specs.declared.Slot.{Slot}
-use Rattle.table.specs.Table.{tableOf, headOf}
-use Rattle.table.specs.Lookup.{findIn, freeIn, orElse, placeIn, missing}
-use Rattle.table.specs.Damage.{sound}
+use Rattle.commands.specs.Decide.{instructionOf, docFrom, bytesFrom}
+use Rattle.decode.specs.Decode.{requestOf, bareValue}
+use Rattle.plain.specs.declared.Found.{Found}
+use Rattle.rows.specs.declared.Slot.{Slot}
+use Rattle.rows.specs.Table.{tableOf, headOf}
+use Rattle.plain.specs.Lookup.{findIn, freeIn, orElse, placeIn, missing}
+use Rattle.plain.specs.Damage.{sound}
 use Rattle.serving.specs.declared.Served.{Served}
 use Rattle.serving.specs.declared.Served.the-variants.{Done}
 use Rattle.serving.specs.Reply.{replyHeader, replyBytes}
 use Rattle.serving.specs.Change.{storedAt, heldAt, valueIn}
-use Rattle.serving.specs.Serve.{goesOn, refusal, decisionOn, answerOn, frameTable, frameReply, answerBy}
+use Rattle.serving.specs.Serve.{reachesDecision, refusal, decisionOn, answerOn, frameTable, frameReply, answerBy}
 use Rattle.serving.proofs.Storing.{stored-none}
 use Rattle.serve.specs.Rows.{slotIn, heldBy, valueBy, placeFor}
 use Rattle.serve.specs.Bare.{bareHeader}
@@ -41,8 +41,8 @@ use Rattle.serve.proofs.Placing.{held-by, value-by, placed, placed-tabl
 module _ (b s : List ℕ) (clock : ℕ) (h : Header) (f free : Found)
     (ef : f ≡ findIn (bytesIn s (keySpan h)) 0 (tableOf b .rows)) (er : free ≡ freeIn 0 (tableOf b .rows)) where
   -- a frame that goes on is decided from its key's row
-  pub decided-is : (hd : Head) (st : Stored) (fr : Bool) (n : Number) (q : Ask) (d : Decision) → goesOn (frameStatus s h) ≡ true
-      → hd ≡ headOf b → st ≡ heldAt b f → fr ≡ not (missing free) → n ≡ numberOf (valueIn b f) → q ≡ askOf (requestOf s h)
+  pub decided-is : (hd : Head) (st : Stored) (fr : Bool) (n : Number) (q : Instruction) (d : Decision) → reachesDecision (frameStatus s h) ≡ true
+      → hd ≡ headOf b → st ≡ heldAt b f → fr ≡ not (missing free) → n ≡ numberOf (valueIn b f) → q ≡ instructionOf (requestOf s h)
       → d ≡ decision hd st fr clock n q → d ≡ decisionOn (tableOf b) clock s h
   unfolding decisionOn tableOf
   decided-is hd st fr n q d g e1 e2 e3 e4 e5 ed =
@@ -59,7 +59,7 @@ module _ (b s : List ℕ) (clock : ℕ) (h : Header) (d : Decision) (ed : d ≡ 
 
   module _ (f free : Found) (k old : List ℕ) (ek : k ≡ bytesIn s (keySpan h)) (ef : f ≡ findIn k 0 (tableOf b .rows))
       (er : free ≡ freeIn 0 (tableOf b .rows)) (eo : old ≡ valueIn b f) where
-    old-is : old ≡ Rattle.commands.specs.Decide.valueOf (Rattle.table.specs.Plain.findRow (tableOf b .rows) (bytesIn s (keySpan h)))
+    old-is : old ≡ Rattle.document.specs.Documents.docValue (Rattle.rows.specs.Find.findRow (tableOf b .rows) (bytesIn s (keySpan h)))
     old-is = eo ∙ ap (valueIn b) (ef ∙ ap (λ (x : List ℕ). findIn x 0 (tableOf b .rows)) ek) ∙ sym (value-found b (bytesIn s (keySpan h)))
 
     pub reply-is : replyBytes (h .opcode) (h .opaque) d k old ≡ frameReply b clock s h
@@ -70,7 +70,7 @@ module _ (b s : List ℕ) (clock : ℕ) (h : Header) (d : Decision) (ed : d ≡ 
         → Done (d .status) (24 + h .body) n ≡ answerBy b clock s (Whole h)
     answer-is n en = λ i. Done (status-is i) (24 + h .body) ((en ∙ ap length reply-is) i)
 
-    module _ (place : Found) (v : List ℕ) (y : Bytes b) (sb : sound b ≡ true) (ep : place ≡ orElse f free) (ev : v ≡ valueOf s h) where
+    module _ (place : Found) (v : List ℕ) (y : Bytes b) (sb : sound b ≡ true) (ep : place ≡ orElse f free) (ev : v ≡ bareValue s h) where
       place-is : place ≡ orElse (findIn (bytesIn s (keySpan h)) 0 (tableOf b .rows)) (freeIn 0 (tableOf b .rows))
       place-is = ep ∙ (λ i. orElse ((ef ∙ ap (λ (x : List ℕ). findIn x 0 (tableOf b .rows)) ek) i) (er i))
 
@@ -89,7 +89,7 @@ bare-reply op opaque hd st = append-nil (headerBytes (bareHeader op opaque st))
 pub refusal-length : (op opaque : ℕ) (hd : Head) (st : ℕ) → length (replyBytes op opaque (refusal hd st) [] []) ≡ 24
 refusal-length op opaque hd st = ap length (bare-reply op opaque hd st) ∙ length-header _
 
-module _ (b s : List ℕ) (clock : ℕ) (h : Header) (g : goesOn (frameStatus s h) ≡ false) where
+module _ (b s : List ℕ) (clock : ℕ) (h : Header) (g : reachesDecision (frameStatus s h) ≡ false) where
   refused-is : decisionOn (tableOf b) clock s h ≡ refusal (headOf b) (frameStatus s h)
   unfolding decisionOn tableOf
   refused-is = rw g
@@ -119,10 +119,10 @@ module _ (b s : List ℕ) (clock : ℕ) (h : Header) (g : goesOn (frameStatus s 
       (er ∙ refused-answer st 24 es n, (sym refused-table, eo ∙ ap (written out 0) w))
 
 -- ---- the row's fixed part read once, and a free row looked for only where the key has none and the command writes
-module _ (b s : List ℕ) (clock : ℕ) (h : Header) (k : List ℕ) (f place : Found) (w : Bool) (slot : Slot) (old : List ℕ) (hd : Head) (q : Ask) (d : Decision)
-    (g : goesOn (frameStatus s h) ≡ true) (ek : k ≡ bytesIn s (keySpan h)) (ef : f ≡ findIn k 0 (tableOf b .rows)) (ew : w ≡ writesOf (q .command))
+module _ (b s : List ℕ) (clock : ℕ) (h : Header) (k : List ℕ) (f place : Found) (w : Bool) (slot : Slot) (old : List ℕ) (hd : Head) (q : Instruction) (d : Decision)
+    (g : reachesDecision (frameStatus s h) ≡ true) (ek : k ≡ bytesIn s (keySpan h)) (ef : f ≡ findIn k 0 (tableOf b .rows)) (ew : w ≡ isWrite (q .command))
     (ep : place ≡ placeFor w f (freeIn 0 (tableOf b .rows))) (es : slot ≡ slotIn b f) (eo : old ≡ valueBy b f slot) (eh : hd ≡ headOf b)
-    (eq : q ≡ askOf (requestOf s h)) (ed : d ≡ decision hd (heldBy f slot) (not (missing place)) clock (numberOf old) q) where
+    (eq : q ≡ instructionOf (requestOf s h)) (ed : d ≡ decision hd (heldBy f slot) (not (missing place)) clock (numberOf old) q) where
   pub old-value : old ≡ valueIn b f
   old-value = eo ∙ ap (valueBy b f) es ∙ value-by b f
 
@@ -140,7 +140,7 @@ module _ (b s : List ℕ) (clock : ℕ) (h : Header) (k : List ℕ) (f place : F
   no-store z = ap (λ (x : Decision). x .done .store) placed-decision ∙ stores-none hd (heldAt b f) clock (numberOf (valueIn b f)) q (not (missing (freeIn 0 (tableOf b .rows)))) (sym ew ∙ z)
 
   -- what answering and storing by the decision leaves
-  pub formed-by : (v : List ℕ) (r : Served) (n : ℕ) (b′ out out′ : List ℕ) → Bytes b → sound b ≡ true → v ≡ valueOf s h
+  pub formed-by : (v : List ℕ) (r : Served) (n : ℕ) (b′ out out′ : List ℕ) → Bytes b → sound b ≡ true → v ≡ bareValue s h
       → n ≡ length (replyBytes (h .opcode) (h .opaque) d k old) → r ≡ Done (d .status) (24 + h .body) n
       → out′ ≡ written out 0 (replyBytes (h .opcode) (h .opaque) d k old)
       → b′ ≡ storedAt b place k (docFrom (d .done .store) (bytesFrom (d .done .source) v (valueIn b place))) (d .done .head .mark .0)

@@ -16,24 +16,24 @@ use Rattle.octets.proofs.Lists.{bytes-part, part-length, part-most}
 use Rattle.header.specs.declared.Header.{Header}
 use Rattle.rules.proofs.RuleLaws.{key-most}
 use Rattle.request.specs.Reading.{frameStatus, bytesIn, extrasSpan, keySpan, valueSpan}
-use Rattle.engine.specs.Documents.{Key, Doc, Entry}
-use Rattle.engine.specs.Stored.{storedOf}
-use Rattle.commands.specs.Decide.{valueOf}
-use Rattle.table.specs.declared.Found.{Found}
-use Rattle.table.specs.declared.Found.the-variants.{At, Nothing}
-use Rattle.table.specs.Row.{Row, slotOf, docOf, rowOf, rowBytes}
-use Rattle.table.specs.Table.{headOf, chunks, rowCount, tableOf}
-use Rattle.table.specs.Lookup.{findIn, freeIn, placeIn, missing}
-use Rattle.table.specs.Damage.{sound}
-use Rattle.table.specs.Plain.{findRow, freeRows}
-use Rattle.table.specs.Store.{rowAt}
-use Rattle.table.proofs.PlainLaws.{options, none-some}
-use Rattle.table.proofs.Places.{founds, nothing-at, find-place, find-nothing}
-use Rattle.table.proofs.Rows.{row-there, row-nowhere}
-use Rattle.table.proofs.RowLaws.{RowGood, row-back}
-use Rattle.table.proofs.TableLaws.{each-sound, sound-parts}
+use Rattle.document.specs.Documents.{Key, Doc, Entry}
+use Rattle.document.specs.Stored.{storedOf}
+use Rattle.document.specs.Documents.{docValue}
+use Rattle.plain.specs.declared.Found.{Found}
+use Rattle.plain.specs.declared.Found.the-variants.{At, Nothing}
+use Rattle.rows.specs.Row.{Row, slotOf, docOf, rowOf, rowBytes}
+use Rattle.rows.specs.Table.{headOf, chunks, rowCount, tableOf}
+use Rattle.plain.specs.Lookup.{findIn, freeIn, placeIn, missing}
+use Rattle.plain.specs.Damage.{sound}
+use Rattle.rows.specs.Find.{findRow, freeRows}
+use Rattle.rows.specs.Table.{rowAt}
+use Rattle.octets.proofs.Options.{options, none-some}
+use Rattle.plain.proofs.Places.{founds, nothing-at, find-place, find-nothing}
+use Rattle.rows.proofs.OneRow.{row-there, row-nowhere}
+use Rattle.rows.proofs.RowLaws.{RowGood, row-back}
+use Rattle.plain.proofs.TableLaws.{each-sound, sound-parts}
 use Rattle.serving.specs.Change.{heldAt, valueIn}
-use Rattle.serving.specs.Serve.{goesOn}
+use Rattle.serving.specs.Serve.{reachesDecision}
 use Rattle.serve.specs.Rows.{usedAt, usedIn}
 
 no-row : rowOf [] ≡ none
@@ -76,7 +76,7 @@ module _ (b : List ℕ) where
         (λ i f. rw (f, doc-found i f))
         (λ f. rw (f, find-nothing key 0 (tableOf b .rows) f))
 
-    pub value-found : valueOf (findRow (tableOf b .rows) key) ≡ valueIn b (findIn key 0 (tableOf b .rows))
+    pub value-found : docValue (findRow (tableOf b .rows) key) ≡ valueIn b (findIn key 0 (tableOf b .rows))
     value-found =
         founds (findIn key 0 (tableOf b .rows))
         (λ i f. rw (f, doc-found i f))
@@ -128,7 +128,7 @@ module _ (b : List ℕ) where
         (λ g. subst (λ (d : Doc). length (d .value) ≤ 1024) (sym (row-doc (rowAt b i) x w)) (subst (RowGood mark) w (g .1) .value-most))
         (row-known i))
 
-    pub value-place : (key : Key) → valueIn b (placeIn key (tableOf b .rows)) ≡ valueOf (findRow (tableOf b .rows) key)
+    pub value-place : (key : Key) → valueIn b (placeIn key (tableOf b .rows)) ≡ docValue (findRow (tableOf b .rows) key)
     value-place key =
         founds (findIn key 0 (tableOf b .rows))
         (λ i f. rw (f, doc-found key i f))
@@ -139,7 +139,7 @@ module _ (b : List ℕ) where
         free-empty Nothing e = refl
 
 -- the key that a frame is looked up by fits a row, whatever else is wrong with it
-module _ (s : List ℕ) (h : Header) (e : goesOn (frameStatus s h) ≡ true) where
+module _ (s : List ℕ) (h : Header) (e : reachesDecision (frameStatus s h) ≡ true) where
   pub form-key : h .keylen ≤ 250
   unfolding frameStatus
   form-key = key-most h (bytesIn s (extrasSpan h)) (bytesIn s (valueSpan h)) e

@@ -12,13 +12,13 @@ use Rattle.header.specs.declared.Header.{Header}
 use Rattle.rules.specs.Rules.{formStatus, fieldStatus, status}
 use Rattle.rules.proofs.RuleLaws.{judged-form, judged-other, form-lengths, form-stops}
 use Rattle.request.specs.Reading.{frameStatus, bytesIn, extrasSpan, keySpan, valueSpan}
-use Rattle.commands.specs.declared.Ask.{Ask}
-use Rattle.commands.specs.Decide.{askOf}
-use Rattle.asks.specs.declared.Asked.{Asked}
-use Rattle.asks.specs.declared.Asked.the-variants.{Broken, Whole}
-use Rattle.asks.specs.Asks.{askedBy, requestOf, valueOf}
-use Rattle.asks.proofs.AskLaws.{asked-broken, asked-goes, asked-whole, asked-value}
-use Rattle.serving.specs.Serve.{goesOn}
+use Rattle.commands.specs.declared.Instruction.{Instruction}
+use Rattle.commands.specs.Decide.{instructionOf}
+use Rattle.decode.specs.declared.Decoded.{Decoded}
+use Rattle.decode.specs.declared.Decoded.the-variants.{Broken, Whole}
+use Rattle.decode.specs.Decode.{decodedBy, requestOf, bareValue}
+use Rattle.decode.proofs.DecodeLaws.{asked-broken, asked-goes, asked-whole, asked-value}
+use Rattle.serving.specs.Serve.{reachesDecision}
 
 module _ (s : List ℕ) (h : Header) where
   pub extras-cut : take (24 + h .extlen - 24) (drop 24 s) ≡ bytesIn s (extrasSpan h)
@@ -43,22 +43,22 @@ module _ (s : List ℕ) (h : Header) where
     unfolding frameStatus status
     by-fields = judged-form (shapeOf (h .opcode)) h formed (bytesIn s (extrasSpan h)) (bytesIn s (valueSpan h))
 
-    module _ (sh : Shape) (ex va : List ℕ) (r : Asked) (eh : sh ≡ shapeOf (h .opcode)) (ee : ex ≡ bytesIn s (extrasSpan h)) (ev : va ≡ bytesIn s (valueSpan h))
-        (er : r ≡ askedBy sh h ex va) where
-      asked-is : askedBy (shapeOf (h .opcode)) h (bytesIn s (extrasSpan h)) (bytesIn s (valueSpan h)) ≡ r
-      asked-is = sym (er ∙ (λ i. askedBy (eh i) h (ee i) (ev i)))
+    module _ (sh : Shape) (ex va : List ℕ) (r : Decoded) (eh : sh ≡ shapeOf (h .opcode)) (ee : ex ≡ bytesIn s (extrasSpan h)) (ev : va ≡ bytesIn s (valueSpan h))
+        (er : r ≡ decodedBy sh h ex va) where
+      asked-is : decodedBy (shapeOf (h .opcode)) h (bytesIn s (extrasSpan h)) (bytesIn s (valueSpan h)) ≡ r
+      asked-is = sym (er ∙ (λ i. decodedBy (eh i) h (ee i) (ev i)))
 
       pub broken-status : r ≡ Broken → 0x04 ≡ frameStatus s h
       broken-status e = sym (by-fields ∙ asked-broken _ h _ _ (asked-is ∙ e))
 
-      module _ (a : Ask) (e : r ≡ Whole a) where
-        pub whole-goes : goesOn (frameStatus s h) ≡ true
-        whole-goes = ap goesOn by-fields ∙ asked-goes _ h _ _ a (asked-is ∙ e)
+      module _ (a : Instruction) (e : r ≡ Whole a) where
+        pub whole-goes : reachesDecision (frameStatus s h) ≡ true
+        whole-goes = ap reachesDecision by-fields ∙ asked-goes _ h _ _ a (asked-is ∙ e)
 
-        pub whole-ask : h .opcode < 256 → a ≡ askOf (requestOf s h)
+        pub whole-ask : h .opcode < 256 → a ≡ instructionOf (requestOf s h)
         whole-ask l = asked-whole s h whole inside l a (asked-is ∙ e)
 
-        pub whole-value : part va 0 (a .size) ≡ valueOf s h
+        pub whole-value : part va 0 (a .size) ≡ bareValue s h
         whole-value = ap (λ (v : List ℕ). part v 0 (a .size)) ev ∙ asked-value s h whole inside a (asked-is ∙ e)
 
   module _ (z : formStatus (shapeOf (h .opcode)) h ≡ 0 → ⊥) where
@@ -66,6 +66,6 @@ module _ (s : List ℕ) (h : Header) where
     unfolding frameStatus status
     other-status = sym (judged-other (shapeOf (h .opcode)) h (bytesIn s (extrasSpan h)) (bytesIn s (valueSpan h)) z)
 
-    pub other-stops : goesOn (frameStatus s h) ≡ false
+    pub other-stops : reachesDecision (frameStatus s h) ≡ false
     unfolding frameStatus
     other-stops = form-stops h (bytesIn s (extrasSpan h)) (bytesIn s (valueSpan h)) z

@@ -5,22 +5,22 @@ use mathlib.Core.Bool.{Bool, true, false, not}
 use mathlib.Core.List.{List}
 use Rattle.octets.specs.Parts.{Bytes}
 use Rattle.digits.specs.declared.Number.{Number}
-use Rattle.engine.specs.Documents.{Key}
-use Rattle.engine.specs.declared.Head.{Head}
-use Rattle.engine.specs.declared.Stored.{Stored}
-use Rattle.engine.specs.declared.Stored.the-variants.{Nothing as NoRow}
-use Rattle.commands.specs.declared.Ask.{Ask}
+use Rattle.document.specs.Documents.{Key}
+use Rattle.document.specs.declared.Head.{Head}
+use Rattle.document.specs.declared.Stored.{Stored}
+use Rattle.document.specs.declared.Stored.the-variants.{Nothing as NoRow}
+use Rattle.commands.specs.declared.Instruction.{Instruction}
 use Rattle.commands.specs.declared.Source.{Source}
-use Rattle.commands.specs.Rules.{testsOf, writesOf}
+use Rattle.commands.specs.Rules.{testsOf, isWrite}
 use Rattle.commands.specs.Done.{decision}
 use Rattle.commands.specs.Decide.{docFrom, bytesFrom}
 use Rattle.commands.proofs.Writing.{free-unread}
-use Rattle.table.specs.declared.Found.{Found}
-use Rattle.table.specs.declared.Found.the-variants.{At, Nothing}
-use Rattle.table.specs.Row.{docOf}
-use Rattle.table.specs.Table.{tableOf}
-use Rattle.table.specs.Lookup.{freeIn, orElse, missing}
-use Rattle.table.specs.Damage.{sound}
+use Rattle.plain.specs.declared.Found.{Found}
+use Rattle.plain.specs.declared.Found.the-variants.{At, Nothing}
+use Rattle.rows.specs.Row.{docOf}
+use Rattle.rows.specs.Table.{tableOf}
+use Rattle.plain.specs.Lookup.{freeIn, orElse, missing}
+use Rattle.plain.specs.Damage.{sound}
 use Rattle.serving.specs.Change.{storedAt, heldAt, valueIn}
 use Rattle.serving.proofs.Storing.{stored-none}
 use Rattle.serve.specs.Rows.{slotIn, heldBy, valueBy, usedIn, placeFor}
@@ -46,7 +46,7 @@ module _ (b : List ℕ) where
 
   module _ (free : Found) where
     -- a key with a row needs no free one, and a command that doesn't write doesn't look for one
-    pub placed : (clock : ℕ) (h : Head) (n : Number) (q : Ask) (f : Found) (w : Bool) → w ≡ writesOf (q .command)
+    pub placed : (clock : ℕ) (h : Head) (n : Number) (q : Instruction) (f : Found) (w : Bool) → w ≡ isWrite (q .command)
         → decision h (heldAt b f) (not (missing (placeFor w f free))) clock n q ≡ decision h (heldAt b f) (not (missing free)) clock n q
     unfolding decision testsOf
     placed clock h n q (At i) w e = refl

@@ -12,9 +12,9 @@ use Rattle.header.specs.declared.Header.{Header}
 use Rattle.header.specs.Header.{headerBytes}
 use Rattle.header.proofs.HeaderLaws.{length-header}
 use Rattle.commands.specs.declared.Reply.{Reply}
-use Rattle.commands.specs.declared.Reply.the-variants.{Bare, Found, Counted, Release}
+use Rattle.commands.specs.declared.Reply.the-variants.{Bare, Found, Counted, Version as VersionReply}
 use Rattle.commands.specs.declared.Decision.{Decision}
-use Rattle.commands.specs.Decide.{keyOf}
+use Rattle.commands.specs.Decide.{replyKey}
 use Rattle.serving.specs.Reply.{bodyOf, replyHeader, replyBytes}
 
 shown-most : (keyed : Bool) (key : List ℕ) → length (cond keyed key []) ≤ length key
@@ -24,11 +24,11 @@ shown-most false key = omega arith
 pub shown-fits : {r : Reply} {flags : ℕ} {keyed : Bool} {shown : List ℕ} (key : List ℕ) → r ≡ Found flags keyed → shown ≡ cond keyed key [] → length shown ≤ length key
 shown-fits {r} {flags} {keyed} key e s = rw s (shown-most keyed key)
 
-pub key-most : (r : Reply) (key : List ℕ) → length (keyOf r key) ≤ length key
+pub key-most : (r : Reply) (key : List ℕ) → length (replyKey r key) ≤ length key
 key-most Bare key = omega arith
 key-most (Found flags keyed) key = shown-most keyed key
 key-most (Counted n) key = omega arith
-key-most Release key = omega arith
+key-most VersionReply key = omega arith
 
 found-size : (flags : ℕ) (shown old : List ℕ) → length (bytesOf 4 flags ++ (shown ++ old)) ≡ 4 + length shown + length old
 unfolding bytesOf
@@ -39,7 +39,7 @@ unfolding bytesOf
 body-most Bare key old h k = omega arith
 body-most (Found flags keyed) key old h k = omega (arith, found-size flags (cond keyed key []) old, shown-most keyed key)
 body-most (Counted n) key old h k = omega arith
-body-most Release key old h k = omega arith
+body-most VersionReply key old h k = omega arith
 
 -- a body's length and what its writer leaves
 abbrev pub Bodied : Reply → List ℕ → List ℕ → ℕ → List ℕ → List ℕ → Type 0

@@ -7,12 +7,12 @@ use lib.ListN.{length, drop}
 use lib.Seq.{take-at}
 use Rattle.octets.specs.Parts.{part, pasted, written}
 use Rattle.octets.proofs.Lists.{written-fits}
-use Rattle.engine.specs.Documents.{Key}
-use Rattle.engine.specs.declared.Held.{Held}
-use Rattle.table.specs.Store.{stored}
+use Rattle.document.specs.Documents.{Key}
+use Rattle.document.specs.declared.Metadata.{Metadata}
+use Rattle.plain.specs.Store.{stored}
 
 -- a key's row with this value
-abbrev pub storing : List ℕ → ℕ → Key → Held → ℕ → List ℕ → List ℕ
+abbrev pub storing : List ℕ → ℕ → Key → Metadata → ℕ → List ℕ → List ℕ
 storing b i key d mark value = stored b i (record { key = key; doc = record { tomb = d .tomb; value = value; numbers = d .numbers } }) mark
 
 pub read-back : (s xs s′ v : List ℕ) (k : ℕ) → k ≡ length xs → s′ ≡ pasted s 0 xs → v ≡ part s′ 0 k → v ≡ xs

@@ -4,14 +4,14 @@ use mathlib.Core.Bool.{Bool, cond}
 use mathlib.Core.List.{List, []}
 use lib.Dec.{eqb}
 use Rattle.octets.specs.Parts.{part}
-use Rattle.engine.specs.declared.Stored.{Stored}
-use Rattle.engine.specs.declared.Stored.the-variants.{Nothing as NoRow, Used}
-use Rattle.table.specs.declared.Slot.{Slot}
-use Rattle.table.specs.declared.Found.{Found}
-use Rattle.table.specs.declared.Found.the-variants.{At, Nothing}
-use Rattle.table.specs.Row.{slotOf}
-use Rattle.table.specs.Store.{rowAt}
-use Rattle.table.specs.Lookup.{orElse}
+use Rattle.document.specs.declared.Stored.{Stored}
+use Rattle.document.specs.declared.Stored.the-variants.{Nothing as NoRow, Used}
+use Rattle.rows.specs.declared.Slot.{Slot}
+use Rattle.plain.specs.declared.Found.{Found}
+use Rattle.plain.specs.declared.Found.the-variants.{At, Nothing}
+use Rattle.rows.specs.Row.{slotOf}
+use Rattle.rows.specs.Table.{rowAt}
+use Rattle.plain.specs.Lookup.{orElse}
 
 -- the fixed part of the row at a place, a free one's where there is none
 abbrev pub slotIn : List ℕ → Found → Slot

@@ -5,30 +5,31 @@ ghost use mathlib.Core.List.{[]};
 ghost use Prim.Native.Nat.{_≤_};
 ghost use lib.ListN.{length};
 ghost use Rattle.commands.specs.Decide.{bytesFrom, docFrom};
-ghost use Rattle.table.specs.Row.{docOf};
-ghost use Rattle.table.specs.Store.{rowAt, stored};
-ghost use Rattle.table.specs.Damage.{sound};
+ghost use Rattle.rows.specs.Row.{docOf};
+ghost use Rattle.plain.specs.Store.{stored};
+ghost use Rattle.rows.specs.Table.{rowAt};
+ghost use Rattle.plain.specs.Damage.{sound};
 ghost use Rattle.serving.specs.Change.{storedAt, valueIn};
 ghost use Rattle.serve.specs.Rows.{slotIn, heldBy, valueBy, usedAt, usedIn};
 use commands::Done;
 use commands::Source;
-use engine::Held;
-use engine::Stored;
+use document::Metadata;
+use document::Stored;
 use numbers::Cas;
-use table::Found;
-use table::Slot;
+use plain::Found;
+use rows::Slot;
 
 // The fixed part of the row at a place, a free one's where there is none.
 pub(crate) fn slot_in(b: &[u8], f: Found) -> Slot
     ensures { λ r. ⌜ r ≡ slotIn (now (b .entry)) f ⌝ }
 {
     match f {
-        Found::At(i) => table::store::slot_at(b, i),
+        Found::At(i) => plain::store::slot_at(b, i),
         Found::Nothing => Slot {
             kind: 0,
             keylen: 0,
             vallen: 0,
-            numbers: engine::numbers_of(Stored::Nothing),
+            numbers: document::numbers_of(Stored::Nothing),
         },
     }
 }
@@ -39,7 +40,7 @@ pub(crate) fn held_by(f: Found, slot: Slot) -> Stored
 {
     let numbers = slot.numbers;
     match f {
-        Found::At(_) => Stored::Used(Held {
+        Found::At(_) => Stored::Used(Metadata {
             tomb: slot.kind == 2,
             numbers,
         }),
@@ -52,22 +53,22 @@ pub(crate) fn value_by(b: &[u8], f: Found, slot: Slot) -> &[u8]
     ensures { λ r. ⌜ now r ≡ valueBy (now (b .entry)) f slot ⌝ }
 {
     match f {
-        Found::At(i) => table::store::value_by(b, i, slot),
+        Found::At(i) => plain::store::value_by(b, i, slot),
         Found::Nothing => octets::part(b, 0, 0),
     }
 }
 
 // Stores a value in the row at a place, of which used bytes after the fixed part are in use.
-fn put(b: &mut [u8], i: usize, key: &[u8], d: Held, value: &[u8], mark: Cas, used: usize)
+fn put(b: &mut [u8], i: usize, key: &[u8], d: Metadata, value: &[u8], mark: Cas, used: usize)
     requires { ⌜ (sound (now b) ≡ true) × (used ≡ usedAt (now b) i) ⌝ }
     ensures { λ _. ⌜ now (b .exit) ≡ stored (now (b .entry)) i (record { key = now (key .entry); doc = record { tomb = d .tomb; value = now (value .entry); numbers = d .numbers } }) (mark .0) ⌝ }
 {
     let numbers = d.numbers;
-    table::store::store(b, i, key, d.tomb, numbers, value, mark, used);
+    plain::store::store(b, i, key, d.tomb, numbers, value, mark, used);
 }
 
 // Stores decimal digits for a key.
-fn store_digits(b: &mut [u8], i: usize, key: &[u8], d: Held, n: u64, mark: Cas, used: usize)
+fn store_digits(b: &mut [u8], i: usize, key: &[u8], d: Metadata, n: u64, mark: Cas, used: usize)
     requires { ⌜ (sound (now b) ≡ true) × (used ≡ usedAt (now b) i) ⌝ }
     ensures { λ _. ⌜ now (b .exit) ≡ stored (now (b .entry)) i (record { key = now (key .entry); doc = record { tomb = d .tomb; value = bytesFrom (Source.Digits n) [] []; numbers = d .numbers } }) (mark .0) ⌝ }
 {
@@ -76,24 +77,12 @@ fn store_digits(b: &mut [u8], i: usize, key: &[u8], d: Held, n: u64, mark: Cas, 
     put(b, i, key, d, octets::part(&text, 0, k), mark, used);
 }
 
-// Stores the value that the row at the place holds already.
-fn store_kept(b: &mut [u8], i: usize, key: &[u8], d: Held, mark: Cas, used: usize)
-    requires { ⌜ (sound (now b) ≡ true) × ((used ≡ usedAt (now b) i) × (length (docOf (rowAt (now b) i) .value) ≤ 1024)) ⌝ }
-    ensures { λ _. ⌜ now (b .exit) ≡ stored (now (b .entry)) i (record { key = now (key .entry); doc = record { tomb = d .tomb; value = docOf (rowAt (now (b .entry)) i) .value; numbers = d .numbers } }) (mark .0) ⌝ }
-{
-    let mut kept = [0u8; 1024];
-    let old = table::store::value(b, i);
-    let k = old.len();
-    octets::put_bytes(&mut kept, 0, old);
-    put(b, i, key, d, octets::part(&kept, 0, k), mark, used);
-}
-
 // Stores a value from its source in the row at a place.
 fn store_from(
     b: &mut [u8],
     i: usize,
     key: &[u8],
-    d: Held,
+    d: Metadata,
     source: Source,
     value: &[u8],
     mark: Cas,
@@ -106,7 +95,6 @@ fn store_from(
         Source::Empty => put(b, i, key, d, octets::part(value, 0, 0), mark, used),
         Source::Frame => put(b, i, key, d, value, mark, used),
         Source::Digits(n) => store_digits(b, i, key, d, n, mark, used),
-        Source::Kept => store_kept(b, i, key, d, mark, used),
     }
 }
 
@@ -114,7 +102,7 @@ fn store_used(
     b: &mut [u8],
     place: Found,
     key: &[u8],
-    d: Held,
+    d: Metadata,
     source: Source,
     value: &[u8],
     mark: Cas,

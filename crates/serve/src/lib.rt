@@ -13,26 +13,26 @@ ghost use Rattle.rules.specs.Rules.{formStatus};
 ghost use Rattle.request.specs.Reading.{frameStatus, bytesIn, keySpan};
 ghost use Rattle.digits.specs.Decimal.{numberOf};
 ghost use Rattle.commands.specs.Done.{decision};
-ghost use Rattle.commands.specs.Decide.{askOf};
-ghost use Rattle.asks.specs.Asks.{requestOf, valueOf};
-ghost use Rattle.table.specs.Lookup.{findIn, freeIn, missing};
-ghost use Rattle.table.specs.Damage.{sound};
-ghost use Rattle.table.specs.Table.{headOf, tableOf};
-ghost use Rattle.serving.specs.Serve.{goesOn, answerBy, frameTable, frameReply, served, servedTable, servedReply};
+ghost use Rattle.commands.specs.Decide.{instructionOf};
+ghost use Rattle.decode.specs.Decode.{requestOf, bareValue};
+ghost use Rattle.plain.specs.Lookup.{findIn, freeIn, missing};
+ghost use Rattle.plain.specs.Damage.{sound};
+ghost use Rattle.rows.specs.Table.{headOf, tableOf};
+ghost use Rattle.serving.specs.Serve.{reachesDecision, answerBy, frameTable, frameReply, served, servedTable, servedReply};
 ghost use Rattle.serve.specs.Rows.{heldBy, placeFor};
 ghost use Rattle.serve.specs.Bare.{bareHeader};
-use asks::Asked;
-use commands::Ask;
 use commands::Decision;
-use engine::Head;
+use commands::Instruction;
+use decode::Decoded;
+use document::Head;
 use header::Header;
 use numbers::Cas;
+use plain::Checked;
+use plain::Found;
 use request::Gate;
+use rows::Slot;
 use serving::Served;
 use shape::Shape;
-use table::Checked;
-use table::Found;
-use table::Slot;
 
 // Whether there is such a place.
 fn is_place(f: Found) -> bool
@@ -52,7 +52,7 @@ fn find_key(b: &[u8], key: &[u8]) -> Found
     if key.len() == 0 {
         return Found::Nothing;
     }
-    table::lookup::find(b, key)
+    plain::lookup::find(b, key)
 }
 
 // The place of a write: the key's row, else the lowest free one, which is looked for only then.
@@ -63,7 +63,7 @@ fn place_for(b: &[u8], f: Found, writes: bool) -> Found
         Found::At(i) => Found::At(i),
         Found::Nothing => {
             if writes {
-                return table::lookup::free(b);
+                return plain::lookup::free(b);
             }
             Found::Nothing
         }
@@ -78,7 +78,7 @@ fn decided(
     slot: Slot,
     place: Found,
     old: &[u8],
-    ask: Ask,
+    ask: Instruction,
 ) -> Decision
     ensures { λ r. ⌜ r ≡ decision head (heldBy f slot) (not (missing place)) clock (numberOf (now (old .entry))) ask ⌝ }
 {
@@ -100,13 +100,13 @@ fn serve_formed(
     clock: u32,
     s: &[u8],
     h: Header,
-    ask: Ask,
+    ask: Instruction,
     key: &[u8],
     value: &[u8],
     out: &mut [u8],
 ) -> Served
     requires { ⌜ (sound (now b) ≡ true) × ((head ≡ headOf (now b)) × (1302 ≤ length (now out))) ⌝ }
-    requires { ⌜ (goesOn (frameStatus (now s) h) ≡ true) × ((ask ≡ askOf (requestOf (now s) h)) × ((now key ≡ bytesIn (now s) (keySpan h)) × (part (now value) 0 (ask .size) ≡ valueOf (now s) h))) ⌝ }
+    requires { ⌜ (reachesDecision (frameStatus (now s) h) ≡ true) × ((ask ≡ instructionOf (requestOf (now s) h)) × ((now key ≡ bytesIn (now s) (keySpan h)) × (part (now value) 0 (ask .size) ≡ bareValue (now s) h))) ⌝ }
     ensures { λ r. ⌜ (r ≡ answerBy (now (b .entry)) clock (now (s .entry)) (Gate.Whole h))
         × ((now (b .exit) ≡ frameTable (now (b .entry)) clock (now (s .entry)) h)
         × (now (out .exit) ≡ written (now (out .entry)) 0 (frameReply (now (b .entry)) clock (now (s .entry)) h))) ⌝ }
@@ -170,9 +170,9 @@ fn serve_parts(
     let extras = &s[24..a];
     let key = &s[a..k];
     let value = &s[k..end];
-    match asks::asked_by(shape, h, extras, value) {
-        Asked::Broken => refused(out, h, 0x04),
-        Asked::Whole(ask) => serve_formed(b, head, clock, s, h, ask, key, value, out),
+    match decode::decoded_by(shape, h, extras, value) {
+        Decoded::Broken => refused(out, h, 0x04),
+        Decoded::Whole(ask) => serve_formed(b, head, clock, s, h, ask, key, value, out),
     }
 }
 
@@ -212,7 +212,7 @@ pub fn serve_one(b: &mut [u8], clock: u32, s: &[u8], out: &mut [u8]) -> Served
         × ((now (b .exit) ≡ servedTable (now (b .entry)) clock (now (s .entry)) (length (now (out .entry))))
         × (now (out .exit) ≡ servedReply (now (b .entry)) clock (now (s .entry)) (now (out .entry)))) ⌝ }
 {
-    match table::damage::checked(b) {
+    match plain::damage::checked(b) {
         Checked::Damaged => Served::Refused(5, 0),
         Checked::Sound(head) => serve_sound(b, head, clock, s, out),
     }

@@ -6,7 +6,7 @@ ghost use Prim.Native.Nat.{_+_, _≤_};
 ghost use lib.ListN.{length};
 ghost use Rattle.octets.specs.Parts.{written};
 ghost use Rattle.octets.specs.BigEndian.{bytesOf};
-ghost use Rattle.commands.specs.Decide.{extrasOf, keyOf};
+ghost use Rattle.commands.specs.Decide.{replyExtras, replyKey};
 ghost use Rattle.serving.specs.Reply.{bodyOf, replyHeader, replyBytes};
 use commands::Decision;
 use commands::Reply;
@@ -47,7 +47,7 @@ fn put_body(out: &mut [u8], r: Reply, key: &[u8], old: &[u8]) -> usize
             octets::put_be(out, 24, 8, n);
             8
         }
-        Reply::Release => {
+        Reply::Version => {
             octets::put_bytes(out, 24, b"4.0.0");
             5
         }
@@ -55,24 +55,24 @@ fn put_body(out: &mut [u8], r: Reply, key: &[u8], old: &[u8]) -> usize
 }
 
 fn extras_size(r: Reply) -> u8
-    ensures { λ n. ⌜ n ≡ length (extrasOf r) ⌝ }
+    ensures { λ n. ⌜ n ≡ length (replyExtras r) ⌝ }
 {
     match r {
         Reply::Bare => 0,
         Reply::Found(_, _) => 4,
         Reply::Counted(_) => 0,
-        Reply::Release => 0,
+        Reply::Version => 0,
     }
 }
 
 fn key_size(r: Reply, key: &[u8]) -> usize
-    ensures { λ n. ⌜ n ≡ length (keyOf r (now (key .entry))) ⌝ }
+    ensures { λ n. ⌜ n ≡ length (replyKey r (now (key .entry))) ⌝ }
 {
     match r {
         Reply::Bare => 0,
         Reply::Found(_, keyed) => shown_key(keyed, key).len(),
         Reply::Counted(_) => 0,
-        Reply::Release => 0,
+        Reply::Version => 0,
     }
 }
 

@@ -2,14 +2,15 @@
 use Prim.Native.Nat.{ℕ}
 use mathlib.Core.List.{List, []}
 use mathlib.Core.Option.{Option, none, some}
-use Rattle.engine.specs.Documents.{Key, Doc}
-use Rattle.engine.specs.Stored.{heldOf}
-use Rattle.engine.specs.declared.Stored.{Stored}
-use Rattle.engine.specs.declared.Stored.the-variants.{Nothing as NoRow, Used}
-use Rattle.table.specs.declared.Found.{Found}
-use Rattle.table.specs.declared.Found.the-variants.{At, Nothing}
-use Rattle.table.specs.Row.{docOf}
-use Rattle.table.specs.Store.{rowAt, stored}
+use Rattle.document.specs.Documents.{Key, Doc}
+use Rattle.document.specs.Stored.{metadataOf}
+use Rattle.document.specs.declared.Stored.{Stored}
+use Rattle.document.specs.declared.Stored.the-variants.{Nothing as NoRow, Used}
+use Rattle.plain.specs.declared.Found.{Found}
+use Rattle.plain.specs.declared.Found.the-variants.{At, Nothing}
+use Rattle.rows.specs.Row.{docOf}
+use Rattle.plain.specs.Store.{stored}
+use Rattle.rows.specs.Table.{rowAt}
 
 -- a document for a key in the row at a place, with a mark; unchanged where there is nothing to store or no place
 abbrev pub storedAt : List ℕ → Found → Key → Option Doc → ℕ → List ℕ
@@ -20,7 +21,7 @@ storedAt b Nothing key (some d) mark = b
 
 -- the row at a place as a decision sees it, and its value
 abbrev pub heldAt : List ℕ → Found → Stored
-heldAt b (At i) = Used (heldOf (docOf (rowAt b i)))
+heldAt b (At i) = Used (metadataOf (docOf (rowAt b i)))
 heldAt b Nothing = NoRow
 
 abbrev pub valueIn : List ℕ → Found → List ℕ

@@ -7,19 +7,19 @@ use Rattle.header.specs.declared.Header.{Header}
 use Rattle.header.specs.Header.{headerBytes}
 use Rattle.commands.specs.declared.Reply.{Reply}
 use Rattle.commands.specs.declared.Decision.{Decision}
-use Rattle.commands.specs.Decide.{extrasOf, keyOf, replyOf}
+use Rattle.commands.specs.Decide.{replyExtras, replyKey, replyValue}
 
 -- extras, key and value in a row, for a request's key and the stored value
 abbrev pub bodyOf : Reply → List ℕ → List ℕ → List ℕ
-bodyOf r key old = extrasOf r ++ (keyOf r key ++ replyOf r old)
+bodyOf r key old = replyExtras r ++ (replyKey r key ++ replyValue r old)
 
 -- opcode and opaque echoed
 unfoldable pub replyHeader : ℕ → ℕ → Decision → List ℕ → List ℕ → Header
 replyHeader op opaque x key old = record {
   magic = 0x81;
   opcode = op;
-  keylen = length (keyOf (x .done .reply) key);
-  extlen = length (extrasOf (x .done .reply));
+  keylen = length (replyKey (x .done .reply) key);
+  extlen = length (replyExtras (x .done .reply));
   datatype = 0;
   vbucket = x .status;
   body = length (bodyOf (x .done .reply) key old);

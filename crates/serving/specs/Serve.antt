@@ -9,35 +9,36 @@ use Rattle.header.specs.declared.Header.{Header}
 use Rattle.request.specs.declared.Gate.{Gate}
 use Rattle.request.specs.declared.Gate.the-variants.{Stop, Whole}
 use Rattle.request.specs.Reading.{gateOf, frameStatus, bytesIn, keySpan}
-use Rattle.engine.specs.declared.Head.{Head}
-use Rattle.engine.specs.Stored.{storedOf}
+use Rattle.document.specs.declared.Head.{Head}
+use Rattle.document.specs.Stored.{storedOf}
 use Rattle.digits.specs.Decimal.{numberOf}
 use Rattle.commands.specs.declared.Decision.{Decision}
 use Rattle.commands.specs.declared.Reply.the-variants.{Bare}
 use Rattle.commands.specs.Done.{decision, nothing}
-use Rattle.commands.specs.Decide.{Answer, askOf, answerOf, valueOf}
-use Rattle.asks.specs.Asks.{requestOf}
-use Rattle.table.specs.Table.{Table, tableOf}
-use Rattle.table.specs.Lookup.{placeIn}
-use Rattle.table.specs.Damage.{sound}
-use Rattle.table.specs.Plain.{findRow, freeRows}
+use Rattle.commands.specs.Decide.{Answer, instructionOf, answerOf}
+use Rattle.document.specs.Documents.{docValue}
+use Rattle.decode.specs.Decode.{requestOf}
+use Rattle.rows.specs.Table.{Table, tableOf}
+use Rattle.plain.specs.Lookup.{placeIn}
+use Rattle.plain.specs.Damage.{sound}
+use Rattle.rows.specs.Find.{findRow, freeRows}
 use Rattle.serving.specs.declared.Served.{Served}
 use Rattle.serving.specs.declared.Served.the-variants.{Refused, Done}
 use Rattle.serving.specs.Reply.{replyBytes}
 use Rattle.serving.specs.Change.{storedAt}
 
 -- 01's number for each answer: its outcome, 0 where a frame was served
-abbrev pub outcomeOf : Served → ℕ
-outcomeOf (Refused n need) = n
-outcomeOf (Done status used len) = 0
+abbrev pub servedOutcome : Served → ℕ
+servedOutcome (Refused n need) = n
+servedOutcome (Done status used len) = 0
 
 -- 5 table damaged, 4 reply room under 1,302 bytes, then the frame's own
 unfoldable pub gateAll : List ℕ → ℕ → List ℕ → Gate
 gateAll b room s = cond (not (sound b)) (Stop 5 0) (cond (ltb room 1302) (Stop 4 0) (gateOf s))
 
 -- the reader's status ends it, save a 0x03: a 0x04 that needs mode or clock comes before
-abbrev pub goesOn : ℕ → Bool
-goesOn status = eqb status 0 || eqb status 0x03
+abbrev pub reachesDecision : ℕ → Bool
+reachesDecision status = eqb status 0 || eqb status 0x03
 
 abbrev pub refusal : Head → ℕ → Decision
 refusal h status = record { status = status; silent = false; done = nothing h Bare (record { 0 = 0 }) }
@@ -45,15 +46,15 @@ refusal h status = record { status = status; silent = false; done = nothing h Ba
 -- the decision on a whole frame
 unfoldable pub decisionOn : Table → ℕ → List ℕ → Header → Decision
 decisionOn t clock s h =
-    cond (goesOn (frameStatus s h))
+    cond (reachesDecision (frameStatus s h))
     (decision (t .head) (storedOf (findRow (t .rows) (bytesIn s (keySpan h)))) (ltb 0 (freeRows (t .rows))) clock
-    (numberOf (valueOf (findRow (t .rows) (bytesIn s (keySpan h))))) (askOf (requestOf s h)))
+    (numberOf (docValue (findRow (t .rows) (bytesIn s (keySpan h))))) (instructionOf (requestOf s h)))
     (refusal (t .head) (frameStatus s h))
 
 -- its answer, with the bytes put in
 unfoldable pub answerOn : Table → ℕ → List ℕ → Header → Answer
 unfolding decisionOn
-answerOn t clock s h = answerOf (requestOf s h) (valueOf (findRow (t .rows) (bytesIn s (keySpan h)))) (decisionOn t clock s h)
+answerOn t clock s h = answerOf (requestOf s h) (docValue (findRow (t .rows) (bytesIn s (keySpan h)))) (decisionOn t clock s h)
 
 -- the table's memory after it
 unfoldable pub frameTable : List ℕ → ℕ → List ℕ → Header → List ℕ
@@ -65,7 +66,7 @@ frameTable b clock s h =
 unfoldable pub frameReply : List ℕ → ℕ → List ℕ → Header → List ℕ
 unfolding decisionOn
 frameReply b clock s h =
-    replyBytes (h .opcode) (h .opaque) (decisionOn (tableOf b) clock s h) (bytesIn s (keySpan h)) (valueOf (findRow (tableOf b .rows) (bytesIn s (keySpan h))))
+    replyBytes (h .opcode) (h .opaque) (decisionOn (tableOf b) clock s h) (bytesIn s (keySpan h)) (docValue (findRow (tableOf b .rows) (bytesIn s (keySpan h))))
 
 -- ---- serving: by the gate
 abbrev pub answerBy : List ℕ → ℕ → List ℕ → Gate → Served

@@ -7,7 +7,7 @@ use numbers::Numbers;
 use numbers::Revision;
 use owner::Document;
 use owner::Purged;
-use table::Found;
+use plain::Found;
 
 // What the memory holds before a table is made in it.
 const FILL: u8 = 0xee;
@@ -77,7 +77,7 @@ pub(crate) fn dump(g: Given, s: &[u8]) {
 }
 
 pub(crate) fn sound(s: &[u8]) {
-    if table::damage::is_sound(s) {
+    if plain::damage::is_sound(s) {
         show::text(b"sound");
         return;
     }
@@ -88,7 +88,7 @@ pub(crate) fn purge(g: Given, s: &mut [u8]) {
     let n = g.numbers;
     let p = owner::purge(s, as_u32(n[0]), Cas(n[1]));
     match p {
-        Purged::Spoiled => show::text(b"outcome 5"),
+        Purged::Damaged => show::text(b"outcome 5"),
         Purged::Freed(k) => show::decimal(b"freed ", k),
     }
 }
@@ -117,7 +117,7 @@ fn store_at(g: Given, key: &[u8], value: &[u8], s: &mut [u8], i: usize) {
         revision: Revision(n[3]),
         cas: Cas(n[4]),
     };
-    table::store::store(s, i, key, n[0] == 1, given, value, Cas(n[5]), 1280);
+    plain::store::store(s, i, key, n[0] == 1, given, value, Cas(n[5]), 1280);
     show::decimal(b"place ", i);
 }
 
@@ -129,7 +129,7 @@ fn store_found(g: Given, key: &[u8], value: &[u8], s: &mut [u8], f: Found) {
 }
 
 fn store_entry(g: Given, key: &[u8], value: &[u8], s: &mut [u8]) {
-    let f = table::lookup::place(s, key);
+    let f = plain::lookup::place(s, key);
     store_found(g, key, value, s, f);
 }
 

@@ -1,7 +1,7 @@
 use Rattle.owner.proofs.Purging.{purge-refused, purge-done}
-use Rattle.table.proofs.TableLaws.{sound-parts}
-use Rattle.table.specs.Purge.{purgeBytes, purgeCount}
-use Rattle.table.specs.Table.{rowCount}
+use Rattle.plain.proofs.TableLaws.{sound-parts}
+use Rattle.plain.specs.Purge.{purgeBytes, purgeCount}
+use Rattle.rows.specs.Table.{rowCount}
 use Rattle.octets.specs.Parts.{Bytes}
 use borrow.Author.Tests.{not-true, not-false}
 use lib.ListN.{take, drop}

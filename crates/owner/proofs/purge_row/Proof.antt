@@ -1,7 +1,7 @@
 use Rattle.owner.proofs.Purging.{freed, left}
 use mathlib.Core.List.{List}
-use Rattle.table.specs.Purge.{gone}
-use Rattle.table.specs.Row.{rowOf}
+use Rattle.plain.specs.Purge.{gone}
+use Rattle.rows.specs.Row.{rowOf}
 use Rattle.octets.specs.Parts.{part}
 use Rattle.owner.specs.Owner.{goneDoc}
 use Prim.Native.Nat.{ℕ, _-_}

@@ -1,5 +1,5 @@
 use Rattle.owner.proofs.Purging.{purge-step, count-step}
-use Rattle.table.specs.Purge.{purgeBytes, purgeCount, one}
+use Rattle.plain.specs.Purge.{purgeBytes, purgeCount, one}
 use mathlib.Core.Logic.{⊎-elim}
 use Rattle.owner.specs.Owner.{goneDoc}
 use mathlib.Core.List.{_++_}

@@ -1,5 +1,5 @@
 use Rattle.numbers.specs.Expiry.{expired}
-use Rattle.table.specs.declared.Slot.{Slot}
+use Rattle.rows.specs.declared.Slot.{Slot}
 use Rattle.owner.proofs.Purging.{gone-row}
 use lib.Dec.{leb, eqb}
 use mathlib.Core.Bool.{_&&_, _||_, not}

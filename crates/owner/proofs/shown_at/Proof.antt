@@ -1,8 +1,8 @@
 use Rattle.owner.proofs.Reading.{row-over, row-live}
 use Rattle.owner.specs.declared.Document.the-variants.{Live}
-use Rattle.engine.specs.declared.Held.{Held}
-use Rattle.engine.specs.declared.Stored.the-variants.{Used}
-use Rattle.engine.specs.Stored.{live}
+use Rattle.document.specs.declared.Metadata.{Metadata}
+use Rattle.document.specs.declared.Stored.the-variants.{Used}
+use Rattle.document.specs.Stored.{live}
 use borrow.Author.Tests.{not-true, not-false}
 use mathlib.Core.Path.{sym, ap, _∙_}
 use borrow.Author.Needs.{needs}
@@ -21,7 +21,7 @@ live-requires c κs = search needs
 returns : tie.Need-returns
 returns c =
     let a = (c .before .before .before .before .args) in
-    sym (row-over (a .s .now) (a .clock) (a .i) (sym ((c .before .live) .ensures ∙ ap (λ (d : Held). live (Used d) (a .clock)) ((c .before .before .held-at) .ensures)) ∙ not-true _ ((c .if1) .taken)))
+    sym (row-over (a .s .now) (a .clock) (a .i) (sym ((c .before .live) .ensures ∙ ap (λ (d : Metadata). live (Used d) (a .clock)) ((c .before .before .held-at) .ensures)) ∙ not-true _ ((c .if1) .taken)))
 
 -- src/lib.rt:77:9
 slot-at-requires : tie.Need-slot-at-requires
@@ -40,7 +40,7 @@ returns-2 : tie.Need-returns-2
 returns-2 c =
     let a = (c .before .before .before .before .before .before .before .before .args) in
     (λ j. Live ((c .before .before .before .slot-at) .ensures j .numbers) ((c .before .value-at) .ensures j) ((c .before .before .before .slot-at) .ensures j .vallen))
-    ∙ sym (row-live (a .s .now) (a .clock) (a .i) (sym ((c .before .before .before .before .before .live) .ensures ∙ ap (λ (d : Held). live (Used d) (a .clock)) ((c .before .before .before .before .before .before .held-at) .ensures)) ∙ not-false _ ((c .before .before .before .before .if1) .left)))
+    ∙ sym (row-live (a .s .now) (a .clock) (a .i) (sym ((c .before .before .before .before .before .live) .ensures ∙ ap (λ (d : Metadata). live (Used d) (a .clock)) ((c .before .before .before .before .before .before .held-at) .ensures)) ∙ not-false _ ((c .before .before .before .before .if1) .left)))
 
 pub shown-at-spec : {M : Type 1} → statement M
 shown-at-spec =

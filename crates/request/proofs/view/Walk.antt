@@ -231,23 +231,23 @@ module _ (part : List ℕ → Reading → List ℕ) {M : Type 1} (𝓤 : URA M) 
       abbrev show-post : Val → SProp 𝓤
       show-post = walkOf 𝓤 H A showing show-stay Shows .post show-at
 
-      abbrev Held : Fml
-      Held = B (κ, tt) .own d (vv κ d ∷ [])
+      abbrev Metadata : Fml
+      Metadata = B (κ, tt) .own d (vv κ d ∷ [])
 
       -- what the view owns gives what the callee asks, and is kept
-      apart : Is R.the-row (d .reading) (rv (d .reading) ∷ []) → ent 𝓤 show-pre (sep 𝓤 (Found .pre find-at) (sem 𝓤 H A Held))
+      apart : Is R.the-row (d .reading) (rv (d .reading) ∷ []) → ent 𝓤 show-pre (sep 𝓤 (Found .pre find-at) (sem 𝓤 H A Metadata))
       apart is-read =
           qed W (token 𝓤 κ q ∷ ‵ (owns (B (κ, tt) ∷ []) (d, tt) (vv κ d ∷ [], tt)) ∷ []) ∵
-          move ! (1 ∷ []) $ fsplit ! $ move ! (1 ∷ []) $ drop ! $ use1 W (‵ Held ⊛ ‵ Held) (LL.copy (D κ) (T′.the-copy (namedLft 1 0 tt (κ, tt))) 𝓤 H A W .twice d (vv κ d ∷ [])) $ split ! $
+          move ! (1 ∷ []) $ fsplit ! $ move ! (1 ∷ []) $ drop ! $ use1 W (‵ Metadata ⊛ ‵ Metadata) (LL.copy (D κ) (T′.the-copy (namedLft 1 0 tt (κ, tt))) 𝓤 H A W .twice d (vv κ d ∷ [])) $ split ! $
           use1 W (given (vv κ d ∷ [] ≡ vv κ d ∷ []) (‵ (all-own (D κ .parts) (L κ) vd))) (own-open 𝓤 H A W (D κ) (L κ) vd (vv κ d)) $ learn ! (λ _.
           use1 W (‵ (ownAt (D κ .parts) (L κ) 0 (d .received)) ⊛ ‵ (rest (D κ .parts) (L κ) 0 vd)) (own-out 𝓤 H A W (D κ .parts) (L κ) 0 vd) $ split ! $
           -- [what the bytes own; what the reading owns; what the view owns; the token]
           move ! (1 ∷ []) $ drop ! $ nothing ! $ owned ! R.the-row (Is R.the-row) ((EL.makes R.the-type R′.the-plain) 𝓤 H A) (d .reading) _ is-read $ fjoin ! $ move ! (1 ∷ 0 ∷ []) $ fjoin ! $
           move ! (2 ∷ 0 ∷ []) $ use2 W (raw (Found .pre find-at)) (asks 𝓤 _) $ frame ! $ done !)
 
-      show-exits : (r : RefT (List ℕ)) (u : Val) → now r ≡ shown → ent 𝓤 (⋆ 𝓤 H A (‵ (Bytes κ .own r (u ∷ [])) ∷ token 𝓤 κ q ∷ ‵ Held ∷ [])) (show-post u)
+      show-exits : (r : RefT (List ℕ)) (u : Val) → now r ≡ shown → ent 𝓤 (⋆ 𝓤 H A (‵ (Bytes κ .own r (u ∷ [])) ∷ token 𝓤 κ q ∷ ‵ Metadata ∷ [])) (show-post u)
       show-exits r u e =
-          qed W (‵ (Bytes κ .own r (u ∷ [])) ∷ token 𝓤 κ q ∷ ‵ Held ∷ []) ∵
+          qed W (‵ (Bytes κ .own r (u ∷ [])) ∷ token 𝓤 κ q ∷ ‵ Metadata ∷ []) ∵
           suffices ! _ (ends-at 𝓤 H A showing show-stay Shows W show-at u r (tt, tt) (tt, tt)) $ says ! e $
           move ! (1 ∷ []) $ frame ! $ nothing ! $ move ! (2 ∷ 0 ∷ []) $ fjoin ! $ frame ! $ done !
 
@@ -260,7 +260,7 @@ module _ (part : List ℕ → Reading → List ℕ) {M : Type 1} (𝓤 : URA M) 
           (init ! 2 refl (shr-slice-lawful 𝓤 H A W (named 0) κ u8 .typed (d .received) (bv (d .received) ∷ []) (fields .0) .0)) $
           assigns ! (of-opd ! (load ! (from ! (fld ! {τ = R′.mir} {d = 16} refl (stop !))) (look-in ! 4 {τ = R′.mir} (sub ! {τs = fieldTys} 1 {τ = R′.mir} {d = 16} refl (whole !))))) (from ! (stop !))
           (init ! 0 refl (EL.lawful R.the-type R′.the-laws 𝓤 H A W tt .typed (d .reading) _ (fields .1 .0) .0)) $
-          move ! (8 ∷ []) $ use1 W (raw (Found .pre find-at) ⊛ ‵ Held) (apart (fields .1 .0)) $ split ! $
+          move ! (8 ∷ []) $ use1 W (raw (Found .pre find-at) ⊛ ‵ Metadata) (apart (fields .1 .0)) $ split ! $
           calls-at ! fm Found known find-at (and-then ! (load ! (from ! (stop !)) (look ! 4 refl)) (and-then ! (load ! (from ! (stop !)) (look ! 2 refl)) (no-more !))) (λ u.
           use1 W (later (some (λ (r : RefT (List ℕ)). (token 𝓤 κ q ⊛ ‵ (Bytes κ .own r (u ∷ []))) ⊛ raw (ensured 𝓤 H A finding Finds (κ, tt) vd tt r)))) (id⊢ 𝓤 _) $ await ! tt $ pick ! (λ r.
           split ! $ move ! (1 ∷ []) $ use1 W (raw (fact 𝓤 (now r ≡ shown))) (learns 𝓤 H A finding (κ, tt) vd _) $ heard ! (now r ≡ shown) (λ e. split ! $ move ! (1 ∷ []) $

@@ -1,4 +1,4 @@
-use Rattle.rules.specs.WithMeta.{numbersOf}
+use Rattle.rules.specs.WithMeta.{carriedNumbers}
 use borrow.Author.Needs.{needs}
 use Rattle.rules.proofs.numbers_of.Statement.{statement}
 use Rattle.rules.proofs.numbers_of.Tie as tie
@@ -21,7 +21,7 @@ be64-requires-2 c κs = search needs
 
 -- src/lib.rt:24:1
 returns : tie.Need-returns
-unfolding numbersOf
+unfolding carriedNumbers
 returns c = simp ((c .before .before .before .be32) .ensures, (c .before .before .be322) .ensures, (c .before .be64) .ensures, (c .be642) .ensures)
 
 pub numbers-of-spec : {M : Type 1} → statement M

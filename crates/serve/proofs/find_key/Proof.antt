@@ -1,6 +1,6 @@
 use mathlib.Core.Path.{sym}
 use denote.Ref.{now}
-use Rattle.table.proofs.TableLaws.{empty-key}
+use Rattle.plain.proofs.TableLaws.{empty-key}
 use borrow.Author.Needs.{needs}
 use Rattle.serve.proofs.find_key.Statement.{statement}
 use Rattle.serve.proofs.find_key.Tie as tie

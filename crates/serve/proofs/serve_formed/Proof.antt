@@ -2,7 +2,7 @@ use Rattle.serve.proofs.Joint.{formed-by}
 use Rattle.serve.proofs.Placing.{value-by, used-place}
 use Rattle.serve.proofs.Lookups.{value-short, key-short}
 use Rattle.serve.specs.Rows.{valueBy, usedIn}
-use Rattle.table.specs.declared.Slot.{Slot}
+use Rattle.rows.specs.declared.Slot.{Slot}
 use lib.ListN.{length}
 use native.Mathlib.Omega.{arith}
 use mathlib.Core.Path.{_≡_, refl, sym, ap, _∙_}

@@ -1,5 +1,5 @@
 use Rattle.serve.proofs.Gates.{gate-damaged, gated}
-use Rattle.table.proofs.Heads.{checked-sound, checked-damaged}
+use Rattle.plain.proofs.Checks.{checked-sound, checked-damaged}
 use lib.ListN.{length}
 use mathlib.Core.Path.{refl, sym, _∙_}
 use denote.Ref.{now}
@@ -9,7 +9,7 @@ use Rattle.serve.proofs.serve_one.Tie as tie
 use Rattle.serve.proofs.serve_one.Reads as reads
 use Rattle.serve.proofs.serve_one.Lts as lts
 use Rattle.serve.proofs.serve_sound.Reads as serve-sound-reads
-use Rattle.table.proofs.damage.checked.Reads as checked-reads
+use Rattle.plain.proofs.damage.checked.Reads as checked-reads
 
 -- src/lib.rt:215:11
 checked-requires : tie.Need-checked-requires

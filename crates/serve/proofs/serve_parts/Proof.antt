@@ -1,6 +1,6 @@
 use Rattle.serve.proofs.Joint.{refused-by}
 use Rattle.serve.proofs.Parts.{extras-cut, key-cut, value-cut, broken-status, whole-goes, whole-ask, whole-value}
-use Rattle.serving.specs.Serve.{goesOn}
+use Rattle.serving.specs.Serve.{reachesDecision}
 use Rattle.rules.proofs.RuleLaws.{form-lengths}
 use Rattle.rules.specs.Rules.{formStatus}
 use Rattle.shape.specs.declared.Shape.{Shape}
@@ -12,7 +12,7 @@ use Rattle.serve.proofs.serve_parts.Statement.{statement}
 use Rattle.serve.proofs.serve_parts.Tie as tie
 use Rattle.serve.proofs.serve_parts.Reads as reads
 use Rattle.serve.proofs.serve_parts.Lts as lts
-use Rattle.asks.proofs.asked_by.Reads as asked-by-reads
+use Rattle.decode.proofs.decoded_by.Reads as decoded-by-reads
 use Rattle.serve.proofs.refused.Reads as refused-reads
 use Rattle.serve.proofs.serve_formed.Reads as serve-formed-reads
 
@@ -77,8 +77,8 @@ part-value-end : tie.Need-part-value-end
 part-value-end c = omega (arith, (c .before .before .before .before .before .before .before .before .pre) .1 .1 .1)
 
 -- src/lib.rt:173:11
-asked-by-requires : tie.Need-asked-by-requires
-asked-by-requires c κs = search needs
+decoded-by-requires : tie.Need-decoded-by-requires
+decoded-by-requires c κs = search needs
 
 -- src/lib.rt:174:34
 enum-told : tie.Need-enum-told
@@ -94,7 +94,7 @@ enum-known-ask c = search needs
 
 -- src/lib.rt:175:30
 serve-formed-requires : tie.Need-serve-formed-requires
-serve-formed-requires c κs = let s = now ((c .before .before .before .before .before .before .before .before .before .before .before .before .before .before .before .args) .s) in let h = (c .before .before .before .before .before .before .before .before .before .before .before .before .before .before .before .args) .h in let f = sym (ap (λ (x : Shape). formStatus x h) ((c .before .before .before .before .before .before .before .before .before .before .before .before .before .before .before .pre) .1 .0)) ∙ (c .before .before .before .before .before .before .before .before .before .before .before .before .before .before .before .pre) .1 .1 .0 in let w = (c .before .before .before .before .before .before .before .before .before .before .before .before .before .before .before .pre) .1 .1 .1 in ((c .before .before .before .before .before .before .before .before .before .before .before .before .before .before .before .pre) .0, (whole-goes s h w f _ _ _ _ ((c .before .before .before .before .before .before .before .before .before .before .before .before .before .before .before .pre) .1 .0) (extras-cut s h) (value-cut s h) ((c .before .before .before .before .before .asked-by) .ensures) _ ((c .before .before .before .ask) .given .1), (whole-ask s h w f _ _ _ _ ((c .before .before .before .before .before .before .before .before .before .before .before .before .before .before .before .pre) .1 .0) (extras-cut s h) (value-cut s h) ((c .before .before .before .before .before .asked-by) .ensures) _ ((c .before .before .before .ask) .given .1) (omega arith), (key-cut s h, whole-value s h w f _ _ _ _ ((c .before .before .before .before .before .before .before .before .before .before .before .before .before .before .before .pre) .1 .0) (extras-cut s h) (value-cut s h) ((c .before .before .before .before .before .asked-by) .ensures) _ ((c .before .before .before .ask) .given .1)))))
+serve-formed-requires c κs = let s = now ((c .before .before .before .before .before .before .before .before .before .before .before .before .before .before .before .args) .s) in let h = (c .before .before .before .before .before .before .before .before .before .before .before .before .before .before .before .args) .h in let f = sym (ap (λ (x : Shape). formStatus x h) ((c .before .before .before .before .before .before .before .before .before .before .before .before .before .before .before .pre) .1 .0)) ∙ (c .before .before .before .before .before .before .before .before .before .before .before .before .before .before .before .pre) .1 .1 .0 in let w = (c .before .before .before .before .before .before .before .before .before .before .before .before .before .before .before .pre) .1 .1 .1 in ((c .before .before .before .before .before .before .before .before .before .before .before .before .before .before .before .pre) .0, (whole-goes s h w f _ _ _ _ ((c .before .before .before .before .before .before .before .before .before .before .before .before .before .before .before .pre) .1 .0) (extras-cut s h) (value-cut s h) ((c .before .before .before .before .before .decoded-by) .ensures) _ ((c .before .before .before .ask) .given .1), (whole-ask s h w f _ _ _ _ ((c .before .before .before .before .before .before .before .before .before .before .before .before .before .before .before .pre) .1 .0) (extras-cut s h) (value-cut s h) ((c .before .before .before .before .before .decoded-by) .ensures) _ ((c .before .before .before .ask) .given .1) (omega arith), (key-cut s h, whole-value s h w f _ _ _ _ ((c .before .before .before .before .before .before .before .before .before .before .before .before .before .before .before .pre) .1 .0) (extras-cut s h) (value-cut s h) ((c .before .before .before .before .before .decoded-by) .ensures) _ ((c .before .before .before .ask) .given .1)))))
 
 -- src/lib.rt:152:1
 same-length : tie.Need-same-length
@@ -102,7 +102,7 @@ same-length c = search needs
 
 -- src/lib.rt:152:1
 returns : tie.Need-returns
-returns c = let s = now ((c .before .before .before .before .before .before .before .before .before .before .before .before .before .before .before .before .args) .s) in let h = (c .before .before .before .before .before .before .before .before .before .before .before .before .before .before .before .before .args) .h in let f = sym (ap (λ (x : Shape). formStatus x h) ((c .before .before .before .before .before .before .before .before .before .before .before .before .before .before .before .before .pre) .1 .0)) ∙ (c .before .before .before .before .before .before .before .before .before .before .before .before .before .before .before .before .pre) .1 .1 .0 in let e = broken-status s h ((c .before .before .before .before .before .before .before .before .before .before .before .before .before .before .before .before .pre) .1 .1 .1) f _ _ _ _ ((c .before .before .before .before .before .before .before .before .before .before .before .before .before .before .before .before .pre) .1 .0) (extras-cut s h) (value-cut s h) ((c .before .before .before .before .before .before .asked-by) .ensures) ((c .before .before .before .before .enum-told) .given .1) in refused-by (now ((c .before .before .before .before .before .before .before .before .before .before .before .before .before .before .before .before .args) .b)) s ((c .before .before .before .before .before .before .before .before .before .before .before .before .before .before .before .before .args) .clock) h (ap goesOn (sym e)) 0x04 _ _ _ e ((c .before .before .refused) .ensures .0) ((c .before .before .refused) .ensures .1)
+returns c = let s = now ((c .before .before .before .before .before .before .before .before .before .before .before .before .before .before .before .before .args) .s) in let h = (c .before .before .before .before .before .before .before .before .before .before .before .before .before .before .before .before .args) .h in let f = sym (ap (λ (x : Shape). formStatus x h) ((c .before .before .before .before .before .before .before .before .before .before .before .before .before .before .before .before .pre) .1 .0)) ∙ (c .before .before .before .before .before .before .before .before .before .before .before .before .before .before .before .before .pre) .1 .1 .0 in let e = broken-status s h ((c .before .before .before .before .before .before .before .before .before .before .before .before .before .before .before .before .pre) .1 .1 .1) f _ _ _ _ ((c .before .before .before .before .before .before .before .before .before .before .before .before .before .before .before .before .pre) .1 .0) (extras-cut s h) (value-cut s h) ((c .before .before .before .before .before .before .decoded-by) .ensures) ((c .before .before .before .before .enum-told) .given .1) in refused-by (now ((c .before .before .before .before .before .before .before .before .before .before .before .before .before .before .before .before .args) .b)) s ((c .before .before .before .before .before .before .before .before .before .before .before .before .before .before .before .before .args) .clock) h (ap reachesDecision (sym e)) 0x04 _ _ _ e ((c .before .before .refused) .ensures .0) ((c .before .before .refused) .ensures .1)
 
 -- src/lib.rt:152:1
 same-length-2 : tie.Need-same-length-2
@@ -135,7 +135,7 @@ serve-parts-spec =
     sub-value
     part-value-start
     part-value-end
-    asked-by-requires
+    decoded-by-requires
     enum-told
     refused-requires
     enum-known-ask

@@ -8,10 +8,10 @@ use Rattle.commands.proofs.judging.here.Reads as here-reads
 use Rattle.commands.proofs.judging.is_add.Reads as is-add-reads
 use Rattle.commands.proofs.judging.is_last.Reads as is-last-reads
 use Rattle.commands.proofs.judging.spent.Reads as spent-reads
-use Rattle.engine.proofs.accepted.Reads as accepted-reads
-use Rattle.engine.proofs.has_row.Reads as has-row-reads
-use Rattle.engine.proofs.live.Reads as live-reads
-use Rattle.engine.proofs.numbers_of.Reads as numbers-of-reads
+use Rattle.document.proofs.accepted.Reads as accepted-reads
+use Rattle.document.proofs.has_row.Reads as has-row-reads
+use Rattle.document.proofs.live.Reads as live-reads
+use Rattle.document.proofs.numbers_of.Reads as numbers-of-reads
 use Rattle.numbers.proofs.mode_of.Reads as mode-of-reads
 
 -- src/judging.rt:218:9

@@ -7,9 +7,9 @@ use Rattle.commands.proofs.judging.plain_tests.Lts as lts
 use Rattle.commands.proofs.judging.here.Reads as here-reads
 use Rattle.commands.proofs.judging.is_number.Reads as is-number-reads
 use Rattle.commands.proofs.judging.spent.Reads as spent-reads
-use Rattle.engine.proofs.has_row.Reads as has-row-reads
-use Rattle.engine.proofs.live.Reads as live-reads
-use Rattle.engine.proofs.numbers_of.Reads as numbers-of-reads
+use Rattle.document.proofs.has_row.Reads as has-row-reads
+use Rattle.document.proofs.live.Reads as live-reads
+use Rattle.document.proofs.numbers_of.Reads as numbers-of-reads
 
 -- src/judging.rt:153:9
 live-requires : tie.Need-live-requires

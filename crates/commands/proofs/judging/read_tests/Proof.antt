@@ -5,7 +5,7 @@ use Rattle.commands.proofs.judging.read_tests.Tie as tie
 use Rattle.commands.proofs.judging.read_tests.Reads as reads
 use Rattle.commands.proofs.judging.read_tests.Lts as lts
 use Rattle.commands.proofs.judging.here.Reads as here-reads
-use Rattle.engine.proofs.live.Reads as live-reads
+use Rattle.document.proofs.live.Reads as live-reads
 
 -- src/judging.rt:124:9
 live-requires : tie.Need-live-requires

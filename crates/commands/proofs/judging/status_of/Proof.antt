@@ -1,4 +1,4 @@
-use Rattle.commands.specs.Rules.{statusOf, firstFailure}
+use Rattle.commands.specs.Rules.{firstStatus, firstFailure}
 use borrow.Author.Needs.{needs}
 use Rattle.commands.proofs.judging.status_of.Statement.{statement}
 use Rattle.commands.proofs.judging.status_of.Tie as tie
@@ -37,7 +37,7 @@ first-requires-8 c κs = search needs
 
 -- src/judging.rt:233:1
 returns : tie.Need-returns
-unfolding statusOf firstFailure
+unfolding firstStatus firstFailure
 returns c = simp ((c .first8) .ensures, (c .before .first7) .ensures, (c .before .before .first6) .ensures, (c .before .before .before .first5) .ensures, (c .before .before .before .before .first4) .ensures, (c .before .before .before .before .before .first3) .ensures, (c .before .before .before .before .before .before .first2) .ensures, (c .before .before .before .before .before .before .before .first) .ensures)
 
 pub status-of-spec : {M : Type 1} → statement M

@@ -1,4 +1,4 @@
-use Rattle.table.proofs.Storing.{stored-over}
+use Rattle.plain.proofs.Storing.{stored-over}
 use mathlib.Core.Path.{_∙_}
 use borrow.Author.Needs.{needs}
 use Rattle.serve.proofs.change.put.Statement.{statement}

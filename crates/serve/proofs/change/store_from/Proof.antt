@@ -31,12 +31,6 @@ store-digits-requires c κs =
     let p = c .before .before .before .before .before .before .before .pre in
     (p .0, p .1 .0)
 
-enum-told-3 : tie.Need-enum-told-3
-enum-told-3 c = search needs
-
-store-kept-requires : tie.Need-store-kept-requires
-store-kept-requires c κs = c .before .before .before .before .before .before .pre
-
 same-length : tie.Need-same-length
 same-length c = search needs
 
@@ -57,12 +51,6 @@ same-length-3 c = search needs
 returns-3 : tie.Need-returns-3
 returns-3 c = rw (c .before .before .before .before .before .source .given .1) (c .before .before .store-digits .ensures)
 
-same-length-4 : tie.Need-same-length-4
-same-length-4 c = search needs
-
-returns-4 : tie.Need-returns-4
-returns-4 c = rw (c .before .before .before .before .enum-told3 .given .1) (c .before .before .store-kept .ensures)
-
 pub store-from-spec : {M : Type 1} → statement M
 store-from-spec =
     tie.close
@@ -74,13 +62,9 @@ store-from-spec =
     put-requires-2
     enum-known-source
     store-digits-requires
-    enum-told-3
-    store-kept-requires
     same-length
     returns
     same-length-2
     returns-2
     same-length-3
-    returns-3
-    same-length-4
-    returns-4)
+    returns-3)

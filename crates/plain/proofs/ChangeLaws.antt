@@ -1,0 +1,162 @@
+-- What storing, purging and making do to a table, and that each leaves a good one.
+use native.Mathlib.Omega.{arith}
+use mathlib.Core.Path.{_≡_, refl, sym, ap, _∙_}
+use mathlib.Core.Bool.{Bool}
+use mathlib.Core.List.{List, [], _∷_, _++_}
+use mathlib.Core.Option.{none, some}
+use Prim.Native.Nat.{ℕ, zero, suc, _+_, _*_, _≤_, _<_}
+use lib.ListN.{length, set, replicate, length-set, length-replicate, replicate-append-replicate}
+use borrow.Author.Tests.{lt-ltb, le-leb}
+use Rattle.octets.specs.Parts.{pasted}
+use Rattle.octets.specs.BigEndian.{bytesOf}
+use Rattle.octets.proofs.Choices.{cases}
+use Rattle.octets.proofs.Lists.{pasted-skip, pasted-over}
+use Rattle.document.specs.Documents.{Doc, Entry}
+use Rattle.document.specs.declared.Head.{Head}
+use Rattle.rows.specs.Row.{Row, rowBytes}
+use Rattle.rows.specs.Table.{Table, headBytes, rowsBytes, tableBytes, withRow, withMark, fresh}
+use Rattle.plain.specs.Store.{stored}
+use Rattle.plain.specs.Plain.{putRow, purgeRows, Distinct}
+use Rattle.plain.specs.Claims.{StoreGood, PurgeGood, FreshGood}
+use Rattle.rows.specs.Good.{EntryGood, AllGood}
+use Rattle.plain.proofs.PlainLaws.{plain-laws}
+use Rattle.plain.proofs.Places.{at-place}
+use Rattle.rows.proofs.RowLaws.{RowGood, row-length}
+use Rattle.plain.proofs.TableLaws.{good-first, good-more, table-count}
+
+-- a higher mark keeps rows good
+entry-raise : (m mark : ℕ) (e : Entry) → m ≤ mark → EntryGood m e → EntryGood mark e
+entry-raise m mark e h g = record {
+  key-least = g .key-least;
+  key-most = g .key-most;
+  value-most = g .value-most;
+  bare = g .bare;
+  flags = g .flags;
+  expiry = g .expiry;
+  revision = g .revision;
+  cas-least = g .cas-least;
+  cas-most = omega (arith, g .cas-most);
+}
+
+pub raise : (m mark : ℕ) (ws : List Row) → m ≤ mark → AllGood m ws → AllGood mark ws
+raise m mark [] h g = tt
+raise m mark (none ∷ ws) h g = raise m mark ws h g
+raise m mark (some e ∷ ws) h g = (entry-raise m mark e h (g .0), raise m mark ws h (g .1))
+
+-- a row put at a place, in the rows and in their bytes
+module _ (mark : ℕ) (w : Row) (r : RowGood mark w) where
+  good-set : (ws : List Row) (i : ℕ) → AllGood mark ws → AllGood mark (set ws i w)
+  good-set [] i g = tt
+  good-set (v ∷ ws) zero g = good-more mark w ws r (good-first mark v ws g .1)
+  good-set (v ∷ ws) (suc i) g = let h = good-first mark v ws g in good-more mark v (set ws i w) (h .0) (good-set ws i (h .1))
+
+  rows-put : (ws : List Row) (i : ℕ) → AllGood mark ws → i < length ws → pasted (rowsBytes ws) (i * 1312) (rowBytes w) ≡ rowsBytes (set ws i w)
+  rows-put [] i g h = absurd (omega arith)
+  rows-put (v ∷ ws) zero g h = pasted-over (rowBytes v) (rowsBytes ws) (rowBytes w) (row-length mark v (good-first mark v ws g .0) ∙ sym (row-length mark w r))
+  rows-put (v ∷ ws) (suc i) g h =
+      let e : suc i * 1312 ≡ 1312 + i * 1312 = omega arith in
+      let q = good-first mark v ws g in
+      rw e
+      (pasted-skip (rowBytes v) (rowsBytes ws) 1312 (i * 1312) (rowBytes w) (row-length mark v (q .0))
+      ∙ ap (λ (t : List ℕ). rowBytes v ++ t) (rows-put ws i (q .1) (omega arith)))
+
+pub head-length : (h : Head) → length (headBytes h) ≡ 16
+unfolding headBytes bytesOf
+head-length h = refl
+
+module _ (t : Table) where
+  pub row-put : (mark i : ℕ) (w : Row) → RowGood mark w → AllGood mark (t .rows) → i < length (t .rows) → pasted (tableBytes t) (16 + i * 1312) (rowBytes w) ≡ tableBytes (withRow t i w)
+  unfolding tableBytes
+  row-put mark i w r g h =
+      pasted-skip (headBytes (t .head)) (rowsBytes (t .rows)) 16 (i * 1312) (rowBytes w) (head-length (t .head))
+      ∙ ap (λ (l : List ℕ). headBytes (t .head) ++ l) (rows-put mark w r (t .rows) i g h)
+
+  pub mark-put : (mark : ℕ) → pasted (tableBytes t) 8 (bytesOf 8 mark) ≡ tableBytes (withMark t mark)
+  unfolding pasted tableBytes headBytes bytesOf
+  mark-put mark = refl
+
+pub store-good : StoreGood
+unfolding stored
+store-good t i e mark g k m s p =
+    let at = at-place (e .key) (t .rows) i p in
+    let row : putRow (t .rows) (e .key) (e .doc) ≡ set (t .rows) i (some e) = at .put (e .doc) in
+    let a = raise (t .head .mark .0) mark (t .rows) m (g .rows) in
+    let fits : length (e .key) + length (e .doc .value) ≤ 1280 = omega (arith, k .key-most, k .value-most) in
+    record {
+      bytes =
+          rw (table-count t g, lt-ltb i (length (t .rows)) (at .below), le-leb (length (e .key) + length (e .doc .value)) 1280 fits, row-put t mark i (some e) k a (at .below), row)
+          (mark-put (withRow t i (some e)) mark);
+      row = row;
+      good = record {
+        least = rw (row, length-set) (g .least);
+        most = rw (row, length-set) (g .most);
+        state = g .state;
+        mode = g .mode;
+        vbucket = g .vbucket;
+        clock = g .clock;
+        mark = s;
+        rows = rw row (good-set mark (some e) k (t .rows) i a);
+        keys = plain-laws .good-put (t .rows) (e .key) (e .doc) (g .keys) (at .room);
+      };
+    }
+
+module _ (p : Doc → Bool) where
+  pub length-purge : (ws : List Row) → length (purgeRows ws p) ≡ length ws
+  length-purge [] = refl
+  length-purge (none ∷ ws) = ap suc (length-purge ws)
+  length-purge (some x ∷ ws) = ap suc (length-purge ws)
+
+  rows-purge : (mark : ℕ) (ws : List Row) → AllGood mark ws → AllGood mark (purgeRows ws p)
+  rows-purge mark [] g = tt
+  rows-purge mark (none ∷ ws) g = rows-purge mark ws g
+  rows-purge mark (some x ∷ ws) g = cases (p (x .doc)) (λ e. rw e (rows-purge mark ws (g .1))) (λ e. rw e (g .0, rows-purge mark ws (g .1)))
+
+pub purge-good : PurgeGood
+purge-good t p g = record {
+  least = rw (length-purge p (t .rows)) (g .least);
+  most = rw (length-purge p (t .rows)) (g .most);
+  state = g .state;
+  mode = g .mode;
+  vbucket = g .vbucket;
+  clock = g .clock;
+  mark = g .mark;
+  rows = rows-purge p (t .head .mark .0) (t .rows) (g .rows);
+  keys = plain-laws .good-purge (t .rows) p (g .keys);
+}
+
+-- a fresh table
+free-good : (mark n : ℕ) → AllGood mark (replicate n none)
+free-good mark zero = tt
+free-good mark (suc n) = free-good mark n
+
+free-distinct : (n : ℕ) → Distinct (replicate n none)
+free-distinct zero = tt
+free-distinct (suc n) = free-distinct n
+
+pub fresh-good : FreshGood
+fresh-good n state mode vbucket l m s k v =
+    let e : length (replicate {A = Row} n none) ≡ n = length-replicate n none in
+    record {
+      least = rw e l;
+      most = rw e m;
+      state = s;
+      mode = k;
+      vbucket = v;
+      clock = refl;
+      mark = omega arith;
+      rows = free-good 0 n;
+      keys = free-distinct n;
+    }
+
+free-rows : (n : ℕ) → rowsBytes (replicate n none) ≡ replicate (n * 1312) 0
+unfolding rowBytes
+free-rows zero = refl
+free-rows (suc n) =
+    let e : suc n * 1312 ≡ 1312 + n * 1312 = omega arith in
+    rw (e, ← replicate-append-replicate {A = ℕ} 1312 (n * 1312) 0) (ap (λ (l : List ℕ). replicate 1312 0 ++ l) (free-rows n))
+
+pub fresh-bytes : (n state mode vbucket : ℕ) → tableBytes (fresh n state mode vbucket) ≡ bytesOf 1 state ++ (bytesOf 1 mode ++ (bytesOf 2 vbucket ++ replicate (12 + n * 1312) 0))
+unfolding tableBytes headBytes bytesOf
+fresh-bytes n state mode vbucket =
+    rw (← replicate-append-replicate {A = ℕ} 12 (n * 1312) 0)
+    (ap (λ (l : List ℕ). headBytes (fresh n state mode vbucket .head) ++ l) (free-rows n))

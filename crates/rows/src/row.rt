@@ -1,0 +1,29 @@
+// A row's fixed part.
+ghost use mathlib.Core.Path.{_≡_};
+ghost use Rattle.rows.specs.Row.{slotOf};
+use crate::Slot;
+use numbers::Cas;
+use numbers::Numbers;
+use numbers::Revision;
+
+fn numbers_of(r: &[u8]) -> Numbers
+    ensures { λ n. ⌜ n ≡ slotOf (now (r .entry)) .numbers ⌝ }
+{
+    Numbers {
+        flags: octets::be32(r, 8),
+        expiry: octets::be32(r, 12),
+        revision: Revision(octets::be64(r, 16)),
+        cas: Cas(octets::be64(r, 24)),
+    }
+}
+
+pub fn slot(r: &[u8]) -> Slot
+    ensures { λ s. ⌜ s ≡ slotOf (now (r .entry)) ⌝ }
+{
+    Slot {
+        kind: octets::be16(r, 0),
+        keylen: octets::be16(r, 2),
+        vallen: octets::be32(r, 4),
+        numbers: numbers_of(r),
+    }
+}
