@@ -1,8 +1,6 @@
 // What a whole frame asks for: opcode and extras become a command, and the value is told from its extended meta.
 ghost use mathlib.Core.Path.{_≡_};
-ghost use Prim.Native.Nat.{_-_};
-ghost use Rattle.decode.specs.Decode.{either, plainOf, counterOf, metaCommand, metaKind, plainCommand, instructionWith, decodedBy};
-ghost use Rattle.decode.specs.Choice.{isWrite, isCount, writeKind};
+ghost use Rattle.decode.specs.Decode.{plainOf, counterOf, metaCommand, familyOf, instructionWith, metaDecoded, decodedBy};
 use commands::Command;
 use commands::Counter;
 use commands::Instruction;
@@ -84,15 +82,6 @@ fn family_of(operation: Operation) -> Family
     }
 }
 
-fn minus(a: usize, b: usize) -> usize
-    ensures { λ r. ⌜ r ≡ a - b ⌝ }
-{
-    if a < b {
-        return 0;
-    }
-    a - b
-}
-
 fn instruction_with(shape: Shape, h: Header, command: Command, size: usize) -> Instruction
     ensures { λ r. ⌜ r ≡ instructionWith shape h command size ⌝ }
 {
@@ -113,8 +102,8 @@ pub enum Decoded {
 }
 
 // A with-meta command, unless its fields break the rules.
-fn carried_by(shape: Shape, h: Header, kind: Kind, extras: &[u8], value: &[u8]) -> Decoded
-    ensures { λ r. ⌜ r ≡ carriedBy shape h kind (now (extras .entry)) (now (value .entry)) ⌝ }
+fn meta_decoded(shape: Shape, h: Header, kind: Kind, extras: &[u8], value: &[u8]) -> Decoded
+    ensures { λ r. ⌜ r ≡ metaDecoded shape h kind (now (extras .entry)) (now (value .entry)) ⌝ }
 {
     let w = rules::with_meta(extras);
     if !rules::with_meta_ok(shape.meta, w, value) {
@@ -124,7 +113,7 @@ fn carried_by(shape: Shape, h: Header, kind: Kind, extras: &[u8], value: &[u8]) 
         shape,
         h,
         meta_of(kind, w),
-        minus(value.len(), w.section as usize),
+        octets::minus(value.len(), w.section as usize),
     ))
 }
 
@@ -145,6 +134,6 @@ pub fn decoded_by(shape: Shape, h: Header, extras: &[u8], value: &[u8]) -> Decod
             counter_of(u, extras),
             size,
         )),
-        Family::Carried(k) => carried_by(shape, h, k, extras, value),
+        Family::Carried(k) => meta_decoded(shape, h, k, extras, value),
     }
 }

@@ -71,12 +71,13 @@ pub fn gate_of(received: &[u8]) -> Gate
     if h.magic != 0x80 {
         return Gate::Stop(2, 0);
     }
-    let body = h.body as usize;
-    if 1400 < body {
+    if 1400 < h.body {
         return Gate::Stop(3, 0);
     }
-    if received.len() < 24 + body {
-        return Gate::Stop(1, 24 + body);
+    let l = header::layout_of(h);
+    let end = l.end;
+    if received.len() < end {
+        return Gate::Stop(1, end);
     }
     Gate::Whole(h)
 }
