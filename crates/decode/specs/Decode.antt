@@ -1,13 +1,15 @@
 -- What a whole frame asks for: the command that its opcode and extras spell, with key and value.
 use Prim.Native.Nat.{ℕ, _-_, _/_, _%_}
-use mathlib.Core.Bool.{Bool, true, false, cond, _||_}
+use mathlib.Core.Bool.{Bool, true, false, cond}
 use mathlib.Core.List.{List}
 use lib.ListN.{length}
-use lib.Dec.{ltb, eqb}
+use lib.Dec.{eqb}
 use Rattle.octets.specs.Parts.{part}
 use Rattle.octets.specs.BigEndian.{num}
 use Rattle.shape.specs.Shapes.{shapeOf}
 use Rattle.shape.specs.declared.Shape.{Shape}
+use Rattle.shape.specs.declared.Operation.{Operation}
+use Rattle.shape.specs.declared.Operation.the-variants as Operations
 use Rattle.header.specs.declared.Header.{Header}
 use Rattle.rules.specs.WithMeta.{withMeta}
 use Rattle.rules.specs.declared.WithMeta.{WithMeta}
@@ -19,12 +21,10 @@ use Rattle.commands.specs.declared.Command.{Command}
 use Rattle.commands.specs.declared.Command.the-variants.{Get, Write, Count, Noop, Version, WithMeta as Metas}
 use Rattle.commands.specs.declared.Instruction.{Instruction}
 use Rattle.commands.specs.Decide.{Request}
+use Rattle.decode.specs.declared.Family.{Family}
+use Rattle.decode.specs.declared.Family.the-variants.{Bare, Stored, Counted, Carried}
 use Rattle.decode.specs.declared.Decoded.{Decoded}
 use Rattle.decode.specs.declared.Decoded.the-variants.{Broken, Whole}
-
--- an opcode or its quiet twin
-abbrev pub either : ℕ → ℕ → ℕ → Bool
-either op loud quiet = eqb op loud || eqb op quiet
 
 -- "8 extras (flags, expiry)"; a Delete has none, and so both 0
 unfoldable pub plainOf : Kind → List ℕ → Command
@@ -45,32 +45,34 @@ metaCommand k w = Metas (record {
   skip = eqb (w .options / 8 % 2) 1;
 })
 
--- a with-meta opcode's kind: Set below a4, Add below a6
-unfoldable pub metaKind : ℕ → Kind
-metaKind op = cond (ltb op 0xa4) Set (cond (ltb op 0xa6) Add Delete)
+-- how each operation's command is told, in 01's order: at once, or from its extras; "Set a2/a3, Add a4/a5, Delete a8/a9" carry their meta
+abbrev pub familyOf : Operation → Family
+familyOf Operations.Get = Bare (Get false)
+familyOf Operations.GetKey = Bare (Get true)
+familyOf Operations.Set = Stored Set
+familyOf Operations.Add = Stored Add
+familyOf Operations.Replace = Stored Replace
+familyOf Operations.Delete = Stored Delete
+familyOf Operations.Increment = Counted true
+familyOf Operations.Decrement = Counted false
+familyOf Operations.Noop = Bare Noop
+familyOf Operations.Version = Bare Version
+familyOf Operations.SetWithMeta = Carried Set
+familyOf Operations.AddWithMeta = Carried Add
+familyOf Operations.DeleteWithMeta = Carried Delete
+familyOf Operations.NotBuilt = Bare Noop
+familyOf Operations.Unknown = Bare Noop
 
--- plain commands, in 01's order
-unfoldable pub plainCommand : ℕ → List ℕ → Command
-unfolding plainOf counterOf
-plainCommand op extras =
-    cond (either op 0x00 0x09) (Get false)
-    (cond (either op 0x0c 0x0d) (Get true)
-    (cond (either op 0x01 0x11) (plainOf Set extras)
-    (cond (either op 0x02 0x12) (plainOf Add extras)
-    (cond (either op 0x03 0x13) (plainOf Replace extras)
-    (cond (either op 0x04 0x14) (plainOf Delete extras)
-    (cond (either op 0x05 0x15) (counterOf true extras)
-    (cond (either op 0x06 0x16) (counterOf false extras)
-    (cond (eqb op 0x0b) Version Noop))))))))
+abbrev pub commandBy : Family → List ℕ → Command
+commandBy (Bare c) extras = c
+commandBy (Stored k) extras = plainOf k extras
+commandBy (Counted up) extras = counterOf up extras
+commandBy (Carried k) extras = metaCommand k (withMeta extras)
 
--- "Set a2/a3, Add a4/a5, Delete a8/a9", else a plain one
-unfoldable pub commandOf : ℕ → List ℕ → Command
-unfolding plainCommand metaCommand
-commandOf op extras =
-    cond (either op 0xa2 0xa3) (metaCommand Set (withMeta extras))
-    (cond (either op 0xa4 0xa5) (metaCommand Add (withMeta extras))
-    (cond (either op 0xa8 0xa9) (metaCommand Delete (withMeta extras))
-    (plainCommand op extras)))
+-- the command that operation and extras spell
+unfoldable pub commandOf : Operation → List ℕ → Command
+unfolding plainOf counterOf metaCommand
+commandOf o extras = commandBy (familyOf o) extras
 
 -- the value before the extended meta
 unfoldable pub bareValue : List ℕ → Header → List ℕ
@@ -80,13 +82,23 @@ bareValue s h = part s (valueSpan h .at) (valueSpan h .len - metaSize (shapeOf (
 abbrev pub instructionWith : Shape → Header → Command → ℕ → Instruction
 instructionWith s h command size = record { vbucket = h .vbucket; cas = h .cas; quiet = s .quiet; size = size; command = command }
 
+-- a with-meta command unless its fields break the rules
+unfoldable pub metaDecoded : Shape → Header → Kind → List ℕ → List ℕ → Decoded
+metaDecoded s h k extras value =
+    cond (withMetaOk (s .meta) (withMeta extras) value)
+    (Whole (instructionWith s h (metaCommand k (withMeta extras)) (length value - withMeta extras .section)))
+    Broken
+
+abbrev pub decodedAs : Family → Shape → Header → List ℕ → List ℕ → Decoded
+decodedAs (Bare c) s h extras value = Whole (instructionWith s h c (length value))
+decodedAs (Stored k) s h extras value = Whole (instructionWith s h (plainOf k extras) (length value))
+decodedAs (Counted up) s h extras value = Whole (instructionWith s h (counterOf up extras) (length value))
+decodedAs (Carried k) s h extras value = metaDecoded s h k extras value
+
 -- what a frame asks for unless it breaks the field rules, from its header, its opcode's shape, its extras and what follows its key
 unfoldable pub decodedBy : Shape → Header → List ℕ → List ℕ → Decoded
-decodedBy s h extras value =
-    cond (eqb (s .meta) 0) (Whole (instructionWith s h (plainCommand (h .opcode) extras) (length value)))
-    (cond (withMetaOk (s .meta) (withMeta extras) value)
-    (Whole (instructionWith s h (metaCommand (metaKind (h .opcode)) (withMeta extras)) (length value - withMeta extras .section)))
-    Broken)
+unfolding metaDecoded
+decodedBy s h extras value = decodedAs (familyOf (s .operation)) s h extras value
 
 unfoldable pub requestOf : List ℕ → Header → Request
 unfolding bareValue commandOf
@@ -96,5 +108,5 @@ requestOf s h = record {
   quiet = shapeOf (h .opcode) .quiet;
   key = bytesIn s (keySpan h);
   value = bareValue s h;
-  command = commandOf (h .opcode) (bytesIn s (extrasSpan h));
+  command = commandOf (shapeOf (h .opcode) .operation) (bytesIn s (extrasSpan h));
 }

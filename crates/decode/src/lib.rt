@@ -1,8 +1,6 @@
 // What a whole frame asks for: opcode and extras become a command, and the value is told from its extended meta.
 ghost use mathlib.Core.Path.{_≡_};
-ghost use Prim.Native.Nat.{_-_};
-ghost use Rattle.decode.specs.Decode.{either, plainOf, counterOf, metaCommand, metaKind, plainCommand, instructionWith, decodedBy};
-ghost use Rattle.decode.specs.Choice.{isWrite, isCount, writeKind};
+ghost use Rattle.decode.specs.Decode.{plainOf, counterOf, metaCommand, familyOf, instructionWith, metaDecoded, decodedBy};
 use commands::Command;
 use commands::Counter;
 use commands::Instruction;
@@ -11,13 +9,8 @@ use commands::Meta;
 use commands::Plain;
 use header::Header;
 use rules::WithMeta;
+use shape::Operation;
 use shape::Shape;
-
-fn either(op: u8, loud: u8, quiet: u8) -> bool
-    ensures { λ r. ⌜ r ≡ either op loud quiet ⌝ }
-{
-    (op == loud) | (op == quiet)
-}
 
 fn plain_of(kind: Kind, extras: &[u8]) -> Command
     ensures { λ r. ⌜ r ≡ plainOf kind (now (extras .entry)) ⌝ }
@@ -59,74 +52,34 @@ fn meta_of(kind: Kind, w: WithMeta) -> Command
     })
 }
 
-// 01 to 04 and their quiet twins, 11 to 14.
-fn is_write(op: u8) -> bool
-    ensures { λ r. ⌜ r ≡ isWrite op ⌝ }
-{
-    ((1 <= op) & (op <= 4)) | ((0x11 <= op) & (op <= 0x14))
+// How an operation's command is told: at once, or from extras of one of three kinds.
+enum Family {
+    Bare(Command),
+    Stored(Kind),
+    Counted(bool),
+    Carried(Kind),
 }
 
-// 05 and 06, and their quiet twins, 15 and 16.
-fn is_count(op: u8) -> bool
-    ensures { λ r. ⌜ r ≡ isCount op ⌝ }
+fn family_of(operation: Operation) -> Family
+    ensures { λ r. ⌜ r ≡ familyOf operation ⌝ }
 {
-    ((5 <= op) & (op <= 6)) | ((0x15 <= op) & (op <= 0x16))
-}
-
-// What a write's last hexadecimal digit says.
-fn write_kind(digit: u8) -> Kind
-    ensures { λ r. ⌜ r ≡ writeKind digit ⌝ }
-{
-    match digit {
-        1 => Kind::Set,
-        2 => Kind::Add,
-        3 => Kind::Replace,
-        _ => Kind::Delete,
+    match operation {
+        Operation::Unknown => Family::Bare(Command::Noop),
+        Operation::NotBuilt => Family::Bare(Command::Noop),
+        Operation::Get => Family::Bare(Command::Get(false)),
+        Operation::GetKey => Family::Bare(Command::Get(true)),
+        Operation::Set => Family::Stored(Kind::Set),
+        Operation::Add => Family::Stored(Kind::Add),
+        Operation::Replace => Family::Stored(Kind::Replace),
+        Operation::Delete => Family::Stored(Kind::Delete),
+        Operation::Increment => Family::Counted(true),
+        Operation::Decrement => Family::Counted(false),
+        Operation::Noop => Family::Bare(Command::Noop),
+        Operation::Version => Family::Bare(Command::Version),
+        Operation::SetWithMeta => Family::Carried(Kind::Set),
+        Operation::AddWithMeta => Family::Carried(Kind::Add),
+        Operation::DeleteWithMeta => Family::Carried(Kind::Delete),
     }
-}
-
-fn meta_kind(op: u8) -> Kind
-    ensures { λ r. ⌜ r ≡ metaKind op ⌝ }
-{
-    if op < 0xa4 {
-        return Kind::Set;
-    }
-    if op < 0xa6 {
-        return Kind::Add;
-    }
-    Kind::Delete
-}
-
-// Each kind of command is made at one place, so that the compiler puts it there, and its extras are read only once the
-// kind is known: each read past their end is a slow one.
-fn plain_command(op: u8, extras: &[u8]) -> Command
-    ensures { λ r. ⌜ r ≡ plainCommand op (now (extras .entry)) ⌝ }
-{
-    if is_write(op) {
-        return plain_of(write_kind(op % 16), extras);
-    }
-    if is_count(op) {
-        return counter_of(op % 16 == 5, extras);
-    }
-    if either(op, 0x00, 0x09) {
-        return Command::Get(false);
-    }
-    if either(op, 0x0c, 0x0d) {
-        return Command::Get(true);
-    }
-    if op == 0x0b {
-        return Command::Version;
-    }
-    Command::Noop
-}
-
-fn minus(a: usize, b: usize) -> usize
-    ensures { λ r. ⌜ r ≡ a - b ⌝ }
-{
-    if a < b {
-        return 0;
-    }
-    a - b
 }
 
 fn instruction_with(shape: Shape, h: Header, command: Command, size: usize) -> Instruction
@@ -148,19 +101,10 @@ pub enum Decoded {
     Whole(Instruction),
 }
 
-// Field rules and command by one reading of the extras, from a frame's header, its opcode's shape, its extras and what
-// follows its key.
-pub fn decoded_by(shape: Shape, h: Header, extras: &[u8], value: &[u8]) -> Decoded
-    ensures { λ r. ⌜ r ≡ decodedBy shape h (now (extras .entry)) (now (value .entry)) ⌝ }
+// A with-meta command, unless its fields break the rules.
+fn meta_decoded(shape: Shape, h: Header, kind: Kind, extras: &[u8], value: &[u8]) -> Decoded
+    ensures { λ r. ⌜ r ≡ metaDecoded shape h kind (now (extras .entry)) (now (value .entry)) ⌝ }
 {
-    if shape.meta == 0 {
-        return Decoded::Whole(instruction_with(
-            shape,
-            h,
-            plain_command(h.opcode, extras),
-            value.len(),
-        ));
-    }
     let w = rules::with_meta(extras);
     if !rules::with_meta_ok(shape.meta, w, value) {
         return Decoded::Broken;
@@ -168,7 +112,28 @@ pub fn decoded_by(shape: Shape, h: Header, extras: &[u8], value: &[u8]) -> Decod
     Decoded::Whole(instruction_with(
         shape,
         h,
-        meta_of(meta_kind(h.opcode), w),
-        minus(value.len(), w.section as usize),
+        meta_of(kind, w),
+        octets::minus(value.len(), w.section as usize),
     ))
+}
+
+// Field rules and command by one reading of the extras, from a frame's header, its opcode's shape, its extras and what
+// follows its key. Each kind of command is made at one place, so that the compiler puts it there, and its extras are read
+// only once the kind is known: each read past their end is a slow one.
+pub fn decoded_by(shape: Shape, h: Header, extras: &[u8], value: &[u8]) -> Decoded
+    ensures { λ r. ⌜ r ≡ decodedBy shape h (now (extras .entry)) (now (value .entry)) ⌝ }
+{
+    let size = value.len();
+    let operation = shape.operation;
+    match family_of(operation) {
+        Family::Bare(c) => Decoded::Whole(instruction_with(shape, h, c, size)),
+        Family::Stored(k) => Decoded::Whole(instruction_with(shape, h, plain_of(k, extras), size)),
+        Family::Counted(u) => Decoded::Whole(instruction_with(
+            shape,
+            h,
+            counter_of(u, extras),
+            size,
+        )),
+        Family::Carried(k) => meta_decoded(shape, h, k, extras, value),
+    }
 }

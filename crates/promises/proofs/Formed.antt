@@ -1,20 +1,20 @@
 -- A frame that the reader's rules let pass, save a value over 1,024 bytes, asks for a command whose form is right.
 use Prim.Native.Nat.{ℕ, _+_, _-_, _≤_}
-use mathlib.Core.Path.{_≡_, refl, ap, _∙_}
+use mathlib.Core.Path.{_≡_, refl, sym, ap, _∙_}
 use mathlib.Core.Bool.{Bool, true, false, cond, _&&_}
-use mathlib.Core.Logic.{⊎-elim}
-use mathlib.Core.List.{List, [], _∷_}
+use mathlib.Core.List.{List}
 use native.Mathlib.Omega.{arith}
 use lib.ListN.{length}
 use lib.Dec.{leb, eqb}
 use borrow.Author.Tests.{eqb-true, leb-true}
 use Rattle.octets.specs.Parts.{Bytes, part}
 use Rattle.octets.specs.BigEndian.{be, beFrom, num}
-use Rattle.octets.proofs.Choices.{cases, both, either as one-of}
+use Rattle.octets.proofs.Choices.{cases, both}
 use Rattle.octets.proofs.Lists.{bytes-part}
 use Rattle.octets.proofs.Numbers.{num-below}
 use Rattle.shape.specs.declared.Shape.{Shape}
-use Rattle.shape.specs.Shapes.{Command as Listed, commands, bare, unbuilt, lookUp, among, shapeOf}
+use Rattle.shape.specs.Shapes.{commands, shapeOf}
+use Rattle.shape.proofs.ShapeLaws.{each-shape, any-shape}
 use Rattle.header.specs.declared.Header.{Header}
 use Rattle.rules.specs.declared.WithMeta.{WithMeta}
 use Rattle.rules.specs.WithMeta.{withMeta, carriedNumbers}
@@ -27,7 +27,7 @@ use Rattle.commands.specs.declared.Command.{Command}
 use Rattle.commands.specs.declared.Command.the-variants.{Get, Write, Count, Noop, Version, WithMeta as Metas}
 use Rattle.commands.specs.Rules.{isDelete}
 use Rattle.commands.specs.Claims.{Formed}
-use Rattle.decode.specs.Decode.{either, plainOf, counterOf, metaCommand, plainCommand, commandOf, requestOf}
+use Rattle.decode.specs.Decode.{plainOf, counterOf, metaCommand, commandOf, requestOf}
 use Rattle.serving.specs.Serve.{reachesDecision}
 
 pub no {ℓ} : {X : Type ℓ} → false ≡ true → X
@@ -51,16 +51,8 @@ Named n (Metas w) = 1 ≤ n
 abbrev Built : Shape → Type 0
 Built s = reachesDecision (s .status) ≡ true → s .status ≡ 0
 
-built-in : (op : ℕ) (cs : List Listed) (other : Shape) → Built other → Built (lookUp op cs other)
-unfolding lookUp
-built-in op [] other p = p
-built-in op (c ∷ cs) other p =
-    by-cond Built (eqb op (c .loud)) _ _ (λ t e. refl)
-    (λ t. by-cond Built (eqb op (c .quiet)) _ _ (λ u e. refl) (λ u. built-in op cs other p))
-
 built : (op : ℕ) → Built (shapeOf op)
-unfolding shapeOf
-built op = built-in op commands _ (by-cond Built (among op bare) _ _ (λ t e. refl) (λ t. by-cond Built (among op unbuilt) _ _ (λ u e. no e) (λ u e. no e)))
+built op = any-shape Built op (λ o f q e. refl) (λ e. no e) (λ e. no e)
 
 judged-built : (s : Shape) (h : Header) (extras value : List ℕ) → Built s → reachesDecision (judged s h extras value) ≡ true → s .status ≡ 0
 unfolding judged
@@ -75,9 +67,6 @@ judged-fields s h extras value f z e =
 -- ---- what the rules say, by parts
 key-least : (key n : ℕ) → key ≡ 1 → keyOk key n ≡ true → 1 ≤ n
 key-least key n p e = leb-true 1 n (both (leb 1 n) (leb n 250) (rw p at e) .0)
-
-no-extras : (size n : ℕ) → size ≡ 0 → extrasOk size n ≡ true → n ≡ 0
-no-extras size n p e = ⊎-elim (λ z. eqb-true n 0 z) (λ z. no z) (one-of (eqb n 0) false (rw p at e))
 
 meta-ok : (s : Shape) (extras value : List ℕ) (m : ℕ) → s .meta ≡ m → eqb m 0 ≡ false → fieldRulesOk s extras value ≡ true → withMetaOk m (withMeta extras) value ≡ true
 unfolding fieldRulesOk
@@ -100,14 +89,6 @@ bare-delete w value e =
     let d = both (eqb n 0) (eqb (w .numbers .flags) 0 && eqb (w .numbers .expiry) 0) c .1 in
     let f = both (eqb (w .numbers .flags) 0) (eqb (w .numbers .expiry) 0) d in
     (eqb-true (w .numbers .flags) 0 (f .0), eqb-true (w .numbers .expiry) 0 (f .1))
-
--- a field of the shape of an opcode that is one of two
-two : (f : Shape → ℕ) (op a b n : ℕ) → either op a b ≡ true → f (shapeOf a) ≡ n → f (shapeOf b) ≡ n → f (shapeOf op) ≡ n
-two f op a b n e p q =
-    ⊎-elim
-    (λ z. ap (λ (x : ℕ). f (shapeOf x)) (eqb-true op a z) ∙ p)
-    (λ z. ap (λ (x : ℕ). f (shapeOf x)) (eqb-true op b z) ∙ q)
-    (one-of (eqb op a) (eqb op b) e)
 
 -- the parts of a right form
 pub record Form (s : Shape) (h : Header) : Type 0 where
@@ -152,57 +133,86 @@ module _ (s : List ℕ) (y : Bytes s) (h : Header) (g : reachesDecision (frameSt
   abbrev Right : Command → Type 0
   Right c = Formed c × Named (h .keylen) c
 
-  named : (a b : ℕ) → either op a b ≡ true → shapeOf a .key ≡ 1 → shapeOf b .key ≡ 1 → 1 ≤ h .keylen
-  named a b e p q = key-least (shapeOf op .key) (h .keylen) (two (λ (x : Shape). x .key) op a b 1 e p q) (form .key)
-
-  meta-right : (k : Kind) (m a b : ℕ) → either op a b ≡ true → shapeOf a .key ≡ 1 → shapeOf b .key ≡ 1 → shapeOf a .meta ≡ m → shapeOf b .meta ≡ m
-      → eqb m 0 ≡ false → (isDelete k ≡ true → m ≡ 2) → Right (metaCommand k (withMeta extras))
+  meta-right : (k : Kind) (m : ℕ) → 1 ≤ h .keylen → withMetaOk m (withMeta extras) value ≡ true → (isDelete k ≡ true → m ≡ 2) → Right (metaCommand k (withMeta extras))
   unfolding metaCommand withMeta carriedNumbers
-  meta-right k m a b e p q v w z d =
-      let r = meta-ok (shapeOf op) extras value m (two (λ (x : Shape). x .meta) op a b m e v w) z fields in (
-        (
-          record { flags = num-below extras 0 4 bytes; expiry = num-below extras 4 4 bytes; revision = num-below extras 8 8 bytes; cas = num-below extras 16 8 bytes },
-          cas-least m (withMeta extras) value r,
-          λ t. bare-delete (withMeta extras) value (rw (d t) at r),
-        ),
-        named a b e p q,
-      )
+  meta-right k m n r d = (
+    (
+      record { flags = num-below extras 0 4 bytes; expiry = num-below extras 4 4 bytes; revision = num-below extras 8 8 bytes; cas = num-below extras 16 8 bytes },
+      cas-least m (withMeta extras) value r,
+      λ t. bare-delete (withMeta extras) value (rw (d t) at r),
+    ),
+    n,
+  )
 
-  plain-right : (k : Kind) (a b : ℕ) → either op a b ≡ true → shapeOf a .key ≡ 1 → shapeOf b .key ≡ 1
-      → (isDelete k ≡ true → (shapeOf a .extras ≡ 0) × (shapeOf b .extras ≡ 0)) → Right (plainOf k extras)
+  plain-right : (k : Kind) → 1 ≤ h .keylen → (isDelete k ≡ true → h .extlen ≡ 0) → Right (plainOf k extras)
   unfolding plainOf extrasSpan be beFrom
-  plain-right k a b e p q d = (
+  plain-right k n d = (
     (
       num-below extras 0 4 bytes,
       num-below extras 4 4 bytes,
-      λ t.
-          let z = no-extras (shapeOf op .extras) (h .extlen) (two (λ (x : Shape). x .extras) op a b 0 e (d t .0) (d t .1)) (form .extras) in
-          (ap (λ (n : ℕ). num (part s 24 n) 0 4) z, ap (λ (n : ℕ). num (part s 24 n) 4 4) z),
+      λ t. (ap (λ (n : ℕ). num (part s 24 n) 0 4) (d t), ap (λ (n : ℕ). num (part s 24 n) 4 4) (d t)),
     ),
-    named a b e p q,
+    n,
   )
 
-  count-right : (up : Bool) (a b : ℕ) → either op a b ≡ true → shapeOf a .key ≡ 1 → shapeOf b .key ≡ 1 → Right (counterOf up extras)
+  count-right : (up : Bool) → 1 ≤ h .keylen → Right (counterOf up extras)
   unfolding counterOf
-  count-right up a b e p q = (num-below extras 16 4 bytes, named a b e p q)
+  count-right up n = (num-below extras 16 4 bytes, n)
 
-  plain-command : Right (plainCommand op extras)
-  unfolding plainCommand shapeOf lookUp among commands bare unbuilt
-  plain-command =
-      by-cond Right (either op 0x00 0x09) _ _ (λ t. (tt, tt)) (λ _.
-      by-cond Right (either op 0x0c 0x0d) _ _ (λ t. (tt, tt)) (λ _.
-      by-cond Right (either op 0x01 0x11) _ _ (λ t. plain-right Set 0x01 0x11 t refl refl (λ e. no e)) (λ _.
-      by-cond Right (either op 0x02 0x12) _ _ (λ t. plain-right Add 0x02 0x12 t refl refl (λ e. no e)) (λ _.
-      by-cond Right (either op 0x03 0x13) _ _ (λ t. plain-right Replace 0x03 0x13 t refl refl (λ e. no e)) (λ _.
-      by-cond Right (either op 0x04 0x14) _ _ (λ t. plain-right Delete 0x04 0x14 t refl refl (λ e. (refl, refl))) (λ _.
-      by-cond Right (either op 0x05 0x15) _ _ (λ t. count-right true 0x05 0x15 t refl refl) (λ _.
-      by-cond Right (either op 0x06 0x16) _ _ (λ t. count-right false 0x06 0x16 t refl refl) (λ _.
-      by-cond Right (eqb op 0x0b) _ _ (λ t. (tt, tt)) (λ _. (tt, tt))))))))))
+  -- a shape whose form and field rules are kept asks for a right command
+  abbrev Kept : Shape → Type 0
+  Kept x = Form x h → fieldRulesOk x extras value ≡ true → Right (commandOf (x .operation) extras)
+
+  key-there : (x : Shape) → x .key ≡ 1 → Form x h → 1 ≤ h .keylen
+  key-there x p f = key-least (x .key) (h .keylen) p (f .key)
+
+  stores : (k : Kind) (x : Shape) → isDelete k ≡ false → x .key ≡ 1 → Form x h → Right (plainOf k extras)
+  stores k x z p f = plain-right k (key-there x p f) (λ t. no (sym z ∙ t))
+
+  carries : (k : Kind) (x : Shape) → x .key ≡ 1 → eqb (x .meta) 0 ≡ false → (isDelete k ≡ true → x .meta ≡ 2)
+      → Form x h → fieldRulesOk x extras value ≡ true → Right (metaCommand k (withMeta extras))
+  carries k x p z d f r = meta-right k (x .meta) (key-there x p f) (meta-ok x extras value (x .meta) refl z r) d
 
   pub command-right : Formed (requestOf s h .command) × Named (h .keylen) (requestOf s h .command)
-  unfolding requestOf commandOf shapeOf lookUp among commands bare unbuilt
+  unfolding requestOf commandOf commands
   command-right =
-      by-cond Right (either op 0xa2 0xa3) _ _ (λ t. meta-right Set 1 0xa2 0xa3 t refl refl refl refl refl (λ e. no e)) (λ _.
-      by-cond Right (either op 0xa4 0xa5) _ _ (λ t. meta-right Add 1 0xa4 0xa5 t refl refl refl refl refl (λ e. no e)) (λ _.
-      by-cond Right (either op 0xa8 0xa9) _ _ (λ t. meta-right Delete 2 0xa8 0xa9 t refl refl refl refl refl (λ e. refl)) (λ _.
-      plain-command)))
+      each-shape Kept op (
+        (λ q f r. (tt, tt)),
+        (
+          (λ q f r. (tt, tt)),
+          (
+            (λ q f r. stores Set _ refl refl f),
+            (
+              (λ q f r. stores Add _ refl refl f),
+              (
+                (λ q f r. stores Replace _ refl refl f),
+                (
+                  (λ q f r. plain-right Delete (key-there _ refl f) (λ t. eqb-true (h .extlen) 0 (f .extras))),
+                  (
+                    (λ q f r. count-right true (key-there _ refl f)),
+                    (
+                      (λ q f r. count-right false (key-there _ refl f)),
+                      (
+                        (λ q f r. (tt, tt)),
+                        (
+                          (λ q f r. (tt, tt)),
+                          (
+                            (λ q f r. carries Set _ refl refl (λ t. no t) f r),
+                            (
+                              (λ q f r. carries Add _ refl refl (λ t. no t) f r),
+                              ((λ q f r. carries Delete _ refl refl (λ t. refl) f r), tt),
+                            ),
+                          ),
+                        ),
+                      ),
+                    ),
+                  ),
+                ),
+              ),
+            ),
+          ),
+        ),
+      )
+      (λ f r. (tt, tt))
+      (λ f r. (tt, tt))
+      form fields

@@ -7,7 +7,7 @@ use Rattle.digits.specs.Decimal.{digits, digitsIn, numberOf, numberFrom, allDig
 use Rattle.numbers.specs.Order.{greater, above, lead, second}
 use Rattle.numbers.specs.Expiry.{expired, passes, absolute}
 use Rattle.document.specs.Stored.{accepted, live}
-use Rattle.shape.specs.Shapes.{commands, bare, unbuilt, lookUp, among, shapeOf}
+use Rattle.shape.specs.Shapes.{commands, unbuilt, lookUp, among, shapeOf}
 use Rattle.header.specs.Header.{headerOf, frontBytes, middleBytes, backBytes, headerBytes}
 use Rattle.rules.specs.WithMeta.{carriedNumbers, optionsOf, sectionOf, withMeta}
 use Rattle.rules.specs.Section.{fieldOk, fieldSize, walk, fieldsOk, sectionOk}
@@ -15,7 +15,7 @@ use Rattle.rules.specs.Rules.{formOk, numbersOk, bodyOk, withMetaOk, metaSize, 
 use Rattle.request.specs.Reading.{gateOf, extrasSpan, keySpan, valueSpan, frameStatus}
 use Rattle.commands.specs.Rules.{ruleOf, testsOf, firstStatus, firstFailure}
 use Rattle.commands.specs.Done.{decision, doneOf}
-use Rattle.decode.specs.Decode.{plainOf, counterOf, metaCommand, plainCommand, commandOf, bareValue, requestOf}
+use Rattle.decode.specs.Decode.{plainOf, counterOf, metaCommand, commandOf, bareValue, requestOf}
 use Rattle.rows.specs.Row.{slotOf, sizeBytes, shortBytes, longBytes, slotBytes, docOf, keyOf, rowOf, slotFor, usedBytes, rowBytes}
 use Rattle.rows.specs.Table.{headOf, tableOf, headBytes, tableBytes}
 use Rattle.plain.specs.Damage.{sound}
@@ -26,5 +26,5 @@ use Rattle.serving.specs.Serve.{gateAll, decisionOn, answerOn, frameTable, fram
 use Rattle.promises.specs.Judged.{Judged}
 
 pub judged-examples : Judged
-unfolding pasted written beFrom be bytesOf zeros same digits digitsIn numberOf numberFrom allDigits isDigit valueFrom greater above lead second expired passes absolute accepted live commands bare unbuilt lookUp among shapeOf headerOf frontBytes middleBytes backBytes headerBytes carriedNumbers optionsOf sectionOf withMeta fieldOk fieldSize walk fieldsOk sectionOk formOk numbersOk bodyOk withMetaOk metaSize fieldRulesOk judged status gateOf extrasSpan keySpan valueSpan frameStatus ruleOf testsOf firstStatus firstFailure decision doneOf plainOf counterOf metaCommand plainCommand commandOf bareValue requestOf slotOf sizeBytes shortBytes longBytes slotBytes docOf keyOf rowOf slotFor usedBytes rowBytes headOf tableOf headBytes tableBytes sizeOk headOk usedOk rowSound sound stored replyHeader replyBytes gateAll decisionOn answerOn frameTable frameReply served servedTable servedReply
+unfolding pasted written beFrom be bytesOf zeros same digits digitsIn numberOf numberFrom allDigits isDigit valueFrom greater above lead second expired passes absolute accepted live commands unbuilt lookUp among shapeOf headerOf frontBytes middleBytes backBytes headerBytes carriedNumbers optionsOf sectionOf withMeta fieldOk fieldSize walk fieldsOk sectionOk formOk numbersOk bodyOk withMetaOk metaSize fieldRulesOk judged status gateOf extrasSpan keySpan valueSpan frameStatus ruleOf testsOf firstStatus firstFailure decision doneOf plainOf counterOf metaCommand commandOf bareValue requestOf slotOf sizeBytes shortBytes longBytes slotBytes docOf keyOf rowOf slotFor usedBytes rowBytes headOf tableOf headBytes tableBytes sizeOk headOk usedOk rowSound sound stored replyHeader replyBytes gateAll decisionOn answerOn frameTable frameReply served servedTable servedReply
 judged-examples = refl

@@ -1,7 +1,7 @@
 -- A merging call on bytes is a merging call on abstract tables.
 use Prim.Native.Nat.{ℕ, _+_, _-_, _≤_}
 use mathlib.Core.Path.{_≡_, refl}
-use mathlib.Core.Bool.{true, false, not, _||_}
+use mathlib.Core.Bool.{true, false, not}
 use mathlib.Core.Logic.{⊎-elim}
 use mathlib.Core.List.{List, [], _∷_, map}
 use native.Mathlib.Omega.{arith}
@@ -13,7 +13,7 @@ use Rattle.octets.proofs.Lists.{part-length, part-most}
 use Rattle.numbers.specs.declared.Mode.{Mode}
 use Rattle.numbers.specs.declared.Mode.the-variants.{ByRevision, LastWrite}
 use Rattle.shape.specs.declared.Shape.{Shape}
-use Rattle.shape.specs.Shapes.{shapeOf}
+use Rattle.shape.specs.Shapes.{among, shapeOf}
 use Rattle.header.specs.declared.Header.{Header}
 use Rattle.header.specs.Header.{headerOf}
 use Rattle.rules.specs.declared.WithMeta.{WithMeta}
@@ -29,25 +29,27 @@ use Rattle.commands.specs.declared.Command.the-variants.{WithMeta as Metas}
 use Rattle.commands.specs.Rules.{isLast}
 use Rattle.commands.specs.Merging.{SetOrDelete, meta, metaIn}
 use Rattle.commands.specs.Merging as abstract
-use Rattle.decode.specs.Decode.{either, commandOf, bareValue, requestOf}
+use Rattle.decode.specs.Decode.{commandOf, bareValue, requestOf}
 use Rattle.decode.specs.Decode as decoding
 use Rattle.merge.specs.Merge.{All}
 use Rattle.promises.specs.Calls.{Call}
 use Rattle.promises.specs.Merge.{optionsFor, MergingCall}
+use Rattle.promises.proofs.Formed.{no}
 
 -- what a call asks for
 abbrev pub asked : Call → abstract.RequestAt
 asked c = record { clock = c .clock; request = requestOf (c .received) (headerOf (c .received)) }
 
 -- ---- the command
-kind-of : (op : ℕ) (extras : List ℕ) → (either op 0xa2 0xa3 || either op 0xa8 0xa9) ≡ true
-    → (k : Kind) × SetOrDelete k × (commandOf op extras ≡ decoding.metaCommand k (withMeta extras))
-unfolding commandOf
+kind-of : (op : ℕ) (extras : List ℕ) → among op (0xa2 ∷ 0xa3 ∷ 0xa8 ∷ 0xa9 ∷ []) ≡ true
+    → (k : Kind) × SetOrDelete k × (commandOf (shapeOf op .operation) extras ≡ decoding.metaCommand k (withMeta extras))
+unfolding among commandOf shapeOf
 kind-of op extras e =
-    ⊎-elim
-    (λ s. ⊎-elim (λ z. rw (eqb-true op 0xa2 z) (Set, tt, refl)) (λ z. rw (eqb-true op 0xa3 z) (Set, tt, refl)) (one-of (eqb op 0xa2) (eqb op 0xa3) s))
-    (λ s. ⊎-elim (λ z. rw (eqb-true op 0xa8 z) (Delete, tt, refl)) (λ z. rw (eqb-true op 0xa9 z) (Delete, tt, refl)) (one-of (eqb op 0xa8) (eqb op 0xa9) s))
-    (one-of (either op 0xa2 0xa3) (either op 0xa8 0xa9) e)
+    ⊎-elim (λ z. rw (eqb-true op 0xa2 z) (Set, tt, refl))
+    (λ e₁. ⊎-elim (λ z. rw (eqb-true op 0xa3 z) (Set, tt, refl))
+    (λ e₂. ⊎-elim (λ z. rw (eqb-true op 0xa8 z) (Delete, tt, refl))
+    (λ e₃. ⊎-elim (λ z. rw (eqb-true op 0xa9 z) (Delete, tt, refl)) (λ z. no z)
+    (one-of (eqb op 0xa9) _ e₃)) (one-of (eqb op 0xa8) _ e₂)) (one-of (eqb op 0xa3) _ e₁)) (one-of (eqb op 0xa2) _ e)
 
 record Metaed (m : Mode) (x : Command) : Type 0 where
   with-meta : x ≡ Metas (metaIn x)
@@ -90,7 +92,7 @@ merging-asked m v c p =
     let s = c .received in
     let h = headerOf s in
     let (k, d, e) = kind-of (h .opcode) (bytesIn s (extrasSpan h)) (p .opcode) in
-    let x = metaed m (commandOf (h .opcode) (bytesIn s (extrasSpan h))) k (withMeta (bytesIn s (extrasSpan h))) d e (p .options) in
+    let x = metaed m (commandOf (shapeOf (h .opcode) .operation) (bytesIn s (extrasSpan h))) k (withMeta (bytesIn s (extrasSpan h))) d e (p .options) in
     record {
       with-meta = x .with-meta;
       kind = x .kind;

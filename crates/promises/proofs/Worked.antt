@@ -18,7 +18,7 @@ use Rattle.numbers.specs.Order.{greater}
 use Rattle.document.specs.Documents.{Key, Doc}
 use Rattle.engine.specs.Engine.{isSome}
 use Rattle.document.specs.Stored.{accepted}
-use Rattle.shape.specs.Shapes.{shapeOf}
+use Rattle.shape.specs.Shapes.{among, shapeOf}
 use Rattle.header.specs.Header.{headerOf}
 use Rattle.rules.specs.WithMeta.{withMeta}
 use Rattle.rules.specs.Section.{sectionOk}
@@ -28,7 +28,7 @@ use Rattle.request.specs.declared.Gate.the-variants.{Whole}
 use Rattle.request.specs.Reading.{gateOf, extrasSpan, keySpan, frameStatus, bytesIn}
 use Rattle.commands.specs.Rules.{ruleOf, testsOf, firstStatus, firstFailure}
 use Rattle.commands.specs.Done.{decision, doneOf}
-use Rattle.decode.specs.Decode.{either, requestOf}
+use Rattle.decode.specs.Decode.{requestOf}
 use Rattle.rows.specs.Row.{slotOf, rowOf, rowBytes}
 use Rattle.rows.specs.Table.{tableOf, tableBytes}
 use Rattle.rows.specs.Find.{freeRows}
@@ -70,7 +70,7 @@ facts c =
       bytes = below (c .received);
       room = leb 1302 (length (c .reply));
       gate = gateOf (c .received);
-      opcode = either (h .opcode) 0xa2 0xa3 || either (h .opcode) 0xa8 0xa9;
+      opcode = among (h .opcode) (0xa2 ∷ 0xa3 ∷ 0xa8 ∷ 0xa9 ∷ []);
       form = frameStatus (c .received) h;
       options = withMeta (bytesIn (c .received) (extrasSpan h)) .options;
       vbucket = h .vbucket;
@@ -140,7 +140,7 @@ module _ (b : List ℕ) (cs : List Call) where
 
 -- ---- computed from bytes to bytes
 worked-computed : Computed (table 1) (calls 1) × Computed (table 2) (calls 2)
-unfolding be bytesOf zeros same shapeOf headerOf withMeta sectionOk status gateOf keySpan frameStatus requestOf slotOf rowOf rowBytes tableOf tableBytes sizeOk headOk usedOk rowSound sound
+unfolding be bytesOf zeros same among shapeOf headerOf withMeta sectionOk status gateOf keySpan frameStatus requestOf slotOf rowOf rowBytes tableOf tableBytes sizeOk headOk usedOk rowSound sound
 worked-computed = (
   record { bytes = refl; undamaged = refl; active = refl; merging = refl; room = refl; rows = search; sent = search },
   record { bytes = refl; undamaged = refl; active = refl; merging = refl; room = refl; rows = search; sent = search },

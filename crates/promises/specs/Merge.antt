@@ -1,8 +1,8 @@
 -- Demand 3 on bytes: a whole list of serving calls with opcodes a2, a3, a8 and a9, from any undamaged active table.
 use Prim.Native.Nat.{ℕ, _≤_}
 use mathlib.Core.Path.{_≡_}
-use mathlib.Core.Bool.{true, false, _||_}
-use mathlib.Core.List.{List, [], _++_, map}
+use mathlib.Core.Bool.{true, false}
+use mathlib.Core.List.{List, [], _∷_, _++_, map}
 use mathlib.Core.Option.{Option, some}
 use lib.ListN.{length}
 use Rattle.octets.specs.Parts.{Bytes}
@@ -12,12 +12,13 @@ use Rattle.numbers.specs.Order.{modeOf}
 use Rattle.document.specs.Documents.{Key, Doc, Entry}
 use Rattle.engine.specs.Engine.{isSome}
 use Rattle.document.specs.Head.{marked}
+use Rattle.shape.specs.Shapes.{among}
 use Rattle.header.specs.Header.{headerOf}
 use Rattle.rules.specs.WithMeta.{withMeta}
 use Rattle.request.specs.declared.Gate.the-variants.{Whole}
 use Rattle.request.specs.Reading.{gateOf, frameStatus, extrasSpan, bytesIn}
 use Rattle.commands.specs.Merging.{writeOf}
-use Rattle.decode.specs.Decode.{either, requestOf}
+use Rattle.decode.specs.Decode.{requestOf}
 use Rattle.rows.specs.Table.{tableOf}
 use Rattle.plain.specs.Damage.{sound}
 use Rattle.rows.specs.Find.{findRow, freeRows}
@@ -46,7 +47,7 @@ pub record MergingCall (m : Mode) (vbucket : ℕ) (c : Call) : Type 0 where
   pub bytes : Bytes (c .received)
   pub room : 1302 ≤ length (c .reply)
   pub whole : gateOf (c .received) ≡ Whole (headerOf (c .received))
-  pub opcode : (either (headerOf (c .received) .opcode) 0xa2 0xa3 || either (headerOf (c .received) .opcode) 0xa8 0xa9) ≡ true
+  pub opcode : among (headerOf (c .received) .opcode) (0xa2 ∷ 0xa3 ∷ 0xa8 ∷ 0xa9 ∷ []) ≡ true
   pub form : frameStatus (c .received) (headerOf (c .received)) ≡ 0
   pub options : withMeta (bytesIn (c .received) (extrasSpan (headerOf (c .received)))) .options ≡ optionsFor m
   pub here : headerOf (c .received) .vbucket ≡ vbucket

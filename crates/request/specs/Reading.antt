@@ -7,6 +7,7 @@ use lib.Dec.{ltb, eqb}
 use Rattle.octets.specs.Parts.{part}
 use Rattle.shape.specs.Shapes.{shapeOf}
 use Rattle.header.specs.Header.{headerOf}
+use Rattle.header.specs.Layout.{layoutOf}
 use Rattle.header.specs.declared.Header.{Header}
 use Rattle.rules.specs.Rules.{status, metaSize}
 use Rattle.request.specs.declared.Fields.{Fields}
@@ -37,15 +38,15 @@ gateOf s =
     (cond (ltb (length s) (24 + headerOf s .body)) (Stop 1 (24 + headerOf s .body))
     (Whole (headerOf s)))))
 
--- where extras, key and value stand in a frame: one after the other, after the header
+-- extras, key and value of a frame
 unfoldable pub extrasSpan : Header → Span
-extrasSpan h = record { at = 24; len = h .extlen }
+extrasSpan h = record { at = layoutOf h .extras; len = h .extlen }
 
 unfoldable pub keySpan : Header → Span
-keySpan h = record { at = 24 + h .extlen; len = h .keylen }
+keySpan h = record { at = layoutOf h .key; len = h .keylen }
 
 unfoldable pub valueSpan : Header → Span
-valueSpan h = record { at = 24 + h .extlen + h .keylen; len = h .body - (h .extlen + h .keylen) }
+valueSpan h = record { at = layoutOf h .value; len = h .body - (h .extlen + h .keylen) }
 
 -- the bytes of a span
 abbrev pub bytesIn : List ℕ → Span → List ℕ

@@ -164,10 +164,12 @@ fn serve_parts(
         × ((now (b .exit) ≡ frameTable (now (b .entry)) clock (now (s .entry)) h)
         × (now (out .exit) ≡ written (now (out .entry)) 0 (frameReply (now (b .entry)) clock (now (s .entry)) h))) ⌝ }
 {
-    let a = 24 + h.extlen as usize;
-    let k = a + h.keylen as usize;
-    let end = 24 + h.body as usize;
-    let extras = &s[24..a];
+    let l = header::layout_of(h);
+    let start = l.extras;
+    let a = l.key;
+    let k = l.value;
+    let end = l.end;
+    let extras = &s[start..a];
     let key = &s[a..k];
     let value = &s[k..end];
     match decode::decoded_by(shape, h, extras, value) {
