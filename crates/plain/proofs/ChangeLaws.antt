@@ -12,7 +12,6 @@ use Rattle.octets.specs.BigEndian.{bytesOf}
 use Rattle.octets.proofs.Choices.{cases}
 use Rattle.octets.proofs.Lists.{pasted-skip, pasted-over}
 use Rattle.document.specs.Documents.{Doc, Entry}
-use Rattle.document.specs.declared.Head.{Head}
 use Rattle.rows.specs.Row.{Row, rowBytes}
 use Rattle.rows.specs.Table.{Table, headBytes, rowsBytes, tableBytes, withRow, withMark, fresh}
 use Rattle.plain.specs.Store.{stored}
@@ -22,6 +21,7 @@ use Rattle.rows.specs.Good.{EntryGood, AllGood}
 use Rattle.plain.proofs.PlainLaws.{plain-laws}
 use Rattle.plain.proofs.Places.{at-place}
 use Rattle.rows.proofs.RowLaws.{RowGood, row-length}
+use Rattle.rows.proofs.Writes.{head-length}
 use Rattle.plain.proofs.TableLaws.{good-first, good-more, table-count}
 
 -- a higher mark keeps rows good
@@ -59,10 +59,6 @@ module _ (mark : ℕ) (w : Row) (r : RowGood mark w) where
       rw e
       (pasted-skip (rowBytes v) (rowsBytes ws) 1312 (i * 1312) (rowBytes w) (row-length mark v (q .0))
       ∙ ap (λ (t : List ℕ). rowBytes v ++ t) (rows-put ws i (q .1) (omega arith)))
-
-pub head-length : (h : Head) → length (headBytes h) ≡ 16
-unfolding headBytes bytesOf
-head-length h = refl
 
 module _ (t : Table) where
   pub row-put : (mark i : ℕ) (w : Row) → RowGood mark w → AllGood mark (t .rows) → i < length (t .rows) → pasted (tableBytes t) (16 + i * 1312) (rowBytes w) ≡ tableBytes (withRow t i w)
