@@ -25,11 +25,9 @@ same-length c = search needs
 
 returns-2 : tie.Need-returns-2
 returns-2 c =
-    let a =
     let at4 = c .before .before .before .before in
     let at5 = at4 .before in
-    let at7 = at5 .before .before in
-    (at7 .args) in
+    let a = at5 .before .before .args in
     let m = accepted (a .s .now) (a .rows) (a .state) (a .mode) (a .vbucket) (sym (at5 .make-ok .ensures) ∙ not-false _ (at4 .if1 .left)) in
     (m .0, (c .before .before .put-fresh) .ensures ∙ m .1)
 
