@@ -2,12 +2,15 @@
 use crate::show;
 use crate::text;
 use crate::text::Given;
+use document::Head;
+use document::Metadata;
+use engine::Place;
 use numbers::Cas;
 use numbers::Numbers;
 use numbers::Revision;
 use owner::Document;
 use owner::Purged;
-use plain::Found;
+use table::Lookup;
 
 // What the memory holds before a table is made in it, and the reply area before a frame is served.
 pub(crate) const FILL: u8 = 0xee;
@@ -77,7 +80,7 @@ pub(crate) fn dump(g: Given, s: &[u8]) {
 }
 
 pub(crate) fn sound(s: &[u8]) {
-    if plain::damage::is_sound(s) {
+    if table::is_sound(s) {
         show::text(b"sound");
         return;
     }
@@ -109,28 +112,52 @@ pub(crate) fn poke(g: Given, spelled: &[u8], s: &mut [u8], space: &mut [u8]) {
     show::text(b"poked");
 }
 
-fn store_at(g: Given, key: &[u8], value: &[u8], s: &mut [u8], i: usize) {
-    let n = g.numbers;
-    let given = Numbers {
-        flags: as_u32(n[1]),
-        expiry: as_u32(n[2]),
-        revision: Revision(n[3]),
-        cas: Cas(n[4]),
-    };
-    plain::store::store(s, i, key, n[0] == 1, given, value, Cas(n[5]), 1280);
-    show::decimal(b"place ", i as u64);
+// The head with another mark.
+fn put_mark(s: &mut [u8], mark: Cas) {
+    let h = rows::head_of(s);
+    rows::put_head(
+        s,
+        Head {
+            state: h.state,
+            mode: h.mode,
+            vbucket: h.vbucket,
+            clock: h.clock,
+            mark,
+        },
+    );
 }
 
-fn store_found(g: Given, key: &[u8], value: &[u8], s: &mut [u8], f: Found) {
-    match f {
-        Found::At(i) => store_at(g, key, value, s, i),
-        Found::Nothing => show::text(b"no place"),
+fn store_by(g: Given, key: &[u8], value: &[u8], s: &mut [u8], l: Lookup) {
+    let n = g.numbers;
+    let given = Metadata {
+        tomb: n[0] == 1,
+        numbers: Numbers {
+            flags: as_u32(n[1]),
+            expiry: as_u32(n[2]),
+            revision: Revision(n[3]),
+            cas: Cas(n[4]),
+        },
+    };
+    table::store(s, l, key, given, value);
+    put_mark(s, Cas(n[5]));
+}
+
+fn show_place(p: Place) {
+    match p {
+        Place::Over(i) => show::decimal(b"place ", i as u64),
+        Place::Into(i) => show::decimal(b"place ", i as u64),
+        Place::Full => show::text(b"no place"),
     }
 }
 
 fn store_entry(g: Given, key: &[u8], value: &[u8], s: &mut [u8]) {
-    let f = plain::lookup::place(s, key);
-    store_found(g, key, value, s, f);
+    let l = table::find(s, key, true);
+    let p = l.place;
+    show_place(p);
+    if !table::has_place(p) {
+        return;
+    }
+    store_by(g, key, value, s, l);
 }
 
 // Where the key and the value end in the space, and whether the line spells them.
