@@ -80,7 +80,15 @@ fn key_size(r: Reply, key: &[u8]) -> usize
 }
 
 // The header of every reply. The status stands in place of the vbucket.
-fn header_with(op: u8, opaque: u32, status: u8, keylen: u16, extlen: u8, body: u32, cas: Cas) -> Header
+fn header_with(
+    op: u8,
+    opaque: u32,
+    status: u8,
+    keylen: u16,
+    extlen: u8,
+    body: u32,
+    cas: Cas,
+) -> Header
     ensures { λ r. ⌜ r ≡ headerWith op opaque status keylen extlen body cas ⌝ }
 {
     Header {
@@ -107,14 +115,7 @@ fn reply_header(op: u8, opaque: u32, d: Decision, key: &[u8], old: &[u8], body: 
     header_with(op, opaque, d.status, k, e, body as u32, done.cas)
 }
 
-fn put_fitting(
-    out: &mut [u8],
-    op: u8,
-    opaque: u32,
-    d: Decision,
-    key: &[u8],
-    old: &[u8],
-) -> usize
+fn put_fitting(out: &mut [u8], op: u8, opaque: u32, d: Decision, key: &[u8], old: &[u8]) -> usize
     requires { ⌜ (1302 ≤ length (now out)) × ((length (now key) ≤ 250) × (length (now old) ≤ 1024)) ⌝ }
     ensures { λ r. ⌜ (r ≡ length (replyBytes op opaque d (now (key .entry)) (now (old .entry))))
         × (now (out .exit) ≡ written (now (out .entry)) 0 (replyBytes op opaque d (now (key .entry)) (now (old .entry)))) ⌝ }

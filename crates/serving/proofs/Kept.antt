@@ -28,7 +28,7 @@ use Rattle.rows.specs.Row.{Row}
 use Rattle.rows.specs.Find.{findRow}
 use Rattle.rows.specs.Good.{AllGood}
 use Rattle.octets.proofs.Options.{none-some}
-use Rattle.promises.proofs.Formed.{by-cond, Named}
+use Rattle.serving.proofs.Formed.{by-cond, Named}
 
 module _ (h : Head) (frame old : List ℕ) (n : ℕ) where
   abbrev stores : Done → Option Doc
