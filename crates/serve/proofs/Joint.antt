@@ -1,8 +1,9 @@
 -- What serving a frame's callees say, as what serving means: all their equations in, the answer, the reply and the table out.
-use Prim.Native.Nat.{ℕ, _+_}
+use Prim.Native.Nat.{ℕ, _+_, _≤_}
 use mathlib.Core.Path.{_≡_, refl, sym, ap, _∙_}
 use mathlib.Core.Bool.{Bool, true, false, not}
 use mathlib.Core.List.{List, [], append-nil}
+use mathlib.Core.Option.{Option}
 use lib.ListN.{length}
 use Rattle.octets.specs.Parts.{Bytes, written}
 use Rattle.header.proofs.HeaderLaws.{length-header}
@@ -24,17 +25,28 @@ use Rattle.commands.specs.Decide.{instructionOf, docFrom, bytesFrom}
 use Rattle.decode.specs.Decode.{requestOf, bareValue}
 use Rattle.plain.specs.declared.Found.{Found}
 use Rattle.rows.specs.declared.Slot.{Slot}
-use Rattle.rows.specs.Table.{tableOf, headOf}
+use Rattle.document.specs.Documents.{Doc}
+use Rattle.octets.proofs.Options.{options}
+use Rattle.engine.specs.Engine.{storeRow}
+use Rattle.plain.specs.Plain.{plain}
+use Rattle.plain.specs.Claims.{withEntry}
+use Rattle.rows.specs.Table.{tableOf, tableBytes, headOf, withMark}
 use Rattle.plain.specs.Lookup.{findIn, freeIn, orElse, placeIn, missing}
 use Rattle.plain.specs.Damage.{sound}
 use Rattle.serving.specs.declared.Served.{Served}
 use Rattle.serving.specs.declared.Served.the-variants.{Done}
 use Rattle.serving.specs.Reply.{replyHeader, replyBytes}
-use Rattle.serving.specs.Change.{storedAt, heldAt, valueIn}
-use Rattle.serving.specs.Serve.{reachesDecision, refusal, decisionOn, answerOn, frameTable, frameReply, answerBy}
-use Rattle.serving.proofs.Storing.{stored-none}
+use Rattle.serve.specs.Rows.{storedAt, heldAt, valueIn}
+use Rattle.serving.specs.Serve.{reachesDecision, refusal, decisionOn, answerOn, frameChange, frameTable, frameReply, answerBy}
+use Rattle.serve.proofs.Storing.{stored-none}
 use Rattle.serve.specs.Rows.{slotIn, heldBy, valueBy, placeFor}
-use Rattle.serve.specs.Bare.{bareHeader}
+use Rattle.reply.specs.Fitting.{bareHeader, fittingReply}
+use Rattle.reply.proofs.Replies.{fitting}
+use Rattle.serving.specs.Serves.{ServesFrame}
+use Rattle.serving.proofs.Change.{changing, unchanged}
+use Rattle.plain.proofs.TableLaws.{sound-good}
+use Rattle.plain.proofs.ChangeLaws.{store-good}
+use Rattle.plain.proofs.Places.{place-room}
 use Rattle.serve.proofs.Lookups.{held-found, value-found, free-found, value-place}
 use Rattle.serve.proofs.Placing.{held-by, value-by, placed, placed-table}
 
@@ -51,6 +63,27 @@ module _ (b s : List ℕ) (clock : ℕ) (h : Header) (f free : Found)
       let h3 = e3 ∙ ap (λ (x : Found). not (missing x)) er ∙ sym (free-found b) in
       let h4 = e4 ∙ ap (λ (x : Found). numberOf (valueIn b x)) ef ∙ ap numberOf (sym (value-found b key)) in
       rw g (ed ∙ (λ i. decision (e1 i) (h2 i) (h3 i) clock (h4 i) (e5 i)))
+
+-- storing what a frame asks for, at its key's place, is the engine's put
+changed-is : (b s : List ℕ) (clock : ℕ) (h : Header) → Bytes b → Bytes s → 24 + h .body ≤ length s → sound b ≡ true
+    → storedAt b (placeIn (bytesIn s (keySpan h)) (tableOf b .rows)) (bytesIn s (keySpan h)) (answerOn (tableOf b) clock s h .effect .store) (answerOn (tableOf b) clock s h .effect .head .mark .0)
+    ≡ frameTable b clock s h
+unfolding frameTable
+changed-is b s clock h y z w sb =
+    let t = tableOf b in
+    let key = bytesIn s (keySpan h) in
+    let x = answerOn t clock s h .effect in
+    let g = sound-good b y sb in
+    let c = changing t clock s h (g .1) z w in
+    options (x .store)
+    (λ e. ap (λ (o : Option Doc). storedAt b (placeIn key (t .rows)) key o (x .head .mark .0)) e ∙ stored-none b (placeIn key (t .rows)) key (x .head .mark .0)
+    ∙ sym (ap tableBytes (unchanged t clock s h e (c .keeps e)) ∙ g .0))
+    (λ d e.
+    let q = c .stores d e in
+    let (i, p) = place-room key (t .rows) (q .room) in
+    let v = store-good t i (record { key = key; doc = d }) (x .head .mark .0) (g .1) (q .entry) (q .grows) (q .fits) p in
+    let same : frameChange t clock s h ≡ withMark (withEntry t key d) (x .head .mark .0) = λ j. record { head = q .head j; rows = storeRow plain (t .rows) key (e j) } in
+    (λ j. storedAt (sym (g .0) j) (p j) key (e j) (x .head .mark .0)) ∙ v .bytes ∙ sym (ap tableBytes same))
 
 module _ (b s : List ℕ) (clock : ℕ) (h : Header) (d : Decision) (ed : d ≡ decisionOn (tableOf b) clock s h) where
   pub status-is : d .status ≡ answerOn (tableOf b) clock s h .effect .status
@@ -70,16 +103,17 @@ module _ (b s : List ℕ) (clock : ℕ) (h : Header) (d : Decision) (ed : d ≡ 
         → Done (d .status) (24 + h .body) n ≡ answerBy b clock s (Whole h)
     answer-is n en = λ i. Done (status-is i) (24 + h .body) ((en ∙ ap length reply-is) i)
 
-    module _ (place : Found) (v : List ℕ) (y : Bytes b) (sb : sound b ≡ true) (ep : place ≡ orElse f free) (ev : v ≡ bareValue s h) where
+    module _ (place : Found) (v : List ℕ) (y : Bytes b) (z : Bytes s) (w : 24 + h .body ≤ length s) (sb : sound b ≡ true) (ep : place ≡ orElse f free) (ev : v ≡ bareValue s h) where
       place-is : place ≡ orElse (findIn (bytesIn s (keySpan h)) 0 (tableOf b .rows)) (freeIn 0 (tableOf b .rows))
       place-is = ep ∙ (λ i. orElse ((ef ∙ ap (λ (x : List ℕ). findIn x 0 (tableOf b .rows)) ek) i) (er i))
 
       pub table-is : storedAt b place k (docFrom (d .done .store) (bytesFrom (d .done .source) v (valueIn b place))) (d .done .head .mark .0)
           ≡ frameTable b clock s h
-      unfolding frameTable answerOn requestOf
+      unfolding answerOn requestOf
       table-is =
-          let w = ap (valueIn b) place-is ∙ value-place b y sb (bytesIn s (keySpan h)) in
-          λ i. storedAt b (place-is i) (ek i) (docFrom (ed i .done .store) (bytesFrom (ed i .done .source) (ev i) (w i))) (ed i .done .head .mark .0)
+          let vals = ap (valueIn b) place-is ∙ value-place b y sb (bytesIn s (keySpan h)) in
+          (λ i. storedAt b (place-is i) (ek i) (docFrom (ed i .done .store) (bytesFrom (ed i .done .source) (ev i) (vals i))) (ed i .done .head .mark .0))
+          ∙ changed-is b s clock h y z w sb
 
 -- ---- a frame whose status the reader gives: its reply is a bare header
 bare-reply : (op opaque : ℕ) (hd : Head) (st : ℕ) → replyBytes op opaque (refusal hd st) [] [] ≡ headerBytes (bareHeader op opaque st)
@@ -98,9 +132,10 @@ module _ (b s : List ℕ) (clock : ℕ) (h : Header) (g : reachesDecision (frame
   unfolding frameReply replyBytes
   refused-reply = rw refused-is
 
-  pub refused-table : frameTable b clock s h ≡ b
-  unfolding frameTable answerOn
-  refused-table = rw refused-is (stored-none b (placeIn (bytesIn s (keySpan h)) (tableOf b .rows)) (bytesIn s (keySpan h)) (headOf b .mark .0))
+  refused-table : Bytes b → sound b ≡ true → frameTable b clock s h ≡ b
+  unfolding frameTable answerOn tableOf
+  refused-table y sb =
+      ap tableBytes (unchanged (tableOf b) clock s h (rw refused-is) (rw refused-is)) ∙ sound-good b y sb .0
 
   pub refused-answer : (st n : ℕ) → st ≡ frameStatus s h → n ≡ length (replyBytes (h .opcode) (h .opaque) (refusal (headOf b) (frameStatus s h)) [] [])
       → Done st (24 + h .body) n ≡ answerBy b clock s (Whole h)
@@ -108,15 +143,14 @@ module _ (b s : List ℕ) (clock : ℕ) (h : Header) (g : reachesDecision (frame
   refused-answer st n es en = λ i. Done ((es ∙ sym (ap (λ (x : Decision). x .status) refused-is)) i) (24 + h .body) ((en ∙ ap length refused-reply) i)
 
   -- what answering with a bare header leaves
-  pub refused-by : (st : ℕ) (r : Served) (out out′ : List ℕ) → st ≡ frameStatus s h → r ≡ Done st (24 + h .body) 24
-      → out′ ≡ written out 0 (headerBytes (bareHeader (h .opcode) (h .opaque) st))
-      → (r ≡ answerBy b clock s (Whole h)) × ((b ≡ frameTable b clock s h) × (out′ ≡ written out 0 (frameReply b clock s h)))
-  refused-by st r out out′ es er eo =
+  pub refused-by : (st : ℕ) (r : Served) (out out′ : List ℕ) → Bytes b → sound b ≡ true → st ≡ frameStatus s h → r ≡ Done st (24 + h .body) 24
+      → out′ ≡ written out 0 (headerBytes (bareHeader (h .opcode) (h .opaque) st)) → ServesFrame b clock s h out r b out′
+  refused-by st r out out′ y sb es er eo =
       let w : headerBytes (bareHeader (h .opcode) (h .opaque) st) ≡ frameReply b clock s h =
       ap (λ (x : ℕ). headerBytes (bareHeader (h .opcode) (h .opaque) x)) es ∙ sym (bare-reply (h .opcode) (h .opaque) (headOf b) (frameStatus s h)) ∙ refused-reply in
       let n : 24 ≡ length (replyBytes (h .opcode) (h .opaque) (refusal (headOf b) (frameStatus s h)) [] []) =
       sym (ap length (bare-reply (h .opcode) (h .opaque) (headOf b) (frameStatus s h)) ∙ length-header _) in
-      (er ∙ refused-answer st 24 es n, (sym refused-table, eo ∙ ap (written out 0) w))
+      record { answer = er ∙ refused-answer st 24 es n; table = sym (refused-table y sb); reply = eo ∙ ap (written out 0) w }
 
 -- ---- the row's fixed part read once, and a free row looked for only where the key has none and the command writes
 module _ (b s : List ℕ) (clock : ℕ) (h : Header) (k : List ℕ) (f place : Found) (w : Bool) (slot : Slot) (old : List ℕ) (hd : Head) (q : Instruction) (d : Decision)
@@ -140,19 +174,21 @@ module _ (b s : List ℕ) (clock : ℕ) (h : Header) (k : List ℕ) (f place : F
   no-store z = ap (λ (x : Decision). x .done .store) placed-decision ∙ stores-none hd (heldAt b f) clock (numberOf (valueIn b f)) q (not (missing (freeIn 0 (tableOf b .rows)))) (sym ew ∙ z)
 
   -- what answering and storing by the decision leaves
-  pub formed-by : (v : List ℕ) (r : Served) (n : ℕ) (b′ out out′ : List ℕ) → Bytes b → sound b ≡ true → v ≡ bareValue s h
-      → n ≡ length (replyBytes (h .opcode) (h .opaque) d k old) → r ≡ Done (d .status) (24 + h .body) n
-      → out′ ≡ written out 0 (replyBytes (h .opcode) (h .opaque) d k old)
+  pub formed-by : (v : List ℕ) (r : Served) (n : ℕ) (b′ out out′ : List ℕ) → Bytes b → Bytes s → 24 + h .body ≤ length s → sound b ≡ true → v ≡ bareValue s h
+      → 1302 ≤ length out → length k ≤ 250 → length old ≤ 1024
+      → n ≡ length (fittingReply (length out) (h .opcode) (h .opaque) d k old) → r ≡ Done (d .status) (24 + h .body) n
+      → out′ ≡ written out 0 (fittingReply (length out) (h .opcode) (h .opaque) d k old)
       → b′ ≡ storedAt b place k (docFrom (d .done .store) (bytesFrom (d .done .source) v (valueIn b place))) (d .done .head .mark .0)
-      → (r ≡ answerBy b clock s (Whole h)) × ((b′ ≡ frameTable b clock s h) × (out′ ≡ written out 0 (frameReply b clock s h)))
-  formed-by v r n b′ out out′ y sb ev en er eout eb =
-      let free = freeIn 0 (tableOf b .rows) in (
-        er ∙ answer-is b s clock h d decision-is f free k old ek ef refl old-value n en,
-        (
-          eb
-              ∙ ap (λ (x : Found). storedAt b x k (docFrom (d .done .store) (bytesFrom (d .done .source) v (valueIn b x))) (d .done .head .mark .0)) ep
-              ∙ placed-table b free f w k (d .done .store) (d .done .source) v (d .done .head .mark .0) no-store
-              ∙ table-is b s clock h d decision-is f free k old ek ef refl old-value (orElse f free) v y sb refl ev,
-          eout ∙ ap (written out 0) (reply-is b s clock h d decision-is f free k old ek ef refl old-value),
-        ),
-      )
+      → ServesFrame b clock s h out r b′ out′
+  formed-by v r n b′ out out′ y z inside sb ev lo lk lv en er eout eb =
+      let free = freeIn 0 (tableOf b .rows) in
+      let fit = fitting (length out) (h .opcode) (h .opaque) d k old lo lk lv in
+      record {
+        answer = er ∙ answer-is b s clock h d decision-is f free k old ek ef refl old-value n (en ∙ ap length fit);
+        table =
+            eb
+            ∙ ap (λ (x : Found). storedAt b x k (docFrom (d .done .store) (bytesFrom (d .done .source) v (valueIn b x))) (d .done .head .mark .0)) ep
+            ∙ placed-table b free f w k (d .done .store) (d .done .source) v (d .done .head .mark .0) no-store
+            ∙ table-is b s clock h d decision-is f free k old ek ef refl old-value (orElse f free) v y z inside sb refl ev;
+        reply = eout ∙ ap (written out 0) (fit ∙ reply-is b s clock h d decision-is f free k old ek ef refl old-value);
+      }

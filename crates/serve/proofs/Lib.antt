@@ -1,4 +1,3 @@
-pub mod Replies
 pub mod Storing
 pub mod Lookups
 pub mod Placing

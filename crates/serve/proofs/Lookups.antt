@@ -32,7 +32,7 @@ use Rattle.plain.proofs.Places.{founds, nothing-at, find-place, find-nothing}
 use Rattle.rows.proofs.OneRow.{row-there, row-nowhere}
 use Rattle.rows.proofs.RowLaws.{RowGood, row-back}
 use Rattle.plain.proofs.TableLaws.{each-sound, sound-parts}
-use Rattle.serving.specs.Change.{heldAt, valueIn}
+use Rattle.serve.specs.Rows.{heldAt, valueIn}
 use Rattle.serving.specs.Serve.{reachesDecision}
 use Rattle.serve.specs.Rows.{usedAt, usedIn}
 

@@ -21,8 +21,8 @@ use Rattle.rows.specs.Row.{docOf}
 use Rattle.rows.specs.Table.{tableOf}
 use Rattle.plain.specs.Lookup.{freeIn, orElse, missing}
 use Rattle.plain.specs.Damage.{sound}
-use Rattle.serving.specs.Change.{storedAt, heldAt, valueIn}
-use Rattle.serving.proofs.Storing.{stored-none}
+use Rattle.serve.specs.Rows.{storedAt, heldAt, valueIn}
+use Rattle.serve.proofs.Storing.{stored-none}
 use Rattle.serve.specs.Rows.{slotIn, heldBy, valueBy, usedIn, placeFor}
 use Rattle.serve.proofs.Lookups.{free-used}
 

@@ -1,17 +1,37 @@
--- A key's row as serving reads it: its fixed part once, and the rest by that. On the row's own fixed part these are what serving/specs/Change.antt says of the row.
+-- For the code alone: a key's row as serving reads it, its fixed part once and the rest by that, and what is stored at a place.
 use Prim.Native.Nat.{ℕ, _+_}
 use mathlib.Core.Bool.{Bool, cond}
 use mathlib.Core.List.{List, []}
 use lib.Dec.{eqb}
 use Rattle.octets.specs.Parts.{part}
+use mathlib.Core.Option.{Option, none, some}
+use Rattle.document.specs.Documents.{Key, Doc}
+use Rattle.document.specs.Stored.{metadataOf}
 use Rattle.document.specs.declared.Stored.{Stored}
 use Rattle.document.specs.declared.Stored.the-variants.{Nothing as NoRow, Used}
 use Rattle.rows.specs.declared.Slot.{Slot}
 use Rattle.plain.specs.declared.Found.{Found}
 use Rattle.plain.specs.declared.Found.the-variants.{At, Nothing}
-use Rattle.rows.specs.Row.{slotOf}
+use Rattle.rows.specs.Row.{slotOf, docOf}
+use Rattle.plain.specs.Store.{stored}
 use Rattle.rows.specs.Table.{rowAt}
 use Rattle.plain.specs.Lookup.{orElse}
+
+-- a document for a key in the row at a place, with a mark; unchanged where there is nothing to store or no place
+abbrev pub storedAt : List ℕ → Found → Key → Option Doc → ℕ → List ℕ
+storedAt b (At i) key none mark = b
+storedAt b (At i) key (some d) mark = stored b i (record { key = key; doc = d }) mark
+storedAt b Nothing key none mark = b
+storedAt b Nothing key (some d) mark = b
+
+-- the row at a place as a decision sees it, and its value
+abbrev pub heldAt : List ℕ → Found → Stored
+heldAt b (At i) = Used (metadataOf (docOf (rowAt b i)))
+heldAt b Nothing = NoRow
+
+abbrev pub valueIn : List ℕ → Found → List ℕ
+valueIn b (At i) = docOf (rowAt b i) .value
+valueIn b Nothing = []
 
 -- the fixed part of the row at a place, a free one's where there is none
 abbrev pub slotIn : List ℕ → Found → Slot

@@ -9,7 +9,7 @@ ghost use Rattle.rows.specs.Row.{docOf};
 ghost use Rattle.plain.specs.Store.{stored};
 ghost use Rattle.rows.specs.Table.{rowAt};
 ghost use Rattle.plain.specs.Damage.{sound};
-ghost use Rattle.serving.specs.Change.{storedAt, valueIn};
+ghost use Rattle.serve.specs.Rows.{storedAt, valueIn};
 ghost use Rattle.serve.specs.Rows.{slotIn, heldBy, valueBy, usedAt, usedIn};
 use commands::Done;
 use commands::Source;

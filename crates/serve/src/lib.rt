@@ -1,6 +1,5 @@
 // Serving one request from received bytes on a table in lent memory: outcomes, decision, reply, store.
 mod change;
-mod reply;
 
 ghost use mathlib.Core.Path.{_≡_};
 ghost use mathlib.Core.Bool.{true, not};
@@ -18,15 +17,15 @@ ghost use Rattle.decode.specs.Decode.{requestOf, bareValue};
 ghost use Rattle.plain.specs.Lookup.{findIn, freeIn, missing};
 ghost use Rattle.plain.specs.Damage.{sound};
 ghost use Rattle.rows.specs.Table.{headOf, tableOf};
-ghost use Rattle.serving.specs.Serve.{reachesDecision, answerBy, frameTable, frameReply, served, servedTable, servedReply};
+ghost use Rattle.serving.specs.Serve.{reachesDecision};
+ghost use Rattle.serving.specs.Serves.{Serves, ServesFrame};
+ghost use Rattle.reply.specs.Fitting.{bareHeader};
 ghost use Rattle.serve.specs.Rows.{heldBy, placeFor};
-ghost use Rattle.serve.specs.Bare.{bareHeader};
 use commands::Decision;
 use commands::Instruction;
 use decode::Decoded;
 use document::Head;
 use header::Header;
-use numbers::Cas;
 use plain::Checked;
 use plain::Found;
 use request::Gate;
@@ -106,10 +105,8 @@ fn serve_formed(
     out: &mut [u8],
 ) -> Served
     requires { ⌜ (sound (now b) ≡ true) × ((head ≡ headOf (now b)) × (1302 ≤ length (now out))) ⌝ }
-    requires { ⌜ (reachesDecision (frameStatus (now s) h) ≡ true) × ((ask ≡ instructionOf (requestOf (now s) h)) × ((now key ≡ bytesIn (now s) (keySpan h)) × (part (now value) 0 (ask .size) ≡ bareValue (now s) h))) ⌝ }
-    ensures { λ r. ⌜ (r ≡ answerBy (now (b .entry)) clock (now (s .entry)) (Gate.Whole h))
-        × ((now (b .exit) ≡ frameTable (now (b .entry)) clock (now (s .entry)) h)
-        × (now (out .exit) ≡ written (now (out .entry)) 0 (frameReply (now (b .entry)) clock (now (s .entry)) h))) ⌝ }
+    requires { ⌜ (reachesDecision (frameStatus (now s) h) ≡ true) × ((ask ≡ instructionOf (requestOf (now s) h)) × ((now key ≡ bytesIn (now s) (keySpan h)) × ((part (now value) 0 (ask .size) ≡ bareValue (now s) h) × (24 + h .body ≤ length (now s))))) ⌝ }
+    ensures { λ r. ⌜ ServesFrame (now (b .entry)) clock (now (s .entry)) h (now (out .entry)) r (now (b .exit)) (now (out .exit)) ⌝ }
 {
     let f = find_key(b, key);
     let command = ask.command;
@@ -127,24 +124,10 @@ fn serve_formed(
 
 // Answers a frame whose status the reader gives: a bare header, and nothing stored.
 fn refused(out: &mut [u8], h: Header, status: u8) -> Served
-    requires { ⌜ 1302 ≤ length (now out) ⌝ }
     ensures { λ r. ⌜ (r ≡ Served.Done status (24 + h .body) 24)
         × (now (out .exit) ≡ written (now (out .entry)) 0 (headerBytes (bareHeader (h .opcode) (h .opaque) status))) ⌝ }
 {
-    header::put(
-        out,
-        Header {
-            magic: 0x81,
-            opcode: h.opcode,
-            keylen: 0,
-            extlen: 0,
-            datatype: 0,
-            vbucket: status as u16,
-            body: 0,
-            opaque: h.opaque,
-            cas: Cas(0),
-        },
-    );
+    reply::put_bare(out, h.opcode, h.opaque, status);
     Served::Done(status, 24 + h.body as usize, 24)
 }
 
@@ -160,9 +143,7 @@ fn serve_parts(
 ) -> Served
     requires { ⌜ (sound (now b) ≡ true) × ((head ≡ headOf (now b)) × (1302 ≤ length (now out))) ⌝ }
     requires { ⌜ (shape ≡ shapeOf (h .opcode)) × ((formStatus shape h ≡ 0) × (24 + h .body ≤ length (now s))) ⌝ }
-    ensures { λ r. ⌜ (r ≡ answerBy (now (b .entry)) clock (now (s .entry)) (Gate.Whole h))
-        × ((now (b .exit) ≡ frameTable (now (b .entry)) clock (now (s .entry)) h)
-        × (now (out .exit) ≡ written (now (out .entry)) 0 (frameReply (now (b .entry)) clock (now (s .entry)) h))) ⌝ }
+    ensures { λ r. ⌜ ServesFrame (now (b .entry)) clock (now (s .entry)) h (now (out .entry)) r (now (b .exit)) (now (out .exit)) ⌝ }
 {
     let a = 24 + h.extlen as usize;
     let k = a + h.keylen as usize;
@@ -178,9 +159,7 @@ fn serve_parts(
 
 fn serve_whole(b: &mut [u8], head: Head, clock: u32, s: &[u8], h: Header, out: &mut [u8]) -> Served
     requires { ⌜ (sound (now b) ≡ true) × ((head ≡ headOf (now b)) × ((1302 ≤ length (now out)) × (24 + h .body ≤ length (now s)))) ⌝ }
-    ensures { λ r. ⌜ (r ≡ answerBy (now (b .entry)) clock (now (s .entry)) (Gate.Whole h))
-        × ((now (b .exit) ≡ frameTable (now (b .entry)) clock (now (s .entry)) h)
-        × (now (out .exit) ≡ written (now (out .entry)) 0 (frameReply (now (b .entry)) clock (now (s .entry)) h))) ⌝ }
+    ensures { λ r. ⌜ ServesFrame (now (b .entry)) clock (now (s .entry)) h (now (out .entry)) r (now (b .exit)) (now (out .exit)) ⌝ }
 {
     let shape = shape::shape_of(h.opcode);
     let status = rules::form_status(shape, h);
@@ -193,9 +172,7 @@ fn serve_whole(b: &mut [u8], head: Head, clock: u32, s: &[u8], h: Header, out: &
 // On a table that is not damaged: the outcomes from 4 on, in the order tested.
 fn serve_sound(b: &mut [u8], head: Head, clock: u32, s: &[u8], out: &mut [u8]) -> Served
     requires { ⌜ (sound (now b) ≡ true) × (head ≡ headOf (now b)) ⌝ }
-    ensures { λ r. ⌜ (r ≡ served (now (b .entry)) clock (now (s .entry)) (length (now (out .entry))))
-        × ((now (b .exit) ≡ servedTable (now (b .entry)) clock (now (s .entry)) (length (now (out .entry))))
-        × (now (out .exit) ≡ servedReply (now (b .entry)) clock (now (s .entry)) (now (out .entry)))) ⌝ }
+    ensures { λ r. ⌜ Serves (now (b .entry)) clock (now (s .entry)) (now (out .entry)) r (now (b .exit)) (now (out .exit)) ⌝ }
 {
     if out.len() < 1302 {
         return Served::Refused(4, 0);
@@ -208,9 +185,7 @@ fn serve_sound(b: &mut [u8], head: Head, clock: u32, s: &[u8], out: &mut [u8]) -
 
 // Serves the request at the start of the received bytes. The tally stands apart.
 pub fn serve_one(b: &mut [u8], clock: u32, s: &[u8], out: &mut [u8]) -> Served
-    ensures { λ r. ⌜ (r ≡ served (now (b .entry)) clock (now (s .entry)) (length (now (out .entry))))
-        × ((now (b .exit) ≡ servedTable (now (b .entry)) clock (now (s .entry)) (length (now (out .entry))))
-        × (now (out .exit) ≡ servedReply (now (b .entry)) clock (now (s .entry)) (now (out .entry)))) ⌝ }
+    ensures { λ r. ⌜ Serves (now (b .entry)) clock (now (s .entry)) (now (out .entry)) r (now (b .exit)) (now (out .exit)) ⌝ }
 {
     match plain::damage::checked(b) {
         Checked::Damaged => Served::Refused(5, 0),

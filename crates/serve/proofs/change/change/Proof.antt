@@ -1,4 +1,4 @@
-use Rattle.serving.proofs.Storing.{stored-none}
+use Rattle.serve.proofs.Storing.{stored-none}
 use mathlib.Core.Path.{sym}
 use borrow.Author.Needs.{needs}
 use Rattle.serve.proofs.change.change.Statement.{statement}
