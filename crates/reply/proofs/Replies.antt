@@ -2,13 +2,14 @@
 use native.Mathlib.Omega.{arith}
 use mathlib.Core.Path.{_≡_, refl, sym, ap, _∙_}
 use mathlib.Core.Bool.{Bool, true, false, cond, _||_}
-use mathlib.Core.List.{List, [], _++_, append-nil}
+use mathlib.Core.List.{List, [], _++_}
 use Prim.Native.Nat.{ℕ, _+_, _≤_}
 use lib.ListN.{length, length-append}
 use lib.Dec.{ltb}
 use borrow.Author.Tests.{ltb-false, le-ltb}
 use Rattle.octets.specs.Parts.{written}
 use Rattle.octets.specs.BigEndian.{bytesOf}
+use Rattle.octets.proofs.Choices.{neither}
 use Rattle.octets.proofs.Lists.{before, written-none}
 use Rattle.header.specs.declared.Header.{Header}
 use Rattle.header.specs.Header.{headerBytes}
@@ -78,10 +79,6 @@ module _ (op opaque : ℕ) (d : Decision) (key old : List ℕ) where
       (sym z ∙ ap length p, q ∙ ap (λ (xs : List ℕ). written s0 0 xs) p)
 
 -- ---- the three bounds
-neither : (a b : Bool) → (a || b) ≡ false → (a ≡ false) × (b ≡ false)
-neither true b e = absurd (let z : _≡_ {A = ℕ} 0 1 = cc in omega arith)
-neither false b e = (refl, e)
-
 pub bounds : (room : ℕ) (key old : List ℕ) → unfit room key old ≡ false → (1302 ≤ room) × ((length key ≤ 250) × (length old ≤ 1024))
 bounds room key old e =
     let p = neither (ltb room 1302 || ltb 250 (length key)) (ltb 1024 (length old)) e in

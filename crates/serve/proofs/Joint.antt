@@ -42,6 +42,7 @@ use Rattle.serve.proofs.Storing.{stored-none}
 use Rattle.serve.specs.Rows.{slotIn, heldBy, valueBy, placeFor}
 use Rattle.reply.specs.Fitting.{bareHeader, fittingReply}
 use Rattle.reply.proofs.Replies.{fitting}
+use Rattle.reply.proofs.Frames.{bare-reply, refused-is, refused-reply, refused-length}
 use Rattle.serving.specs.Serves.{ServesFrame}
 use Rattle.serving.proofs.Change.{changing, unchanged}
 use Rattle.plain.proofs.TableLaws.{sound-good}
@@ -116,41 +117,27 @@ module _ (b s : List ℕ) (clock : ℕ) (h : Header) (d : Decision) (ed : d ≡ 
           ∙ changed-is b s clock h y z w sb
 
 -- ---- a frame whose status the reader gives: its reply is a bare header
-bare-reply : (op opaque : ℕ) (hd : Head) (st : ℕ) → replyBytes op opaque (refusal hd st) [] [] ≡ headerBytes (bareHeader op opaque st)
-unfolding replyBytes replyHeader
-bare-reply op opaque hd st = append-nil (headerBytes (bareHeader op opaque st))
-
-pub refusal-length : (op opaque : ℕ) (hd : Head) (st : ℕ) → length (replyBytes op opaque (refusal hd st) [] []) ≡ 24
-refusal-length op opaque hd st = ap length (bare-reply op opaque hd st) ∙ length-header _
-
 module _ (b s : List ℕ) (clock : ℕ) (h : Header) (g : reachesDecision (frameStatus s h) ≡ false) where
-  refused-is : decisionOn (tableOf b) clock s h ≡ refusal (headOf b) (frameStatus s h)
-  unfolding decisionOn tableOf
-  refused-is = rw g
-
-  pub refused-reply : replyBytes (h .opcode) (h .opaque) (refusal (headOf b) (frameStatus s h)) [] [] ≡ frameReply b clock s h
-  unfolding frameReply replyBytes
-  refused-reply = rw refused-is
-
   refused-table : Bytes b → sound b ≡ true → frameTable b clock s h ≡ b
   unfolding frameTable answerOn tableOf
   refused-table y sb =
-      ap tableBytes (unchanged (tableOf b) clock s h (rw refused-is) (rw refused-is)) ∙ sound-good b y sb .0
+      ap tableBytes (unchanged (tableOf b) clock s h (rw (refused-is b s clock h g)) (rw (refused-is b s clock h g))) ∙ sound-good b y sb .0
 
-  pub refused-answer : (st n : ℕ) → st ≡ frameStatus s h → n ≡ length (replyBytes (h .opcode) (h .opaque) (refusal (headOf b) (frameStatus s h)) [] [])
-      → Done st (24 + h .body) n ≡ answerBy b clock s (Whole h)
+  refused-status : answerOn (tableOf b) clock s h .effect .status ≡ frameStatus s h
   unfolding answerOn
-  refused-answer st n es en = λ i. Done ((es ∙ sym (ap (λ (x : Decision). x .status) refused-is)) i) (24 + h .body) ((en ∙ ap length refused-reply) i)
+  refused-status = ap (λ (x : Decision). x .status) (refused-is b s clock h g)
 
   -- what answering with a bare header leaves
   pub refused-by : (st : ℕ) (r : Served) (out out′ : List ℕ) → Bytes b → sound b ≡ true → st ≡ frameStatus s h → r ≡ Done st (24 + h .body) 24
       → out′ ≡ written out 0 (headerBytes (bareHeader (h .opcode) (h .opaque) st)) → ServesFrame b clock s h out r b out′
   refused-by st r out out′ y sb es er eo =
       let w : headerBytes (bareHeader (h .opcode) (h .opaque) st) ≡ frameReply b clock s h =
-      ap (λ (x : ℕ). headerBytes (bareHeader (h .opcode) (h .opaque) x)) es ∙ sym (bare-reply (h .opcode) (h .opaque) (headOf b) (frameStatus s h)) ∙ refused-reply in
-      let n : 24 ≡ length (replyBytes (h .opcode) (h .opaque) (refusal (headOf b) (frameStatus s h)) [] []) =
-      sym (ap length (bare-reply (h .opcode) (h .opaque) (headOf b) (frameStatus s h)) ∙ length-header _) in
-      record { answer = er ∙ refused-answer st 24 es n; table = sym (refused-table y sb); reply = eo ∙ ap (written out 0) w }
+      ap (λ (x : ℕ). headerBytes (bareHeader (h .opcode) (h .opaque) x)) es ∙ sym (bare-reply (h .opcode) (h .opaque) (headOf b) (frameStatus s h)) ∙ refused-reply b s clock h g in
+      record {
+        answer = er ∙ (λ i. Done ((es ∙ sym refused-status) i) (24 + h .body) (sym (refused-length b s clock h g) i));
+        table = sym (refused-table y sb);
+        reply = eo ∙ ap (written out 0) w;
+      }
 
 -- ---- the row's fixed part read once, and a free row looked for only where the key has none and the command writes
 module _ (b s : List ℕ) (clock : ℕ) (h : Header) (k : List ℕ) (f place : Found) (w : Bool) (slot : Slot) (old : List ℕ) (hd : Head) (q : Instruction) (d : Decision)
