@@ -17,13 +17,13 @@ use Rattle.owner.specs.declared.Purged.{Purged}
 use Rattle.owner.specs.declared.Purged.the-variants.{Damaged as NotPurged, Freed}
 use Rattle.owner.specs.Owner.{readOutcome, readStatus, purgeOutcome}
 use Rattle.run.specs.declared.Ran.{Ran}
-use Rattle.contacts.specs.declared.answers.Part.{Part}
-use Rattle.contacts.specs.declared.answers.ServedAnswer.{ServedAnswer}
-use Rattle.contacts.specs.declared.answers.RanAnswer.{RanAnswer}
-use Rattle.contacts.specs.declared.answers.DocumentAnswer.{DocumentAnswer}
-use Rattle.contacts.specs.declared.answers.PurgedAnswer.{PurgedAnswer}
-use Rattle.contacts.specs.declared.answers.RequestAnswer.{RequestAnswer}
-use Rattle.contacts.specs.declared.answers.WrittenAnswer.{WrittenAnswer}
+use Rattle.answers.specs.declared.Part.{Part}
+use Rattle.answers.specs.declared.ServedAnswer.{ServedAnswer}
+use Rattle.answers.specs.declared.RanAnswer.{RanAnswer}
+use Rattle.answers.specs.declared.DocumentAnswer.{DocumentAnswer}
+use Rattle.answers.specs.declared.PurgedAnswer.{PurgedAnswer}
+use Rattle.answers.specs.declared.RequestAnswer.{RequestAnswer}
+use Rattle.answers.specs.declared.WrittenAnswer.{WrittenAnswer}
 
 abbrev pub servedAnswer : Served → ServedAnswer
 servedAnswer (Refused n need) = record { outcome = n; status = 0; used = 0; reply = 0; needed = need }

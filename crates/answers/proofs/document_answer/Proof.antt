@@ -1,40 +1,31 @@
 use borrow.Author.Needs.{needs}
-use Rattle.contacts.proofs.answers.document_answer.Statement.{statement}
-use Rattle.contacts.proofs.answers.document_answer.Tie as tie
+use Rattle.answers.proofs.document_answer.Statement.{statement}
+use Rattle.answers.proofs.document_answer.Tie as tie
 
--- src/answers.rt:160:30
 enum-told : tie.Need-enum-told
 enum-told c = search needs
 
--- src/answers.rt:160:30
 no-document-requires : tie.Need-no-document-requires
 no-document-requires c κs = search needs
 
--- src/answers.rt:161:30
 enum-told-2 : tie.Need-enum-told-2
 enum-told-2 c = search needs
 
--- src/answers.rt:161:30
 no-document-requires-2 : tie.Need-no-document-requires-2
 no-document-requires-2 c κs = search needs
 
--- src/answers.rt:162:24
 enum-known-d : tie.Need-enum-known-d
 enum-known-d c = search needs
 
--- src/answers.rt:162:39
 live-answer-requires : tie.Need-live-answer-requires
 live-answer-requires c κs = search needs
 
--- src/answers.rt:156:1
 returns : tie.Need-returns
 returns c = rw (c .before .enum-told .given .1) (c .no-document .ensures)
 
--- src/answers.rt:156:1
 returns-2 : tie.Need-returns-2
 returns-2 c = rw (c .before .enum-told2 .given .1) (c .no-document2 .ensures)
 
--- src/answers.rt:156:1
 returns-3 : tie.Need-returns-3
 returns-3 c = rw (c .before .before .d .given .1) (c .live-answer .ensures)
 

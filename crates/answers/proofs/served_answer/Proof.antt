@@ -1,20 +1,16 @@
 use borrow.Author.Needs.{needs}
-use Rattle.contacts.proofs.answers.served_answer.Statement.{statement}
-use Rattle.contacts.proofs.answers.served_answer.Tie as tie
+use Rattle.answers.proofs.served_answer.Statement.{statement}
+use Rattle.answers.proofs.served_answer.Tie as tie
 
--- src/answers.rt:85:25
 enum-known-r : tie.Need-enum-known-r
 enum-known-r c = search needs
 
--- src/answers.rt:92:22
 enum-known-r-2 : tie.Need-enum-known-r-2
 enum-known-r-2 c = search needs
 
--- src/answers.rt:81:1
 returns : tie.Need-returns
 returns c = rw (c .before .r .given .1)
 
--- src/answers.rt:81:1
 returns-2 : tie.Need-returns-2
 returns-2 c = rw (c .before .r2 .given .1)
 

@@ -1,12 +1,10 @@
 use borrow.Author.Needs.{needs}
-use Rattle.contacts.proofs.answers.ran_answer.Statement.{statement}
-use Rattle.contacts.proofs.answers.ran_answer.Tie as tie
+use Rattle.answers.proofs.ran_answer.Statement.{statement}
+use Rattle.answers.proofs.ran_answer.Tie as tie
 
--- src/answers.rt:106:9
 served-answer-requires : tie.Need-served-answer-requires
 served-answer-requires c κs = search needs
 
--- src/answers.rt:102:1
 returns : tie.Need-returns
 returns c = simp (c .served-answer .ensures)
 

@@ -1,20 +1,16 @@
 use borrow.Author.Needs.{needs}
-use Rattle.contacts.proofs.answers.purged_answer.Statement.{statement}
-use Rattle.contacts.proofs.answers.purged_answer.Tie as tie
+use Rattle.answers.proofs.purged_answer.Statement.{statement}
+use Rattle.answers.proofs.purged_answer.Tie as tie
 
--- src/answers.rt:170:28
 enum-told : tie.Need-enum-told
 enum-told c = search needs
 
--- src/answers.rt:171:23
 enum-known-p : tie.Need-enum-known-p
 enum-known-p c = search needs
 
--- src/answers.rt:166:1
 returns : tie.Need-returns
 returns c = rw (c .enum-told .given .1)
 
--- src/answers.rt:166:1
 returns-2 : tie.Need-returns-2
 returns-2 c = rw (c .before .p .given .1)
 

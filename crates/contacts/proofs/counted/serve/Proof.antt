@@ -1,4 +1,4 @@
--- `store::serve` meets its contract: a walk of its MIR, by hand. The table and the reply go to `serve_one` and the tally to `count`, each at its own lifetime for good; the frame is copied. Assumes nothing.
+-- `counted::serve` meets its contract: a walk of its MIR, by hand. The table and the reply go to `serve_one` and the tally to `count`, each at its own lifetime for good; the frame is copied. Assumes nothing.
 use mathlib.Core.Path.{_≡_, refl, ap, sym, subst, _∙_}
 use Prim.Native.Nat.{ℕ, _<_, _^_}
 use mathlib.Core.List.{[], _∷_, List}
@@ -36,7 +36,7 @@ use denote.Triple.Spec.{Meets, tripleOf}
 use denote.Triple.Table.{entered, cited}
 use denote.Triple.Walked.{says, Stays, gave-ref, gave-slice, stay-none, stay-none-slice, walkOf, goes-none, goes-none-slice, goes-gave-ref, goes-gave-slice, Walks, ends-at, walked, walk-meets}
 use denote.Exit.{yes}
-use Rattle.serving.specs.Serve.{served, servedTable, servedReply}
+use Rattle.serving.specs.Serves.{Serves}
 use Rattle.tally.specs.Counts.{countedOf}
 use Rattle.tally.specs.declared.Tally.{Tally}
 use Rattle.serving.specs.declared.Served.{Served}
@@ -51,10 +51,10 @@ use Rattle.tally.proofs.count as count
 use Rattle.tally.proofs.count.Symbol as count-def
 use Rattle.tally.proofs.count.Symbol.{name as #tally·count}
 use Rattle.tally.proofs.count.Met as count-thm
-use Rattle.store.proofs.serve.Key.{name as #store·serve}
-use Rattle.store.proofs.serve as f
-use Rattle.store.proofs.serve.Statement as stated
-use Rattle.store.proofs.serve.Code as code
+use Rattle.contacts.proofs.counted.serve.Key.{name as #counted·serve}
+use Rattle.contacts.proofs.counted.serve as f
+use Rattle.contacts.proofs.counted.serve.Statement as stated
+use Rattle.contacts.proofs.counted.serve.Code as code
 
 abbrev stayed : Stays (f.ended .signature .params) (f.ended .kept)
 stayed = (gave-slice (0 ∷ []) tt (plain (λ _. u8)), (stay-none (λ _. u32) yes, (stay-none-slice (1 ∷ []) tt (plain (λ _. u8)) yes, (gave-slice (2 ∷ []) tt (plain (λ _. u8)), (gave-ref (3 ∷ []) tt (plain (λ _. T.the-row)), tt)))))
@@ -107,7 +107,7 @@ module _ {M : Type 1} (𝓤 : URA M) (H : Heap 𝓤) (A : Atoms 𝓤) (W : Given
 
   -- what `serve_one` says of its result and of the last lists
   abbrev Said : Served → List ℕ → List ℕ → Type 0
-  Said r zs ws = (r ≡ served ys c (now fr) (length rs)) × ((zs ≡ servedTable ys c (now fr) (length rs)) × (ws ≡ servedReply ys c (now fr) rs))
+  Said r zs ws = Serves ys c (now fr) rs r zs ws
 
   -- `serve_one`: what it is passed, and what it asks
   abbrev passed : RefT (List ℕ) × (ℕ × (RefT (List ℕ) × (RefT (List ℕ) × Unit {0})))
@@ -137,7 +137,7 @@ module _ {M : Type 1} (𝓤 : URA M) (H : Heap 𝓤) (A : Atoms 𝓤) (W : Given
   exits r u zs ws w is e lz lw e′ =
       qed W ((‵ (flft κ₃ q₃) ⊛ ‵ ftrue) ∷ ‵ (fres γ″ (T.the-row .coded .code w)) ∷ (‵ (flft κ₀ q₀) ⊛ ‵ (flft κ₁ q₁) ⊛ ‵ (flft κ₂ q₂) ⊛ ‵ ftrue) ∷ ‵ (finally u8 γ′ ws) ∷ ‵ (finally u8 γ zs) ∷ ‵ OwnF ∷ []) ∵
       suffices ! _ (ends-at 𝓤 H A f.ended stayed (f.clauses 𝓤 H A mem run) W bound u r (zs, (tt, (tt, (ws, (w, tt))))) (lz, (tt, (tt, (lw, (tt, tt)))))) $
-      says ! (e .0, (e .1 .0, (e .1 .1, e′ ∙ ap (countedOf h) (e .0)))) $
+      says ! (record { serves = e; tally = e′ }) $
       move ! (2 ∷ []) $ split ! $ move ! (1 ∷ []) $ split ! $ move ! (1 ∷ []) $ split ! $ move ! (0 ∷ 4 ∷ []) $ join ! $ move ! (2 ∷ 0 ∷ []) $ join ! $ move ! (2 ∷ 0 ∷ []) $ join ! $ frame ! $
       -- [true; the tally's last value; the reply's; the table's; the frame's]
       move ! (1 ∷ 0 ∷ []) $ fjoin ! $ move ! (1 ∷ 0 ∷ []) $ fjoin ! $ move ! (2 ∷ 0 ∷ []) $ fjoin ! $ owned ! u32 (Is u32) (uint-makes 𝓤 H A W w32) c _ (refl, c-fits) $ fjoin ! $ move ! (1 ∷ 0 ∷ []) $ fjoin ! $
@@ -206,7 +206,7 @@ pub serve-spec : {M : Type 1} → stated.statement M
 unfolding code.routine tablesOf
 serve-spec 𝓤 H 𝓜 𝓖 𝓡 =
     entered 𝓤 H (tripleOf 𝓤 H (𝓖 .A) f.signature (f.spec 𝓤 H (𝓖 .A) (𝓜 .mem) (𝓡 .run)))
-    (tables 𝓤 H 𝓜 𝓡 code.env .C) (tables 𝓤 H 𝓜 𝓡 code.env .Λ) #store·serve code.function (code.unfolded 𝓤 H 𝓜 𝓡)
+    (tables 𝓤 H 𝓜 𝓡 code.env .C) (tables 𝓤 H 𝓜 𝓡 code.env .Λ) #counted·serve code.function (code.unfolded 𝓤 H 𝓜 𝓡)
     (serve-meets 𝓤 H (𝓖 .A) (givenOf 𝓤 H 𝓜 𝓖) (𝓜 .mem) (𝓡 .run) (tablesOf 𝓤 H 𝓜 (tables 𝓤 H 𝓜 𝓡 code.env))
     (cited 𝓤 H (One 𝓤 H (𝓖 .A) (𝓜 .mem) (𝓡 .run)) 𝓜 𝓡 code.env #serve·serve-one one-def.routine code.calls-serve·serve-one (one-thm.met 𝓤 H 𝓜 𝓖 𝓡))
     (cited 𝓤 H (Count 𝓤 H (𝓖 .A) (𝓜 .mem) (𝓡 .run)) 𝓜 𝓡 code.env #tally·count count-def.routine code.calls-tally·count (count-thm.met 𝓤 H 𝓜 𝓖 𝓡)))

@@ -1,28 +1,22 @@
 use borrow.Author.Needs.{needs}
-use Rattle.contacts.proofs.answers.written_answer.Statement.{statement}
-use Rattle.contacts.proofs.answers.written_answer.Tie as tie
+use Rattle.answers.proofs.written_answer.Statement.{statement}
+use Rattle.answers.proofs.written_answer.Tie as tie
 
--- src/answers.rt:225:29
 enum-told : tie.Need-enum-told
 enum-told c = search needs
 
--- src/answers.rt:230:28
 enum-told-2 : tie.Need-enum-told-2
 enum-told-2 c = search needs
 
--- src/answers.rt:235:24
 enum-known-w : tie.Need-enum-known-w
 enum-known-w c = search needs
 
--- src/answers.rt:221:1
 returns : tie.Need-returns
 returns c = rw (c .enum-told .given .1)
 
--- src/answers.rt:221:1
 returns-2 : tie.Need-returns-2
 returns-2 c = rw (c .enum-told2 .given .1)
 
--- src/answers.rt:221:1
 returns-3 : tie.Need-returns-3
 returns-3 c = rw (c .before .w .given .1)
 

@@ -1,7 +1,7 @@
 // The answers as C takes them: structs of numbers, in which outcomes and statuses are document 01's. What an answer
 // doesn't have is 0.
 ghost use mathlib.Core.Path.{_≡_};
-ghost use Rattle.contacts.specs.Answers.{servedAnswer, ranAnswer, partOf, liveAnswer, noDocument, documentAnswer, purgedAnswer, requestRefused, requestShown, requestAnswer, writtenAnswer};
+ghost use Rattle.answers.specs.Answers.{servedAnswer, ranAnswer, partOf, liveAnswer, noDocument, documentAnswer, purgedAnswer, requestRefused, requestShown, requestAnswer, writtenAnswer};
 use numbers::Numbers;
 use owner::Document;
 use owner::Purged;
