@@ -1,7 +1,8 @@
 -- A key's row as a decision sees it: its kind and numbers, without the value.
 use Prim.Native.Nat.{ℕ}
-use mathlib.Core.Bool.{Bool, true, false, not, _&&_}
+use mathlib.Core.Bool.{Bool, true, false, not, _&&_, _||_}
 use mathlib.Core.Option.{Option, none, some}
+use lib.Dec.{leb}
 use Rattle.numbers.specs.declared.Numbers.{Numbers}
 use Rattle.numbers.specs.declared.Mode.{Mode}
 use Rattle.numbers.specs.Order.{greater}
@@ -36,3 +37,11 @@ numbersOf (Used d) = d .numbers
 unfoldable pub accepted : Mode → Stored → Numbers → Bool
 accepted m Nothing n = true
 accepted m (Used d) n = greater m n (d .numbers)
+
+-- "It frees exactly the tombstones and expired documents with CAS at or below the bound"
+unfoldable pub gone : ℕ → ℕ → Metadata → Bool
+gone clock bound m = (m .tomb || expired (m .numbers .expiry) clock) && leb (m .numbers .cas .0) bound
+
+unfoldable pub goneDoc : ℕ → ℕ → Doc → Bool
+unfolding gone
+goneDoc clock bound d = gone clock bound (metadataOf d)

@@ -1,6 +1,6 @@
-// What a store of documents is, apart from how memory holds it. An engine and its laws are in specs/Engine.antt.
+// What a store of documents is, apart from how memory holds it.
 ghost use mathlib.Core.Path.{_≡_};
-ghost use Rattle.document.specs.Stored.{live, hasRow, numbersOf, accepted};
+ghost use Rattle.document.specs.Stored.{live, hasRow, numbersOf, accepted, gone};
 use numbers::Cas;
 use numbers::Mode;
 use numbers::Numbers;
@@ -75,4 +75,11 @@ pub fn accepted(m: Mode, s: Stored, n: Numbers) -> bool
             numbers::greater(m, n, e)
         }
     }
+}
+
+// Whether a purge frees a row.
+pub fn gone(m: Metadata, clock: u32, bound: Cas) -> bool
+    ensures { λ r. ⌜ r ≡ gone clock (bound .0) m ⌝ }
+{
+    (m.tomb | numbers::expired(m.numbers.expiry, clock)) & (m.numbers.cas.0 <= bound.0)
 }

@@ -11,17 +11,18 @@ use Rattle.octets.specs.Parts.{pasted}
 use Rattle.octets.specs.BigEndian.{bytesOf}
 use Rattle.octets.proofs.Choices.{cases}
 use Rattle.octets.proofs.Lists.{pasted-skip, pasted-over}
-use Rattle.document.specs.Documents.{Doc, Entry}
-use Rattle.document.specs.declared.Head.{Head}
+use Rattle.document.specs.Documents.{Key, Doc, Entry}
+use Rattle.engine.specs.Engine.{Room}
 use Rattle.rows.specs.Row.{Row, rowBytes}
 use Rattle.rows.specs.Table.{Table, headBytes, rowsBytes, tableBytes, withRow, withMark, fresh}
 use Rattle.plain.specs.Store.{stored}
-use Rattle.plain.specs.Plain.{putRow, purgeRows, Distinct}
-use Rattle.plain.specs.Claims.{StoreGood, PurgeGood, FreshGood}
+use Rattle.plain.specs.Plain.{putRow, purgeRows, Distinct, plain}
+use Rattle.plain.specs.Claims.{Good, StoreGood, PurgeGood, FreshGood}
 use Rattle.rows.specs.Good.{EntryGood, AllGood}
 use Rattle.plain.proofs.PlainLaws.{plain-laws}
-use Rattle.plain.proofs.Places.{at-place}
+use Rattle.plain.proofs.Places.{at-place, place-room}
 use Rattle.rows.proofs.RowLaws.{RowGood, row-length}
+use Rattle.rows.proofs.Writes.{head-length}
 use Rattle.plain.proofs.TableLaws.{good-first, good-more, table-count}
 
 -- a higher mark keeps rows good
@@ -60,10 +61,6 @@ module _ (mark : ℕ) (w : Row) (r : RowGood mark w) where
       (pasted-skip (rowBytes v) (rowsBytes ws) 1312 (i * 1312) (rowBytes w) (row-length mark v (q .0))
       ∙ ap (λ (t : List ℕ). rowBytes v ++ t) (rows-put ws i (q .1) (omega arith)))
 
-pub head-length : (h : Head) → length (headBytes h) ≡ 16
-unfolding headBytes bytesOf
-head-length h = refl
-
 module _ (t : Table) where
   pub row-put : (mark i : ℕ) (w : Row) → RowGood mark w → AllGood mark (t .rows) → i < length (t .rows) → pasted (tableBytes t) (16 + i * 1312) (rowBytes w) ≡ tableBytes (withRow t i w)
   unfolding tableBytes
@@ -74,6 +71,24 @@ module _ (t : Table) where
   pub mark-put : (mark : ℕ) → pasted (tableBytes t) 8 (bytesOf 8 mark) ≡ tableBytes (withMark t mark)
   unfolding pasted tableBytes headBytes bytesOf
   mark-put mark = refl
+
+-- a document put where there is room keeps a table good
+pub put-good : (t : Table) (key : Key) (d : Doc) → Good t → EntryGood (t .head .mark .0) (record { key = key; doc = d }) → Room plain (t .rows) key
+    → Good (record { head = t .head; rows = putRow (t .rows) key d })
+put-good t key d g k room =
+    let p = place-room key (t .rows) room in
+    let row : putRow (t .rows) key d ≡ set (t .rows) (p .0) (some (record { key = key; doc = d })) = at-place key (t .rows) (p .0) (p .1) .put d in
+    record {
+      least = rw (row, length-set) (g .least);
+      most = rw (row, length-set) (g .most);
+      state = g .state;
+      mode = g .mode;
+      vbucket = g .vbucket;
+      clock = g .clock;
+      mark = g .mark;
+      rows = rw row (good-set (t .head .mark .0) (some (record { key = key; doc = d })) k (t .rows) (p .0) (g .rows));
+      keys = plain-laws .good-put (t .rows) key d (g .keys) room;
+    }
 
 pub store-good : StoreGood
 unfolding stored

@@ -7,7 +7,7 @@ use mathlib.Core.List.{List}
 use Rattle.octets.proofs.Choices.{cond-elim}
 use Rattle.document.specs.declared.Head.{Head}
 use Rattle.rows.specs.Table.{headOf}
-use Rattle.plain.specs.declared.Checked.the-variants.{Damaged, Sound}
+use Rattle.engine.specs.declared.Checked.the-variants.{Damaged, Sound}
 use Rattle.plain.specs.Damage.{sound, checkedOf}
 
 module _ (b : List ℕ) where

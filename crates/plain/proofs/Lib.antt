@@ -9,3 +9,5 @@ pub mod Prints
 pub mod Checks
 pub mod Writes
 pub mod Storing
+pub mod Purging
+pub mod Placing

@@ -13,10 +13,11 @@ use Rattle.rows.specs.Table.{Table, headBytes, rowsBytes, tableBytes}
 use Rattle.plain.specs.Plain.{purgeRows}
 use Rattle.plain.specs.Claims.{Good}
 use Rattle.rows.specs.Good.{AllGood}
-use Rattle.plain.specs.Purge.{gone, one, purgeRow, purgeBytes, purgeCount, purgedTable, goneCount}
+use Rattle.plain.specs.Purge.{picked, one, purgedTable, goneCount}
+use Rattle.plain.specs.Change.{purgeRow, purgeBytes, purgeCount}
 use Rattle.rows.proofs.RowLaws.{row-read}
 use Rattle.plain.proofs.TableLaws.{good-first, first-row, later-rows, rows-after}
-use Rattle.plain.proofs.ChangeLaws.{head-length}
+use Rattle.rows.proofs.Writes.{head-length}
 
 module _ (p : Doc → Bool) where
   -- one row, and those after it
@@ -28,7 +29,7 @@ module _ (p : Doc → Bool) where
   purge-first none ws = refl
   purge-first (some e) ws = refl
 
-  row-purged : (w : Row) → cond (gone p w) (replicate 1312 0) (rowBytes w) ≡ rowBytes (purged w)
+  row-purged : (w : Row) → cond (picked p w) (replicate 1312 0) (rowBytes w) ≡ rowBytes (purged w)
   unfolding rowBytes
   row-purged none = refl
   row-purged (some e) = cases (p (e .doc)) (λ t. rw t) (λ t. rw t)
@@ -40,7 +41,7 @@ module _ (p : Doc → Bool) where
     rows-purged (w ∷ ws) g =
         let h = good-first mark w ws g in
         (λ i. purgeRow p (first-row mark w ws (h .0) i) ++ purgeBytes p (length ws) (later-rows mark w ws (h .0) i))
-        ∙ (λ i. cond (gone p (row-read mark w (h .0) small i)) (replicate 1312 0) (rowBytes w) ++ rows-purged ws (h .1) i)
+        ∙ (λ i. cond (picked p (row-read mark w (h .0) small i)) (replicate 1312 0) (rowBytes w) ++ rows-purged ws (h .1) i)
         ∙ (λ i. row-purged w i ++ rowsBytes (purgeRows ws p))
         ∙ ap rowsBytes (sym (purge-first w ws))
 
@@ -48,8 +49,8 @@ module _ (p : Doc → Bool) where
     rows-gone [] g = refl
     rows-gone (w ∷ ws) g =
         let h = good-first mark w ws g in
-        (λ i. one (gone p (rowOf (first-row mark w ws (h .0) i))) + purgeCount p (length ws) (later-rows mark w ws (h .0) i))
-        ∙ (λ i. one (gone p (row-read mark w (h .0) small i)) + rows-gone ws (h .1) i)
+        (λ i. one (picked p (rowOf (first-row mark w ws (h .0) i))) + purgeCount p (length ws) (later-rows mark w ws (h .0) i))
+        ∙ (λ i. one (picked p (row-read mark w (h .0) small i)) + rows-gone ws (h .1) i)
 
 head-before : (t : Table) → take 16 (tableBytes t) ≡ headBytes (t .head)
 unfolding tableBytes

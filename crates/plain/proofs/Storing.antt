@@ -21,22 +21,16 @@ use Rattle.rows.specs.Row.{slotOf, sizeBytes, shortBytes, longBytes, slotBytes,
 use Rattle.rows.specs.Table.{headOf, chunks, rowCount}
 use Rattle.plain.specs.Damage.{sound}
 use Rattle.rows.specs.RowRules.{usedOk, rowSound}
-use Rattle.plain.specs.Store.{stored, overBytes, storedOver}
+use Rattle.rows.specs.Over.{overBytes}
+use Rattle.rows.proofs.Over.{zeros-drop, over-row}
+use Rattle.plain.specs.Store.{stored, storedOver}
 use Rattle.rows.specs.Table.{rowAt}
 use Rattle.rows.proofs.OneRow.{sound-free, sound-used, row-size}
 use Rattle.rows.proofs.RowLaws.{used-parts}
 use Rattle.plain.proofs.TableLaws.{each-sound, sound-parts}
 
-zeros-drop : (n : ℕ) (s : List ℕ) → zeros s ≡ true → zeros (drop n s) ≡ true
-unfolding zeros
-zeros-drop zero s z = z
-zeros-drop (suc n) [] z = refl
-zeros-drop (suc n) (x ∷ s) z = zeros-drop n s (both (eqb x 0) (zeros s) z .1)
-
--- a write from the start on
-at-start : (s xs : List ℕ) (n : ℕ) → length xs ≡ n → pasted s 0 xs ≡ xs ++ drop n s
-unfolding pasted
-at-start s xs n e = rw (zero-add, e)
+zeros-past : (m n : ℕ) (s : List ℕ) → m ≤ n → zeros (drop m s) ≡ true → zeros (drop n s) ≡ true
+zeros-past m n s h z = let j : n ≡ m + (n - m) = omega arith in rw (j, ← drop-drop (n - m) m s) (zeros-drop (n - m) (drop m s) z)
 
 -- a row of which no more is in use than fits, and the rest is zero
 record Padded (r : List ℕ) (used : ℕ) : Type 0 where
@@ -61,60 +55,6 @@ sound-padded mark r l e =
     let u = used-parts mark (slotOf r) (q .0) in
     record { most = omega (arith, u .key-most, u .value-most); after = q .1 })
 
-module _ (r : List ℕ) (e : Entry) (used : ℕ) (l : length r ≡ 1312) (room : length (e .key) + length (e .doc .value) ≤ 1280) (p : Padded r used) where
-  abbrev size : ℕ
-  size = length (e .key) + length (e .doc .value)
-
-  abbrev body : List ℕ
-  body = slotBytes (slotFor e) ++ (e .key ++ e .doc .value)
-
-  -- what was in use past the entry, and what is left of the row after both
-  abbrev over : ℕ
-  over = used - size
-
-  abbrev left : ℕ
-  left = 1280 - size - over
-
-  length-body : length body ≡ 32 + size
-  unfolding slotBytes sizeBytes shortBytes longBytes bytesOf
-  length-body = simp length-append (omega arith)
-
-  length-both : length (body ++ replicate over 0) ≡ 32 + size + over
-  length-both = length-append body (replicate over 0) ∙ (λ i. length-body i + length-replicate {A = ℕ} over 0 i)
-
-  one-write : overBytes r e used ≡ written r 0 (body ++ replicate over 0)
-  unfolding overBytes
-  one-write =
-      let z : length (replicate {A = ℕ} over 0) ≡ over = length-replicate over 0 in
-      then r (written r 0 body) (overBytes r e used) 0 (32 + size) body (replicate over 0) refl refl (omega (arith, length-body)) (omega (arith, p .most))
-
-  rest-zero : drop (32 + size + over) r ≡ replicate left 0
-  rest-zero =
-      let at = 32 + size + over in
-      let j : at ≡ 32 + used + (at - (32 + used)) = omega (arith, p .most) in
-      let z : zeros (drop at r) ≡ true = rw (j, ← drop-drop (at - (32 + used)) (32 + used) r) (zeros-drop (at - (32 + used)) (drop (32 + used) r) (p .after)) in
-      let n : length (drop at r) ≡ left = simp length-drop (omega (arith, p .most)) in
-      zeros-true (drop at r) z ∙ ap (λ (k : ℕ). replicate k 0) n
-
-  all-zeros : replicate {A = ℕ} over 0 ++ replicate left 0 ≡ replicate (1280 - size) 0
-  all-zeros =
-      let k : over + left ≡ 1280 - size = omega (arith, p .most) in
-      replicate-append-replicate {A = ℕ} over left 0 ∙ ap (λ (n : ℕ). replicate n 0) k
-
-  padded-row : body ++ replicate (1280 - size) 0 ≡ rowBytes (some e)
-  unfolding rowBytes usedBytes
-  padded-row = simp append-assoc
-
-  over-row : overBytes r e used ≡ rowBytes (some e)
-  over-row =
-      one-write
-      ∙ written-fits r 0 (body ++ replicate over 0) (omega (arith, length-both, p .most))
-      ∙ at-start r (body ++ replicate over 0) (32 + size + over) length-both
-      ∙ ap (λ (t : List ℕ). (body ++ replicate over 0) ++ t) rest-zero
-      ∙ append-assoc body (replicate over 0) (replicate left 0)
-      ∙ ap (λ (t : List ℕ). body ++ t) all-zeros
-      ∙ padded-row
-
 -- on a sound table, where the bytes in use are what the row's fixed part says
 pub stored-over : (b : List ℕ) (i : ℕ) (e : Entry) (mark used : ℕ) → sound b ≡ true → used ≡ slotOf (rowAt b i) .keylen + slotOf (rowAt b i) .vallen → storedOver b i e mark used ≡ stored b i e mark
 unfolding storedOver stored
@@ -126,7 +66,11 @@ stored-over b i e mark used s u =
     let r = rowAt b i in
     let l = row-size b i h in
     let p = sound-padded (headOf b .mark .0) r l (each-sound (headOf b .mark .0) (chunks (rowCount b) (drop 16 b)) i (sound-parts b s .each)) in
-    let o : overBytes r e used ≡ rowBytes (some e) = rw u (over-row r e (slotOf r .keylen + slotOf r .vallen) l (leb-true _ _ f) p) in
+    let full = slotOf r .keylen + slotOf r .vallen in
+    let old = full - length (e .key) in
+    let z : zeros (drop (32 + (length (e .key) + old)) r) ≡ true = zeros-past (32 + full) (32 + (length (e .key) + old)) r (omega arith) (p .after) in
+    let m = leb-true _ _ f in
+    let o : overBytes r e (used - length (e .key)) ≡ rowBytes (some e) = rw u (over-row r e old l m (omega (arith, p .most)) z) in
     ap (λ (x : List ℕ). cond (ltb i (rowCount b) && leb (length (e .key) + length (e .doc .value)) 1280) (pasted (pasted b (16 + i * 1312) x) 8 (bytesOf 8 mark)) b) o)
     (λ f. rw (f, and-false)))
     (λ f. rw f)

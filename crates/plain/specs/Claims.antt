@@ -38,7 +38,7 @@ abbrev pub withEntry : Table → Key → Doc → Table
 withEntry t k d = record { head = t .head; rows = putRow (t .rows) k d }
 
 -- storing an entry at its key's place with a mark that is no lower puts it, changes that row and the mark alone, and keeps the table good
-pub record Stores (t : Table) (i : ℕ) (e : Entry) (mark : ℕ) : Type 0 where
+pub record StoresMarked (t : Table) (i : ℕ) (e : Entry) (mark : ℕ) : Type 0 where
   pub bytes : stored (tableBytes t) i e mark ≡ tableBytes (withMark (withEntry t (e .key) (e .doc)) mark)
   pub row : putRow (t .rows) (e .key) (e .doc) ≡ set (t .rows) i (some e)
   pub good : Good (withMark (withEntry t (e .key) (e .doc)) mark)
@@ -46,7 +46,7 @@ pub record Stores (t : Table) (i : ℕ) (e : Entry) (mark : ℕ) : Type 0 where
 abbrev pub StoreGood : Type 0
 StoreGood =
     (t : Table) (i : ℕ) (e : Entry) (mark : ℕ) → Good t → EntryGood mark e → t .head .mark .0 ≤ mark → mark < 2 ^ 64
-    → placeIn (e .key) (t .rows) ≡ At i → Stores t i e mark
+    → placeIn (e .key) (t .rows) ≡ At i → StoresMarked t i e mark
 
 -- purging keeps a table good, whatever it picks
 abbrev pub PurgeGood : Type 0

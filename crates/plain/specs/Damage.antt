@@ -7,8 +7,8 @@ use lib.ListN.{length, drop}
 use Rattle.rows.specs.Row.{Row}
 use Rattle.rows.specs.Table.{headOf, chunks, rowCount, rowsOf}
 use Rattle.rows.specs.RowRules.{sizeOk, headOk, allSound}
-use Rattle.plain.specs.declared.Checked.{Checked}
-use Rattle.plain.specs.declared.Checked.the-variants.{Damaged, Sound}
+use Rattle.engine.specs.declared.Checked.{Checked}
+use Rattle.engine.specs.declared.Checked.the-variants.{Damaged, Sound}
 use Rattle.plain.specs.Lookup.{findIn, missing}
 
 -- no used row's key is that of a row after it

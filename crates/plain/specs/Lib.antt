@@ -5,3 +5,4 @@ pub mod Plain
 pub mod Claims
 pub mod Purge
 pub mod Print
+pub mod Change

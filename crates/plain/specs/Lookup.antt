@@ -3,7 +3,11 @@ use Prim.Native.Nat.{ℕ, _+_}
 use mathlib.Core.List.{List, [], _∷_}
 use mathlib.Core.Bool.{Bool, true, false, cond}
 use mathlib.Core.Option.{none, some}
+use lib.Dec.{eqb}
+use lib.ListN.{length}
 use Rattle.octets.specs.Compare.{same}
+use Rattle.engine.specs.declared.Place.{Place}
+use Rattle.engine.specs.declared.Place.the-variants.{Over, Into, Full}
 use Rattle.rows.specs.Row.{Row}
 use Rattle.plain.specs.declared.Found.{Found}
 use Rattle.plain.specs.declared.Found.the-variants.{At, Nothing}
@@ -38,3 +42,21 @@ placeIn key ws = orElse (findIn key 0 ws) (freeIn 0 ws)
 abbrev pub missing : Found → Bool
 missing (At i) = false
 missing Nothing = true
+
+-- a new row's place, and the place of a key's document: over its row, else a new row's
+abbrev pub freePlace : Found → Place
+freePlace (At i) = Into i
+freePlace Nothing = Full
+
+abbrev pub foundPlace : Found → Found → Place
+foundPlace (At i) f = Over i
+foundPlace Nothing f = freePlace f
+
+-- the key's row; an empty key has none
+unfoldable pub keyRow : List ℕ → List Row → Found
+keyRow key ws = cond (eqb (length key) 0) Nothing (findIn key 0 ws)
+
+-- where a new row is asked for, the lowest free one serves as that
+unfoldable pub placeBy : Bool → List ℕ → List Row → Place
+unfolding keyRow
+placeBy new key ws = foundPlace (keyRow key ws) (cond new (freeIn 0 ws) Nothing)

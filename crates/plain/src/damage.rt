@@ -12,8 +12,8 @@ ghost use Rattle.plain.specs.Print.{rowPrint};
 ghost use Rattle.plain.specs.Lookup.{missing};
 ghost use Rattle.plain.specs.Damage.{distinct, sound, checkedOf};
 ghost use Rattle.rows.specs.RowRules.{sizeOk, headOk, usedOk, rowSound, allSound};
-use crate::Checked;
 use crate::Found;
+use engine::Checked;
 
 fn rows_sound(s: &[u8], n: usize, mark: u64) -> bool
     requires { ⌜ 16 + n * 1312 ≤ length (now s) ⌝ }

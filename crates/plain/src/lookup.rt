@@ -1,11 +1,13 @@
 // Finding a key's row and the lowest free one.
 ghost use mathlib.Core.Path.{_≡_};
+ghost use mathlib.Core.Bool.{cond};
 ghost use Prim.Native.Nat.{_+_, _*_, _≤_};
 ghost use lib.ListN.{length, drop};
 ghost use Rattle.rows.specs.Row.{rowOf};
 ghost use Rattle.rows.specs.Table.{rowsOf, tableOf};
-ghost use Rattle.plain.specs.Lookup.{holds, findIn, freeIn, orElse, placeIn};
+ghost use Rattle.plain.specs.Lookup.{holds, findIn, freeIn, freePlace, keyRow, placeBy};
 use crate::Found;
+use engine::Place;
 
 // Whether a row is used and has this key.
 fn row_holds(r: &[u8], key: &[u8]) -> bool
@@ -76,19 +78,35 @@ pub fn free(s: &[u8]) -> Found
     free_from(s, 16, rows::rows_in(s.len()), 0)
 }
 
-// The first place, or the second where there is no first.
-pub fn either(f: Found, g: Found) -> Found
-    ensures { λ r. ⌜ r ≡ orElse f g ⌝ }
+// The key's row. No sound row has an empty key, so that there is nothing to look for.
+fn find_key(s: &[u8], key: &[u8]) -> Found
+    ensures { λ r. ⌜ r ≡ keyRow (now (key .entry)) (tableOf (now (s .entry)) .rows) ⌝ }
 {
-    match f {
-        Found::At(i) => Found::At(i),
-        Found::Nothing => g,
+    if key.len() == 0 {
+        return Found::Nothing;
+    }
+    find(s, key)
+}
+
+// A new row's place: the lowest free one, which is looked for only where a new row is asked for.
+fn free_place(s: &[u8], new: bool) -> Place
+    ensures { λ r. ⌜ r ≡ freePlace (cond new (freeIn 0 (tableOf (now (s .entry)) .rows)) Found.Nothing) ⌝ }
+{
+    if !new {
+        return Place::Full;
+    }
+    match free(s) {
+        Found::At(i) => Place::Into(i),
+        Found::Nothing => Place::Full,
     }
 }
 
-// The place that a key's document is stored at: its row, or the lowest free one.
-pub fn place(s: &[u8], key: &[u8]) -> Found
-    ensures { λ r. ⌜ r ≡ placeIn (now (key .entry)) (tableOf (now (s .entry)) .rows) ⌝ }
+// The place of a key's document: over its row, else a new row's.
+pub fn place(s: &[u8], key: &[u8], new: bool) -> Place
+    ensures { λ r. ⌜ r ≡ placeBy new (now (key .entry)) (tableOf (now (s .entry)) .rows) ⌝ }
 {
-    either(find(s, key), free(s))
+    match find_key(s, key) {
+        Found::At(i) => Place::Over(i),
+        Found::Nothing => free_place(s, new),
+    }
 }

@@ -1,7 +1,6 @@
 // The row at a place: what it holds, where its value stands, and a new entry in it.
 ghost use mathlib.Core.Path.{_≡_};
-ghost use Prim.Native.Nat.{_+_};
-ghost use lib.Dec.{leb};
+ghost use Prim.Native.Nat.{_+_, _-_};
 ghost use Rattle.document.specs.Stored.{metadataOf};
 ghost use Rattle.octets.specs.Parts.{part};
 ghost use Rattle.rows.specs.Row.{slotOf, docOf};
@@ -84,24 +83,27 @@ pub fn store(
     if i >= rows::rows_in(s.len()) {
         return;
     }
-    if !fits(key.len(), value.len()) {
+    if !rows::row::fits(key.len(), value.len()) {
         return;
     }
     let at = 16 + i * 1312;
     let end = at + 1312;
-    crate::row::put_row(&mut s[at..end], key, tomb, n, value, used);
+    let old = past(used, key.len());
+    rows::row::put_row(
+        &mut s[at..end],
+        key,
+        Metadata { tomb, numbers: n },
+        value,
+        old,
+    );
     octets::put_be(s, 8, 8, mark.0);
 }
 
-// Whether a key and a value of these lengths fit a row.
-fn fits(k: usize, v: usize) -> bool
-    ensures { λ r. ⌜ r ≡ leb (k + v) 1280 ⌝ }
+fn past(used: usize, k: usize) -> usize
+    ensures { λ r. ⌜ r ≡ used - k ⌝ }
 {
-    if 1280 < k {
-        return false;
+    if used < k {
+        return 0;
     }
-    if 1280 < v {
-        return false;
-    }
-    k + v <= 1280
+    used - k
 }

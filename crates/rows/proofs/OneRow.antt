@@ -7,14 +7,16 @@ use mathlib.Core.Option.{none, some}
 use native.Mathlib.Omega.{arith}
 use native.Mathlib.Numerals.{add-one}
 use lib.Dec.{eqb, leb}
-use lib.ListN.{length, take, drop, getD}
+use lib.ListN.{length, take, drop, getD, List·getD-map, length-take, length-drop}
 use lib.Seq.{drop-drop}
 use borrow.Author.Tests.{leb-true, eqb-true, ne-eqb}
 use Rattle.octets.specs.Parts.{part}
-use Rattle.octets.specs.BigEndian.{num}
+use Rattle.octets.specs.BigEndian.{num, be, beFrom}
 use Rattle.octets.specs.Compare.{zeros}
-use Rattle.octets.proofs.Choices.{both}
+use Rattle.octets.proofs.Choices.{both, cond-elim}
 use Rattle.octets.proofs.Lists.{part-length}
+use Rattle.octets.proofs.Options.{none-some}
+use Rattle.document.specs.Documents.{Entry}
 use Rattle.rows.specs.Row.{slotOf, docOf, keyOf, rowOf}
 use Rattle.rows.specs.Table.{chunks, rowCount, rowsOf, tableOf, rowAt}
 use Rattle.rows.specs.RowRules.{sizeOk, usedOk, rowSound, allSound}
@@ -80,6 +82,29 @@ module _ (b : List ℕ) (i : ℕ) where
 
   pub row-nowhere : rowCount b ≤ i → rowAt b i ≡ []
   row-nowhere h = chunk-none (rowCount b) i (drop 16 b) h
+
+no-row : rowOf [] ≡ none
+unfolding rowOf slotOf be beFrom
+no-row = refl
+
+-- the row at a place, as bytes and as what they say
+pub row-at : (b : List ℕ) (i : ℕ) → getD (tableOf b .rows) i none ≡ rowOf (rowAt b i)
+unfolding tableOf
+row-at b i = rw no-row at (List·getD-map rowOf (chunks (rowCount b) (drop 16 b)) i [])
+
+-- a used row's entry, whose key stands after the fixed part
+module _ (r : List ℕ) where
+  pub row-entry : (e : Entry) → rowOf r ≡ some e → (keyOf r ≡ e .key) × (docOf r ≡ e .doc)
+  unfolding rowOf
+  row-entry e h =
+      let x : Entry = record { key = keyOf r; doc = docOf r } in
+      cond-elim (eqb (slotOf r .kind) 0) none (some x) (some e) h
+      (λ t z. none-some e z)
+      (λ f z. let q : x ≡ e = cc in (ap (λ (w : Entry). w .key) q, ap (λ (w : Entry). w .doc) q))
+
+  pub key-inside : length r ≤ 1312 → length (keyOf r) ≤ 1280
+  unfolding keyOf
+  key-inside h = simp (length-take, length-drop) (omega arith)
 
 -- memory with no room for a header has no rows
 pub no-rows : (b : List ℕ) → length b < 16 → tableOf b .rows ≡ []

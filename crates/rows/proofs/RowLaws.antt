@@ -58,10 +58,10 @@ module _ (e : Entry) where
   after-key : drop (32 + length (e .key)) (usedBytes e) ≡ e .doc .value ++ zeroed
   after-key = rw (← drop-drop (length (e .key)) 32 (usedBytes e), tail-read) (drop-at (e .key) (e .doc .value ++ zeroed) (length (e .key)) refl)
 
-  value-read : part (usedBytes e) (32 + length (e .key)) (length (e .doc .value)) ≡ e .doc .value
+  pub value-read : part (usedBytes e) (32 + length (e .key)) (length (e .doc .value)) ≡ e .doc .value
   value-read = rw after-key (take-at (e .doc .value) zeroed (length (e .doc .value)) refl)
 
-  after-value : drop (32 + (length (e .key) + length (e .doc .value))) (usedBytes e) ≡ zeroed
+  pub after-value : drop (32 + (length (e .key) + length (e .doc .value))) (usedBytes e) ≡ zeroed
   after-value =
       rw (← add-assoc 32 (length (e .key)) (length (e .doc .value)), ← drop-drop (length (e .doc .value)) (32 + length (e .key)) (usedBytes e), after-key)
       (drop-at (e .doc .value) zeroed (length (e .doc .value)) refl)
@@ -78,7 +78,7 @@ module _ (mark : ℕ) (e : Entry) (g : EntryGood mark e) where
   used-length = simp (length-append, length-replicate) (omega (arith, g .key-most, g .value-most))
 
   module _ (small : mark < 2 ^ 64) where
-    slot-read : slotOf (usedBytes e) ≡ slotFor e
+    pub slot-read : slotOf (usedBytes e) ≡ slotFor e
     unfolding slotOf slotFor usedBytes slotBytes sizeBytes shortBytes longBytes bytesOf
     slot-read = λ i. record {
       kind = be-bytes 2 (kindOf (e .doc .tomb)) (kind-below (e .doc .tomb)) i;

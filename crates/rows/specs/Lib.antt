@@ -3,3 +3,4 @@ pub mod Table
 pub mod RowRules
 pub mod Good
 pub mod Find
+pub mod Over

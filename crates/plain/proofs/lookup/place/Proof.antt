@@ -1,20 +1,38 @@
-use Rattle.plain.specs.Lookup.{orElse}
-use mathlib.Core.Path.{_∙_}
+use mathlib.Core.Path.{sym, ap, _∙_}
+use mathlib.Core.Bool.{cond}
+use Rattle.rows.specs.Table.{tableOf}
+use Rattle.plain.specs.declared.Found.the-variants.{Nothing}
+use Rattle.plain.specs.declared.Found.{Found}
+use Rattle.plain.specs.Lookup.{freeIn, foundPlace, placeBy}
 use borrow.Author.Needs.{needs}
 use Rattle.plain.proofs.lookup.place.Statement.{statement}
 use Rattle.plain.proofs.lookup.place.Tie as tie
 
-find-requires : tie.Need-find-requires
-find-requires c κs = search needs
+find-key-requires : tie.Need-find-key-requires
+find-key-requires c κs = search needs
 
-free-requires : tie.Need-free-requires
-free-requires c κs = search needs
+enum-known-i : tie.Need-enum-known-i
+enum-known-i c = search needs
 
-either-requires : tie.Need-either-requires
-either-requires c κs = search needs
+enum-told : tie.Need-enum-told
+enum-told c = search needs
+
+free-place-requires : tie.Need-free-place-requires
+free-place-requires c κs = search needs
 
 returns : tie.Need-returns
-returns c = c .either .ensures ∙ (λ i. orElse (c .before .before .find .ensures i) (c .before .free .ensures i))
+unfolding placeBy
+returns c =
+    let at6 = c .before .before .before .before .before .before in
+    ap (λ (f : Found). foundPlace f (cond (at6 .args .new) (freeIn 0 (tableOf (at6 .args .s .now) .rows)) Nothing)) (sym ((c .before .i) .given .1) ∙ (c .before .before .before .find-key) .ensures)
+
+returns-2 : tie.Need-returns-2
+unfolding placeBy
+returns-2 c =
+    let at6 = c .before .before .before .before .before .before in
+    (c .free-place) .ensures ∙ ap (λ (f : Found). foundPlace f (cond (at6 .args .new) (freeIn 0 (tableOf (at6 .args .s .now) .rows)) Nothing)) (sym ((c .before .enum-told) .given .1) ∙ (c .before .before .before .find-key) .ensures)
 
 pub place-spec : {M : Type 1} → statement M
-place-spec = tie.close (tie.spec find-requires free-requires either-requires returns)
+place-spec =
+    tie.close
+    (tie.spec find-key-requires enum-known-i enum-told free-place-requires returns returns-2)
