@@ -16,19 +16,20 @@ use Rattle.header.specs.declared.Header.{Header}
 use Rattle.rules.proofs.RuleLaws.{key-most}
 use Rattle.request.specs.Reading.{frameStatus, bytesIn, extrasSpan, keySpan, valueSpan}
 use Rattle.document.specs.Documents.{Key, Doc}
+use Rattle.document.specs.declared.Head.{Head}
 use Rattle.document.specs.Head.{marked}
 use Rattle.commands.specs.Decide.{Answer, decide}
 use Rattle.commands.specs.Claims.{StoredSound}
 use Rattle.commands.proofs.Stores.{stores-with-room, stores-sound}
 use Rattle.decode.specs.Decode.{requestOf}
 use Rattle.engine.specs.Engine.{storeRow}
-use Rattle.rows.specs.Table.{Table, withMark}
+use Rattle.rows.specs.Table.{Table}
 use Rattle.rows.specs.Find.{findRow, freeRows}
 use Rattle.rows.specs.Good.{EntryGood}
 use Rattle.plain.specs.Plain.{plain}
-use Rattle.plain.specs.Claims.{Good, withEntry}
-use Rattle.plain.proofs.Places.{place-room}
-use Rattle.plain.proofs.ChangeLaws.{store-good}
+use Rattle.plain.specs.Claims.{Good}
+use Rattle.table.specs.Claims.{Stores}
+use Rattle.table.proofs.Keeping.{stores-good, head-good}
 use Rattle.serving.specs.Serve.{reachesDecision, decisionOn, answerOn, frameChange}
 use Rattle.serving.proofs.Formed.{form, command-right}
 use Rattle.serving.proofs.Kept.{decide-keeps, fits-found}
@@ -135,17 +136,22 @@ pub unchanged : (t : Table) (clock : ℕ) (s : List ℕ) (h : Header) → answer
     → frameChange t clock s h ≡ t
 unchanged t clock s h e f = λ i. record { head = f i; rows = storeRow plain (t .rows) (bytesIn s (keySpan h)) (e i) }
 
+-- what a frame stores is put in the table with its new head
+module _ (t : Table) (clock : ℕ) (s : List ℕ) (h : Header) (g : Good t) (d : Doc) (q : Storing t clock s h d) where
+  abbrev pub raised : Table
+  raised = record { head = answerOn t clock s h .effect .head; rows = t .rows }
+
+  pub raised-good : Good raised
+  raised-good = subst (λ (x : Head). Good (record { head = x; rows = t .rows })) (sym (q .head)) (head-good t (answerOn t clock s h .effect .head .mark .0) g (q .grows) (q .fits))
+
+  pub puts : Stores raised (bytesIn s (keySpan h)) d
+  puts = stores-good raised (bytesIn s (keySpan h)) d raised-good (q .entry) (q .room)
+
 -- a whole frame keeps a table good
 pub change-good : (t : Table) (clock : ℕ) (s : List ℕ) (h : Header) → Good t → Bytes s → 24 + h .body ≤ length s → Good (frameChange t clock s h)
 change-good t clock s h g y w =
     let c = changing t clock s h g y w in
-    let key = bytesIn s (keySpan h) in
     let x = answerOn t clock s h .effect in
     options (x .store)
     (λ e. subst Good (sym (unchanged t clock s h e (c .keeps e))) g)
-    (λ d e.
-    let q = c .stores d e in
-    let (i, p) = place-room key (t .rows) (q .room) in
-    let z = store-good t i (record { key = key; doc = d }) (x .head .mark .0) g (q .entry) (q .grows) (q .fits) p in
-    let same : frameChange t clock s h ≡ withMark (withEntry t key d) (x .head .mark .0) = λ j. record { head = q .head j; rows = storeRow plain (t .rows) key (e j) } in
-    subst Good (sym same) (z .good))
+    (λ d e. subst (λ (o : Option Doc). Good (record { head = x .head; rows = storeRow plain (t .rows) (bytesIn s (keySpan h)) o })) (sym e) (puts t clock s h g d (c .stores d e) .good))

@@ -18,7 +18,10 @@ shown-key-requires : tie.Need-shown-key-requires
 shown-key-requires c κs = search needs
 
 put-found-requires : tie.Need-put-found-requires
-put-found-requires c κs = let a = (c .before .before .before .before .before .before .before .before .args) in (omega (arith, (c .before .before .before .before .before .before .before .before .pre)), (omega (arith, shown-fits (now (a .key)) ((c .before .before .before .r) .given .1) ((c .shown-key) .ensures), (c .before .before .before .before .before .before .before .before .pre)), omega (arith, (c .before .before .before .before .before .before .before .before .pre))))
+put-found-requires c κs =
+    let f = c .before .before .before .before .before .before .before .before in
+    let k = shown-fits (now (f .args .key)) (c .before .before .before .r .given .1) (c .shown-key .ensures) in
+    (omega (arith, f .pre), (omega (arith, k, f .pre), omega (arith, f .pre)))
 
 enum-known-r-2 : tie.Need-enum-known-r-2
 enum-known-r-2 c = search needs
@@ -42,7 +45,10 @@ same-length : tie.Need-same-length
 same-length c = search needs
 
 returns-2 : tie.Need-returns-2
-returns-2 c = let a = (c .before .before .before .before .before .before .before .before .before .before .before .args) in found-body (a .r) (now (a .key)) (now (a .old)) _ _ _ _ _ _ ((c .before .before .before .before .before .before .r) .given .1) ((c .before .before .before .shown-key) .ensures) ((c .before .before .put-found) .ensures)
+returns-2 c =
+    let f = c .before .before .before .before .before .before in
+    let a = f .before .before .before .before .before .args in
+    found-body (a .r) (now (a .key)) (now (a .old)) _ _ _ _ _ _ (f .r .given .1) (c .before .before .before .shown-key .ensures) (c .before .before .put-found .ensures)
 
 same-length-2 : tie.Need-same-length-2
 same-length-2 c = search needs

@@ -32,9 +32,14 @@ same-length c = search needs
 
 returns : tie.Need-returns
 unfolding bytesOf
-returns c = let a = (c .before .before .before .before .before .before .before .before .before .before .before .before .before .before .before .args) in
-    let k = length (now (a .key)) in
-    (refl, then-two _ _ _ _ 24 28 (28 + k) (bytesOf 4 (a .flags)) (now (a .key)) (now (a .old)) ((c .before .before .before .before .before .before .before .before .before .before .put-be) .ensures) ((c .before .before .before .before .before .before .put-bytes) .ensures) ((c .before .before .put-bytes2) .ensures) refl refl (omega (arith, (c .before .before .before .before .before .before .before .before .before .before .before .before .before .before .before .pre))))
+returns c =
+    let w = c .before .before .before .before .before .before in
+    let f = w .before .before .before .before .before .before .before .before .before in
+    let key = now (f .args .key) in (
+      refl,
+      then-two _ _ _ _ 24 28 (28 + length key) (bytesOf 4 (f .args .flags)) key (now (f .args .old))
+          (w .before .before .before .before .put-be .ensures) (w .put-bytes .ensures) (c .before .before .put-bytes2 .ensures) refl refl (omega (arith, f .pre)),
+    )
 
 pub put-found-spec : {M : Type 1} → statement M
 put-found-spec =
