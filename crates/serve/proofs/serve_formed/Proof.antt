@@ -50,7 +50,8 @@ returns c =
     let y : Bytes b = λ i. l .before .before .before .before .before .before .before .slice-known .given i .fits in
     let z : Bytes s = λ i. l .before .before .before .before .before .before .shared-slice-known .given i .fits in
     formed-by b s (r .args .clock) (r .args .h) y z (r .pre .0 .0) (p .1 .1 .1 .1) (p .0) _ _ _ _ _ _ _ (p .1 .1 .0)
-    (l .before .writes .ensures) (l .find .ensures) (a .before .before .before .part .ensures) (r .pre .0 .1 .0) (p .1 .0) (a .before .before .decided .ensures) _ _ _ _ _ _ (c .before .before .before .before .part2 .ensures ∙ p .1 .1 .1 .0) (r .pre .0 .1 .1)
+    (l .before .writes .ensures) (l .find .ensures) (a .before .before .before .part .ensures)
+    (r .pre .0 .1 .0) (p .1 .0) (a .before .before .decided .ensures) _ _ _ _ _ _ (c .before .before .before .before .part2 .ensures ∙ p .1 .1 .1 .0) (r .pre .0 .1 .1)
     (a .put-reply .ensures .0) refl (a .put-reply .ensures .1) (c .before .before .before .change .ensures)
 
 pub serve-formed-spec : {M : Type 1} → statement M
