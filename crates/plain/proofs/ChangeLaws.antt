@@ -170,8 +170,6 @@ free-rows (suc n) =
     let e : suc n * 1312 ≡ 1312 + n * 1312 = omega arith in
     rw (e, ← replicate-append-replicate {A = ℕ} 1312 (n * 1312) 0) (ap (λ (l : List ℕ). replicate 1312 0 ++ l) (free-rows n))
 
-pub fresh-bytes : (n state mode vbucket : ℕ) → tableBytes (fresh n state mode vbucket) ≡ bytesOf 1 state ++ (bytesOf 1 mode ++ (bytesOf 2 vbucket ++ replicate (12 + n * 1312) 0))
-unfolding tableBytes headBytes bytesOf
-fresh-bytes n state mode vbucket =
-    rw (← replicate-append-replicate {A = ℕ} 12 (n * 1312) 0)
-    (ap (λ (l : List ℕ). headBytes (fresh n state mode vbucket .head) ++ l) (free-rows n))
+pub fresh-bytes : (n state mode vbucket : ℕ) → tableBytes (fresh n state mode vbucket) ≡ headBytes (fresh n state mode vbucket .head) ++ replicate (n * 1312) 0
+unfolding tableBytes
+fresh-bytes n state mode vbucket = ap (λ (l : List ℕ). headBytes (fresh n state mode vbucket .head) ++ l) (free-rows n)

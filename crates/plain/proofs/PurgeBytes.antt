@@ -13,7 +13,7 @@ use Rattle.rows.specs.Table.{Table, headBytes, rowsBytes, tableBytes}
 use Rattle.plain.specs.Plain.{purgeRows}
 use Rattle.plain.specs.Claims.{Good}
 use Rattle.rows.specs.Good.{AllGood}
-use Rattle.plain.specs.Purge.{picked, one, purgedTable, goneCount}
+use Rattle.plain.specs.Purge.{picked, one, goneCount}
 use Rattle.plain.specs.Change.{purgeRow, purgeBytes, purgeCount}
 use Rattle.rows.proofs.RowLaws.{row-read}
 use Rattle.plain.proofs.TableLaws.{good-first, first-row, later-rows, rows-after}
@@ -57,7 +57,7 @@ unfolding tableBytes
 head-before t = take-at (headBytes (t .head)) (rowsBytes (t .rows)) 16 (head-length (t .head))
 
 pub purge-bytes : (p : Doc → Bool) (t : Table) → Good t
-    → (take 16 (tableBytes t) ++ purgeBytes p (length (t .rows)) (drop 16 (tableBytes t)) ≡ tableBytes (purgedTable p t))
+    → (take 16 (tableBytes t) ++ purgeBytes p (length (t .rows)) (drop 16 (tableBytes t)) ≡ tableBytes (record { head = t .head; rows = purgeRows (t .rows) p }))
     × (purgeCount p (length (t .rows)) (drop 16 (tableBytes t)) ≡ goneCount p (t .rows))
 unfolding tableBytes
 purge-bytes p t g = (

@@ -5,8 +5,6 @@ use mathlib.Core.Bool.{Bool, true, false}
 use mathlib.Core.Option.{none, some}
 use Rattle.document.specs.Documents.{Doc}
 use Rattle.rows.specs.Row.{Row}
-use Rattle.rows.specs.Table.{Table}
-use Rattle.plain.specs.Plain.{purgeRows}
 
 -- a used row whose document the test picks
 abbrev pub picked : (Doc → Bool) → Row → Bool
@@ -17,10 +15,7 @@ abbrev pub one : Bool → ℕ
 one true = 1
 one false = 0
 
--- a table after a purge, and how many rows it frees
-abbrev pub purgedTable : (Doc → Bool) → Table → Table
-purgedTable p t = record { head = t .head; rows = purgeRows (t .rows) p }
-
+-- how many rows a purge frees
 abbrev pub goneCount : (Doc → Bool) → List Row → ℕ
 goneCount p [] = 0
 goneCount p (w ∷ ws) = one (picked p w) + goneCount p ws
