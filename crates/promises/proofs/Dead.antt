@@ -25,7 +25,7 @@ use Rattle.document.specs.Documents.{docValue}
 use Rattle.decode.specs.Decode.{requestOf}
 use Rattle.rows.specs.Find.{freeRows}
 use Rattle.serving.specs.Serve.{decisionOn, answerOn}
-use Rattle.promises.proofs.Formed.{by-cond}
+use Rattle.serving.proofs.Formed.{by-cond}
 use Rattle.promises.specs.Expiry.{ExpiredIsDead, ExpiredServed, GetKeeps}
 
 -- a row with these numbers, a tombstone or not

@@ -34,7 +34,6 @@ use Rattle.rows.specs.Table.{tableOf, tableBytes}
 use Rattle.rows.specs.Find.{freeRows}
 use Rattle.plain.specs.Damage.{sound}
 use Rattle.rows.specs.RowRules.{sizeOk, headOk, usedOk, rowSound}
-use Rattle.plain.specs.Store.{stored}
 use Rattle.serving.specs.Serve.{gateAll, decisionOn, answerOn, frameTable, served, servedTable}
 use Rattle.promises.proofs.Candidates.{Holds, found-all, for-all, candidates-all}
 use Rattle.merge.specs.Writes.{_∈_, for, newKeys}
@@ -153,7 +152,7 @@ pub last-write-premises : Premises (table 2) (calls 2)
 last-write-premises = premises (table 2) (calls 2) (worked-computed .1)
 
 pub worked : Worked
-unfolding written be bytesOf zeros same greater accepted shapeOf headerOf withMeta sectionOk status gateOf keySpan frameStatus ruleOf testsOf firstStatus firstFailure decision doneOf requestOf slotOf rowOf rowBytes tableOf tableBytes sizeOk headOk usedOk rowSound sound stored gateAll decisionOn answerOn frameTable served servedTable
+unfolding written be bytesOf zeros same greater accepted shapeOf headerOf withMeta sectionOk status gateOf keySpan frameStatus ruleOf testsOf firstStatus firstFailure decision doneOf requestOf slotOf rowOf rowBytes tableOf tableBytes sizeOk headOk usedOk rowSound sound gateAll decisionOn answerOn frameTable served servedTable
 worked = record {
   by-revision = record {
     premises = by-revision-premises;

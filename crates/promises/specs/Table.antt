@@ -21,5 +21,5 @@ RefusedKeeps =
 
 abbrev pub StatusKeeps : Type 0
 StatusKeeps =
-    (b : List ℕ) (clock : ℕ) (s : List ℕ) (room status used len : ℕ) → served b clock s room ≡ Done status used len → (status ≡ 0 → ⊥)
+    (b : List ℕ) (clock : ℕ) (s : List ℕ) (room status used len : ℕ) → Bytes b → served b clock s room ≡ Done status used len → (status ≡ 0 → ⊥)
     → servedTable b clock s room ≡ b

@@ -15,17 +15,17 @@ use Rattle.digits.specs.Decimal.{numberOf}
 use Rattle.commands.specs.declared.Decision.{Decision}
 use Rattle.commands.specs.declared.Reply.the-variants.{Bare}
 use Rattle.commands.specs.Done.{decision, nothing}
-use Rattle.commands.specs.Decide.{Answer, instructionOf, answerOf}
-use Rattle.document.specs.Documents.{docValue}
+use Rattle.commands.specs.Decide.{Effect, Answer, instructionOf, answerOf}
+use Rattle.document.specs.Documents.{Key, docValue}
+use Rattle.engine.specs.Engine.{storeRow}
 use Rattle.decode.specs.Decode.{requestOf}
-use Rattle.rows.specs.Table.{Table, tableOf}
-use Rattle.plain.specs.Lookup.{placeIn}
+use Rattle.rows.specs.Table.{Table, tableOf, tableBytes}
+use Rattle.plain.specs.Plain.{plain}
 use Rattle.plain.specs.Damage.{sound}
 use Rattle.rows.specs.Find.{findRow, freeRows}
 use Rattle.serving.specs.declared.Served.{Served}
 use Rattle.serving.specs.declared.Served.the-variants.{Refused, Done}
 use Rattle.serving.specs.Reply.{replyBytes}
-use Rattle.serving.specs.Change.{storedAt}
 
 -- 01's number for each answer: its outcome, 0 where a frame was served
 abbrev pub servedOutcome : Served → ℕ
@@ -56,12 +56,18 @@ unfoldable pub answerOn : Table → ℕ → List ℕ → Header → Answer
 unfolding decisionOn
 answerOn t clock s h = answerOf (requestOf s h) (docValue (findRow (t .rows) (bytesIn s (keySpan h)))) (decisionOn t clock s h)
 
+-- a table after a decision on one of its keys
+abbrev pub tableChanged : Table → Key → Effect → Table
+tableChanged t key x = record { head = x .head; rows = storeRow plain (t .rows) key (x .store) }
+
+-- a table after a whole frame
+abbrev pub frameChange : Table → ℕ → List ℕ → Header → Table
+frameChange t clock s h = tableChanged t (bytesIn s (keySpan h)) (answerOn t clock s h .effect)
+
 -- the table's memory after it
 unfoldable pub frameTable : List ℕ → ℕ → List ℕ → Header → List ℕ
 unfolding answerOn
-frameTable b clock s h =
-    storedAt b (placeIn (bytesIn s (keySpan h)) (tableOf b .rows)) (bytesIn s (keySpan h)) (answerOn (tableOf b) clock s h .effect .store)
-    (answerOn (tableOf b) clock s h .effect .head .mark .0)
+frameTable b clock s h = tableBytes (frameChange (tableOf b) clock s h)
 
 unfoldable pub frameReply : List ℕ → ℕ → List ℕ → Header → List ℕ
 unfolding decisionOn

@@ -50,18 +50,18 @@ use Rattle.run.proofs.serve_run as serve
 use Rattle.run.proofs.serve_run.Symbol as serve-def
 use Rattle.run.proofs.serve_run.Symbol.{name as #run·serve-run}
 use Rattle.run.proofs.serve_run.Met as serve-thm
-use Rattle.contacts.specs.Answers.{ranAnswer}
-use Rattle.contacts.specs.declared.answers.RanAnswer.{RanAnswer}
-use Rattle.contacts.proofs.answers.RanAnswer as S
-use Rattle.contacts.proofs.answers.RanAnswer.Laws as S′
-use Rattle.contacts.proofs.answers.ran_answer as answer
-use Rattle.contacts.proofs.answers.ran_answer.Symbol as answer-def
-use Rattle.contacts.proofs.answers.ran_answer.Symbol.{name as #answer}
-use Rattle.contacts.proofs.answers.ran_answer.Met as answer-thm
-use Rattle.contacts.proofs.answers.ran_tally as counts
-use Rattle.contacts.proofs.answers.ran_tally.Symbol as counts-def
-use Rattle.contacts.proofs.answers.ran_tally.Symbol.{name as #counts}
-use Rattle.contacts.proofs.answers.ran_tally.Met as counts-thm
+use Rattle.answers.specs.Answers.{ranAnswer}
+use Rattle.answers.specs.declared.RanAnswer.{RanAnswer}
+use Rattle.answers.proofs.RanAnswer as S
+use Rattle.answers.proofs.RanAnswer.Laws as S′
+use Rattle.answers.proofs.ran_answer as answer
+use Rattle.answers.proofs.ran_answer.Symbol as answer-def
+use Rattle.answers.proofs.ran_answer.Symbol.{name as #answer}
+use Rattle.answers.proofs.ran_answer.Met as answer-thm
+use Rattle.answers.proofs.ran_tally as counts
+use Rattle.answers.proofs.ran_tally.Symbol as counts-def
+use Rattle.answers.proofs.ran_tally.Symbol.{name as #counts}
+use Rattle.answers.proofs.ran_tally.Met as counts-thm
 use Rattle.contacts.proofs.contacts_serve_run.Key.{name as #contacts-serve-run}
 use Rattle.contacts.proofs.contacts_serve_run as f
 use Rattle.contacts.proofs.contacts_serve_run.Statement as stated
@@ -253,5 +253,5 @@ contacts-serve-run-spec 𝓤 H 𝓜 𝓖 𝓡 =
     (tables 𝓤 H 𝓜 𝓡 code.env .C) (tables 𝓤 H 𝓜 𝓡 code.env .Λ) #contacts-serve-run code.function (code.unfolded 𝓤 H 𝓜 𝓡)
     (run-meets 𝓤 H (𝓖 .A) (givenOf 𝓤 H 𝓜 𝓖) (𝓜 .mem) (𝓡 .run) (tablesOf 𝓤 H 𝓜 (tables 𝓤 H 𝓜 𝓡 code.env))
     (cited 𝓤 H (Serve 𝓤 H (𝓖 .A) (𝓜 .mem) (𝓡 .run)) 𝓜 𝓡 code.env #run·serve-run serve-def.routine code.calls-run·serve-run (serve-thm.met 𝓤 H 𝓜 𝓖 𝓡))
-    (cited 𝓤 H (Counts 𝓤 H (𝓖 .A) (𝓜 .mem) (𝓡 .run)) 𝓜 𝓡 code.env #counts counts-def.routine code.calls-contacts·answers·ran-tally (counts-thm.met 𝓤 H 𝓜 𝓖 𝓡))
-    (cited 𝓤 H (Answer 𝓤 H (𝓖 .A) (𝓜 .mem) (𝓡 .run)) 𝓜 𝓡 code.env #answer answer-def.routine code.calls-contacts·answers·ran-answer (answer-thm.met 𝓤 H 𝓜 𝓖 𝓡)))
+    (cited 𝓤 H (Counts 𝓤 H (𝓖 .A) (𝓜 .mem) (𝓡 .run)) 𝓜 𝓡 code.env #counts counts-def.routine code.calls-answers·ran-tally (counts-thm.met 𝓤 H 𝓜 𝓖 𝓡))
+    (cited 𝓤 H (Answer 𝓤 H (𝓖 .A) (𝓜 .mem) (𝓡 .run)) 𝓜 𝓡 code.env #answer answer-def.routine code.calls-answers·ran-answer (answer-thm.met 𝓤 H 𝓜 𝓖 𝓡)))

@@ -17,35 +17,27 @@ Inv-loop b₀ clock run out₀ at₀ filled₀ tally₀ b out at filled tally =
 abbrev μ-loop : tie.MeasureT-loop
 μ-loop b₀ clock run out₀ at₀ filled₀ tally₀ b out at filled tally = length run - at
 
--- src/lib.rt:62:5
 loop-holds : tie.Need-loop-holds Inv-loop μ-loop
 loop-holds c = (refl, (refl, (omega arith, (omega arith, (λ k. c .before .before .slice-known .given k .fits, refl)))))
 
--- src/lib.rt:63:44
 rest-requires : tie.Need-rest-requires Inv-loop μ-loop
 rest-requires c κs = search needs
 
--- src/lib.rt:63:67
 sub-serve-one : tie.Need-sub-serve-one Inv-loop μ-loop
 sub-serve-one c = c .before .before .loop .inv .1 .1 .1 .0
 
--- src/lib.rt:63:67
 part-serve-one-start : tie.Need-part-serve-one-start Inv-loop μ-loop
 part-serve-one-start c = search needs
 
--- src/lib.rt:63:67
 part-serve-one-end : tie.Need-part-serve-one-end Inv-loop μ-loop
 part-serve-one-end c = search needs
 
--- src/lib.rt:63:13
 serve-one-requires : tie.Need-serve-one-requires Inv-loop μ-loop
 serve-one-requires c κs = search needs
 
--- src/lib.rt:65:29
 enum-known-r : tie.Need-enum-known-r Inv-loop μ-loop
 enum-known-r c = search needs
 
--- src/lib.rt:66:22
 add-at : tie.Need-add-at Inv-loop μ-loop
 add-at c =
     let l = c .before .before .before .before .before .before .before .before .before .before .before .loop in
@@ -54,7 +46,6 @@ add-at c =
     let d = length-drop (l .at) (a .run .now) in
     omega (arith, w .inside, d, l .inv .1 .1 .0)
 
--- src/lib.rt:67:26
 add-filled : tie.Need-add-filled Inv-loop μ-loop
 add-filled c =
     let l = c .before .before .before .before .before .before .before .before .before .before .before .loop in
@@ -63,11 +54,9 @@ add-filled c =
     let d = length-drop (l .at) (a .run .now) in
     omega (arith, w .fits (l .inv .1 .1 .1 .1 .0), l .inv .1 .1 .1 .0, l .inv .1 .0)
 
--- src/lib.rt:68:17
 counted-requires : tie.Need-counted-requires Inv-loop μ-loop
 counted-requires c κs = search needs
 
--- src/lib.rt:62:5
 loop-less : tie.Need-loop-less Inv-loop μ-loop
 loop-less c =
     let l = c .before .before .before .before .before .before .before .before .before .before .before .before .loop in
@@ -76,7 +65,6 @@ loop-less c =
     let d = length-drop (l .at) (a .run .now) in
     omega (arith, w .least, w .inside, d, l .inv .1 .1 .0)
 
--- src/lib.rt:62:5
 loop-again : tie.Need-loop-again Inv-loop μ-loop
 loop-again c =
     let l = c .before .before .before .before .before .before .before .before .before .before .before .before .loop in
@@ -99,19 +87,15 @@ loop-again c =
       ),
     )
 
--- src/lib.rt:72:29
 enum-told : tie.Need-enum-told Inv-loop μ-loop
 enum-told c = search needs
 
--- src/lib.rt:71:17
 same-length : tie.Need-same-length Inv-loop μ-loop
 same-length c = c .before .before .before .before .before .b .given ∙ c .before .before .before .before .before .before .before .before .before .before .loop .inv .0
 
--- src/lib.rt:71:17
 same-length-2 : tie.Need-same-length-2 Inv-loop μ-loop
 same-length-2 c = c .before .before .before .out .given .1 ∙ c .before .before .before .before .before .before .before .before .before .before .loop .inv .1 .0
 
--- src/lib.rt:71:17
 returns : tie.Need-returns Inv-loop μ-loop
 returns c =
     let l = c .before .before .before .before .before .before .before .before .before .before .loop in

@@ -1,3 +1,4 @@
+use Rattle.octets.specs.Parts.{Bytes}
 use native.Mathlib.Omega.{arith}
 use mathlib.Core.Path.{_≡_, sym, ap, _∙_}
 use denote.Ref.{now}
@@ -74,7 +75,7 @@ enum-told : tie.Need-enum-told
 enum-told c = search needs
 
 refused-requires : tie.Need-refused-requires
-refused-requires c κs = let p = c .before .before .before .before .before .before .before .before .before .before .before in p .pre .0 .1 .1
+refused-requires c κs = search needs
 
 enum-known-ask : tie.Need-enum-known-ask
 enum-known-ask c = search needs
@@ -96,7 +97,7 @@ serve-formed-requires c κs =
         whole-goes s h whole form _ _ _ _ (p .pre .1 .0) extras value decoded _ ask,
         (
           whole-ask s h whole form _ _ _ _ (p .pre .1 .0) extras value decoded _ ask,
-          (key-cut s h (l .result) (l .ensures), whole-value s h whole form _ _ _ _ (p .pre .1 .0) extras value decoded _ ask),
+          (key-cut s h (l .result) (l .ensures), (whole-value s h whole form _ _ _ _ (p .pre .1 .0) extras value decoded _ ask, whole)),
         ),
       ),
     )
@@ -117,7 +118,8 @@ returns c =
     let decoded = c .before .before .before .before .before .before .decoded-by .ensures in
     let e = broken-status s h whole form _ _ _ _ (p .pre .1 .0) extras value decoded (c .before .before .before .before .enum-told .given .1) in
     let r = c .before .before .refused .ensures in
-    refused-by (now (p .args .b)) s (p .args .clock) h (ap reachesDecision (sym e)) 0x04 _ _ _ e (r .0) (r .1)
+    let y : Bytes (now (p .args .b)) = λ i. c .before .before .before .before .before .before .before .before .before .before .before .before .before .slice-known .given i .fits in
+    refused-by (now (p .args .b)) s (p .args .clock) h (ap reachesDecision (sym e)) 0x04 _ _ _ y (p .pre .0 .0) e (r .0) (r .1)
 
 same-length-2 : tie.Need-same-length-2
 same-length-2 c = search needs
