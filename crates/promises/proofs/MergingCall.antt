@@ -34,7 +34,7 @@ use Rattle.decode.specs.Decode as decoding
 use Rattle.merge.specs.Merge.{All}
 use Rattle.promises.specs.Calls.{Call}
 use Rattle.promises.specs.Merge.{optionsFor, MergingCall}
-use Rattle.promises.proofs.Formed.{no}
+use Rattle.serving.proofs.Formed.{no}
 
 -- what a call asks for
 abbrev pub asked : Call → abstract.RequestAt

@@ -7,7 +7,7 @@ use mathlib.Core.List.{List, [], _∷_}
 use lib.ListN.{length}
 use lib.Dec.{ltb, eqb}
 use Rattle.shape.specs.declared.Shape.{Shape}
-use Rattle.shape.specs.Shapes.{Command, commands, bare, unbuilt, lookUp, among, shapeOf}
+use Rattle.shape.specs.Shapes.{Command, commands, unbuilt, lookUp, among, shapeOf}
 use Rattle.header.specs.declared.Header.{Header}
 use Rattle.rules.specs.Rules.{formOk, fieldRulesOk, metaSize, judged, status}
 use Rattle.request.specs.Reading.{bytesIn, extrasSpan, valueSpan, frameStatus}
@@ -28,13 +28,13 @@ unfolding lookUp
 known-in op [] other p = p
 known-in op (c ∷ cs) other p =
     by-cond Known (eqb op (c .loud)) _ _ (λ t. inl refl)
-    (λ t. by-cond Known (eqb op (c .quiet)) _ _ (λ u. inl refl) (λ u. known-in op cs other p))
+    (λ t. by-cond Known (among op (c .quiet)) _ _ (λ u. inl refl) (λ u. known-in op cs other p))
 
 known : (op : ℕ) → Known (shapeOf op)
 unfolding shapeOf
 known op =
     known-in op commands _
-    (by-cond Known (among op bare) _ _ (λ t. inl refl) (λ t. by-cond Known (among op unbuilt) _ _ (λ u. inr (inl refl)) (λ u. inr (inr refl))))
+    (by-cond Known (among op unbuilt) _ _ (λ u. inr (inl refl)) (λ u. inr (inr refl)))
 
 -- the reader's status, and the list where `rest` is what the command's own tests come to
 abbrev readers : ℕ → Bool → Bool → Bool → ℕ
