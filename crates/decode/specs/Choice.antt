@@ -5,14 +5,14 @@ use mathlib.Core.Bool.{Bool, true, false, cond, _&&_, _||_}
 use mathlib.Core.List.{List}
 use lib.Dec.{leb, eqb}
 use Rattle.commands.specs.declared.Kind.{Kind}
-use Rattle.commands.specs.declared.Kind.the-variants.{Set, Add, Replace, Delete}
+use Rattle.commands.specs.declared.Kind.the-variants.{Set, Add, Replace}
 use Rattle.commands.specs.declared.Command.{Command}
-use Rattle.commands.specs.declared.Command.the-variants.{Get, Noop, Version}
+use Rattle.commands.specs.declared.Command.the-variants.{Get, Delete, Noop, Version}
 use Rattle.decode.specs.Decode.{either, plainOf, counterOf}
 
--- 01 to 04 and their quiet twins, 11 to 14
+-- 01 to 03 and their quiet twins, 11 to 13
 unfoldable pub isWrite : ℕ → Bool
-isWrite op = (leb 1 op && leb op 4) || (leb 0x11 op && leb op 0x14)
+isWrite op = (leb 1 op && leb op 3) || (leb 0x11 op && leb op 0x13)
 
 -- 05 and 06, and their quiet twins, 15 and 16
 unfoldable pub isCount : ℕ → Bool
@@ -20,7 +20,7 @@ isCount op = (leb 5 op && leb op 6) || (leb 0x15 op && leb op 0x16)
 
 -- what a write's last digit says
 unfoldable pub writeKind : ℕ → Kind
-writeKind digit = cond (eqb digit 1) Set (cond (eqb digit 2) Add (cond (eqb digit 3) Replace Delete))
+writeKind digit = cond (eqb digit 1) Set (cond (eqb digit 2) Add Replace)
 
 unfoldable pub chosen : ℕ → List ℕ → Command
 unfolding isWrite isCount writeKind
@@ -29,4 +29,5 @@ chosen op extras =
     (cond (isCount op) (counterOf (eqb (op % 16) 5) extras)
     (cond (either op 0x00 0x09) (Get false)
     (cond (either op 0x0c 0x0d) (Get true)
-    (cond (eqb op 0x0b) Version Noop))))
+    (cond (either op 0x04 0x14) Delete
+    (cond (eqb op 0x0b) Version Noop)))))

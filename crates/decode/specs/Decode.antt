@@ -14,9 +14,11 @@ use Rattle.rules.specs.declared.WithMeta.{WithMeta}
 use Rattle.rules.specs.Rules.{withMetaOk, metaSize}
 use Rattle.request.specs.Reading.{extrasSpan, keySpan, valueSpan, bytesIn}
 use Rattle.commands.specs.declared.Kind.{Kind}
-use Rattle.commands.specs.declared.Kind.the-variants.{Set, Add, Replace, Delete}
+use Rattle.commands.specs.declared.Kind.the-variants.{Set, Add, Replace}
+use Rattle.commands.specs.declared.MetaKind.{MetaKind}
+use Rattle.commands.specs.declared.MetaKind.the-variants.{Set as SetMeta, Add as AddMeta, Delete as DeleteMeta}
 use Rattle.commands.specs.declared.Command.{Command}
-use Rattle.commands.specs.declared.Command.the-variants.{Get, Write, Count, Noop, Version, WithMeta as Metas}
+use Rattle.commands.specs.declared.Command.the-variants.{Get, Write, Delete, Count, Noop, Version, WithMeta as Metas}
 use Rattle.commands.specs.declared.Instruction.{Instruction}
 use Rattle.commands.specs.Decide.{Request}
 use Rattle.decode.specs.declared.Decoded.{Decoded}
@@ -26,7 +28,7 @@ use Rattle.decode.specs.declared.Decoded.the-variants.{Broken, Whole}
 abbrev pub either : ℕ → ℕ → ℕ → Bool
 either op loud quiet = eqb op loud || eqb op quiet
 
--- "8 extras (flags, expiry)"; a Delete has none, and so both 0
+-- "8 extras (flags, expiry)"
 unfoldable pub plainOf : Kind → List ℕ → Command
 plainOf k extras = Write (record { kind = k; flags = num extras 0 4; expiry = num extras 4 4 })
 
@@ -35,7 +37,7 @@ unfoldable pub counterOf : Bool → List ℕ → Command
 counterOf up extras = Count (record { up = up; delta = num extras 0 8; initial = num extras 8 8; expiry = num extras 16 4 })
 
 -- the options' bits: 0x01, 0x02, 0x04, 0x08
-unfoldable pub metaCommand : Kind → WithMeta → Command
+unfoldable pub metaCommand : MetaKind → WithMeta → Command
 metaCommand k w = Metas (record {
   kind = k;
   numbers = w .numbers;
@@ -46,8 +48,8 @@ metaCommand k w = Metas (record {
 })
 
 -- a with-meta opcode's kind: Set below a4, Add below a6
-unfoldable pub metaKind : ℕ → Kind
-metaKind op = cond (ltb op 0xa4) Set (cond (ltb op 0xa6) Add Delete)
+unfoldable pub metaKind : ℕ → MetaKind
+metaKind op = cond (ltb op 0xa4) SetMeta (cond (ltb op 0xa6) AddMeta DeleteMeta)
 
 -- plain commands, in 01's order
 unfoldable pub plainCommand : ℕ → List ℕ → Command
@@ -58,7 +60,7 @@ plainCommand op extras =
     (cond (either op 0x01 0x11) (plainOf Set extras)
     (cond (either op 0x02 0x12) (plainOf Add extras)
     (cond (either op 0x03 0x13) (plainOf Replace extras)
-    (cond (either op 0x04 0x14) (plainOf Delete extras)
+    (cond (either op 0x04 0x14) Delete
     (cond (either op 0x05 0x15) (counterOf true extras)
     (cond (either op 0x06 0x16) (counterOf false extras)
     (cond (eqb op 0x0b) Version Noop))))))))
@@ -67,9 +69,9 @@ plainCommand op extras =
 unfoldable pub commandOf : ℕ → List ℕ → Command
 unfolding plainCommand metaCommand
 commandOf op extras =
-    cond (either op 0xa2 0xa3) (metaCommand Set (withMeta extras))
-    (cond (either op 0xa4 0xa5) (metaCommand Add (withMeta extras))
-    (cond (either op 0xa8 0xa9) (metaCommand Delete (withMeta extras))
+    cond (either op 0xa2 0xa3) (metaCommand SetMeta (withMeta extras))
+    (cond (either op 0xa4 0xa5) (metaCommand AddMeta (withMeta extras))
+    (cond (either op 0xa8 0xa9) (metaCommand DeleteMeta (withMeta extras))
     (plainCommand op extras)))
 
 -- the value before the extended meta

@@ -8,6 +8,7 @@ use commands::Counter;
 use commands::Instruction;
 use commands::Kind;
 use commands::Meta;
+use commands::MetaKind;
 use commands::Plain;
 use header::Header;
 use rules::WithMeta;
@@ -45,7 +46,7 @@ fn counter_of(up: bool, extras: &[u8]) -> Command
     })
 }
 
-fn meta_of(kind: Kind, w: WithMeta) -> Command
+fn meta_of(kind: MetaKind, w: WithMeta) -> Command
     ensures { λ r. ⌜ r ≡ metaCommand kind w ⌝ }
 {
     let numbers = w.numbers;
@@ -59,11 +60,11 @@ fn meta_of(kind: Kind, w: WithMeta) -> Command
     })
 }
 
-// 01 to 04 and their quiet twins, 11 to 14.
+// 01 to 03 and their quiet twins, 11 to 13.
 fn is_write(op: u8) -> bool
     ensures { λ r. ⌜ r ≡ isWrite op ⌝ }
 {
-    ((1 <= op) & (op <= 4)) | ((0x11 <= op) & (op <= 0x14))
+    ((1 <= op) & (op <= 3)) | ((0x11 <= op) & (op <= 0x13))
 }
 
 // 05 and 06, and their quiet twins, 15 and 16.
@@ -80,21 +81,20 @@ fn write_kind(digit: u8) -> Kind
     match digit {
         1 => Kind::Set,
         2 => Kind::Add,
-        3 => Kind::Replace,
-        _ => Kind::Delete,
+        _ => Kind::Replace,
     }
 }
 
-fn meta_kind(op: u8) -> Kind
+fn meta_kind(op: u8) -> MetaKind
     ensures { λ r. ⌜ r ≡ metaKind op ⌝ }
 {
     if op < 0xa4 {
-        return Kind::Set;
+        return MetaKind::Set;
     }
     if op < 0xa6 {
-        return Kind::Add;
+        return MetaKind::Add;
     }
-    Kind::Delete
+    MetaKind::Delete
 }
 
 // Each kind of command is made at one place, so that the compiler puts it there, and its extras are read only once the
@@ -113,6 +113,9 @@ fn plain_command(op: u8, extras: &[u8]) -> Command
     }
     if either(op, 0x0c, 0x0d) {
         return Command::Get(true);
+    }
+    if either(op, 0x04, 0x14) {
+        return Command::Delete;
     }
     if op == 0x0b {
         return Command::Version;

@@ -8,8 +8,7 @@ use native.Mathlib.Omega.{arith}
 use lib.ListN.{length}
 use lib.Dec.{leb, eqb}
 use borrow.Author.Tests.{eqb-true, leb-true}
-use Rattle.octets.specs.Parts.{Bytes, part}
-use Rattle.octets.specs.BigEndian.{be, beFrom, num}
+use Rattle.octets.specs.Parts.{Bytes}
 use Rattle.octets.proofs.Choices.{cases, both, either as one-of}
 use Rattle.octets.proofs.Lists.{bytes-part}
 use Rattle.octets.proofs.Numbers.{num-below}
@@ -22,10 +21,12 @@ use Rattle.rules.specs.Rules.{formOk, extrasOk, keyOk, numbersOk, bodyOk, withM
 use Rattle.rules.proofs.RuleLaws.{formed}
 use Rattle.request.specs.Reading.{extrasSpan, valueSpan, bytesIn, frameStatus}
 use Rattle.commands.specs.declared.Kind.{Kind}
-use Rattle.commands.specs.declared.Kind.the-variants.{Set, Add, Replace, Delete}
+use Rattle.commands.specs.declared.Kind.the-variants.{Set, Add, Replace}
+use Rattle.commands.specs.declared.MetaKind.{MetaKind}
+use Rattle.commands.specs.declared.MetaKind.the-variants.{Set as SetMeta, Add as AddMeta, Delete as DeleteMeta}
 use Rattle.commands.specs.declared.Command.{Command}
-use Rattle.commands.specs.declared.Command.the-variants.{Get, Write, Count, Noop, Version, WithMeta as Metas}
-use Rattle.commands.specs.Rules.{isDelete}
+use Rattle.commands.specs.declared.Command.the-variants.{Get, Write, Delete, Count, Noop, Version, WithMeta as Metas}
+use Rattle.commands.specs.Done.{isDelete}
 use Rattle.commands.specs.Claims.{Formed}
 use Rattle.decode.specs.Decode.{either, plainOf, counterOf, metaCommand, plainCommand, commandOf, requestOf}
 use Rattle.serving.specs.Serve.{reachesDecision}
@@ -42,6 +43,7 @@ by-cond P false x y f g = g refl
 abbrev pub Named : ℕ → Command → Type 0
 Named n (Get k) = Unit {0}
 Named n (Write p) = 1 ≤ n
+Named n Delete = 1 ≤ n
 Named n (Count k) = 1 ≤ n
 Named n Noop = Unit {0}
 Named n Version = Unit {0}
@@ -75,9 +77,6 @@ judged-fields s h extras value f z e =
 -- ---- what the rules say, by parts
 key-least : (key n : ℕ) → key ≡ 1 → keyOk key n ≡ true → 1 ≤ n
 key-least key n p e = leb-true 1 n (both (leb 1 n) (leb n 250) (rw p at e) .0)
-
-no-extras : (size n : ℕ) → size ≡ 0 → extrasOk size n ≡ true → n ≡ 0
-no-extras size n p e = ⊎-elim (λ z. eqb-true n 0 z) (λ z. no z) (one-of (eqb n 0) false (rw p at e))
 
 meta-ok : (s : Shape) (extras value : List ℕ) (m : ℕ) → s .meta ≡ m → eqb m 0 ≡ false → fieldRulesOk s extras value ≡ true → withMetaOk m (withMeta extras) value ≡ true
 unfolding fieldRulesOk
@@ -155,7 +154,7 @@ module _ (s : List ℕ) (y : Bytes s) (h : Header) (g : reachesDecision (frameSt
   named : (a b : ℕ) → either op a b ≡ true → shapeOf a .key ≡ 1 → shapeOf b .key ≡ 1 → 1 ≤ h .keylen
   named a b e p q = key-least (shapeOf op .key) (h .keylen) (two (λ (x : Shape). x .key) op a b 1 e p q) (form .key)
 
-  meta-right : (k : Kind) (m a b : ℕ) → either op a b ≡ true → shapeOf a .key ≡ 1 → shapeOf b .key ≡ 1 → shapeOf a .meta ≡ m → shapeOf b .meta ≡ m
+  meta-right : (k : MetaKind) (m a b : ℕ) → either op a b ≡ true → shapeOf a .key ≡ 1 → shapeOf b .key ≡ 1 → shapeOf a .meta ≡ m → shapeOf b .meta ≡ m
       → eqb m 0 ≡ false → (isDelete k ≡ true → m ≡ 2) → Right (metaCommand k (withMeta extras))
   unfolding metaCommand withMeta carriedNumbers
   meta-right k m a b e p q v w z d =
@@ -168,19 +167,9 @@ module _ (s : List ℕ) (y : Bytes s) (h : Header) (g : reachesDecision (frameSt
         named a b e p q,
       )
 
-  plain-right : (k : Kind) (a b : ℕ) → either op a b ≡ true → shapeOf a .key ≡ 1 → shapeOf b .key ≡ 1
-      → (isDelete k ≡ true → (shapeOf a .extras ≡ 0) × (shapeOf b .extras ≡ 0)) → Right (plainOf k extras)
-  unfolding plainOf extrasSpan be beFrom
-  plain-right k a b e p q d = (
-    (
-      num-below extras 0 4 bytes,
-      num-below extras 4 4 bytes,
-      λ t.
-          let z = no-extras (shapeOf op .extras) (h .extlen) (two (λ (x : Shape). x .extras) op a b 0 e (d t .0) (d t .1)) (form .extras) in
-          (ap (λ (n : ℕ). num (part s 24 n) 0 4) z, ap (λ (n : ℕ). num (part s 24 n) 4 4) z),
-    ),
-    named a b e p q,
-  )
+  plain-right : (k : Kind) (a b : ℕ) → either op a b ≡ true → shapeOf a .key ≡ 1 → shapeOf b .key ≡ 1 → Right (plainOf k extras)
+  unfolding plainOf
+  plain-right k a b e p q = ((num-below extras 0 4 bytes, num-below extras 4 4 bytes), named a b e p q)
 
   count-right : (up : Bool) (a b : ℕ) → either op a b ≡ true → shapeOf a .key ≡ 1 → shapeOf b .key ≡ 1 → Right (counterOf up extras)
   unfolding counterOf
@@ -191,10 +180,10 @@ module _ (s : List ℕ) (y : Bytes s) (h : Header) (g : reachesDecision (frameSt
   plain-command =
       by-cond Right (either op 0x00 0x09) _ _ (λ t. (tt, tt)) (λ _.
       by-cond Right (either op 0x0c 0x0d) _ _ (λ t. (tt, tt)) (λ _.
-      by-cond Right (either op 0x01 0x11) _ _ (λ t. plain-right Set 0x01 0x11 t refl refl (λ e. no e)) (λ _.
-      by-cond Right (either op 0x02 0x12) _ _ (λ t. plain-right Add 0x02 0x12 t refl refl (λ e. no e)) (λ _.
-      by-cond Right (either op 0x03 0x13) _ _ (λ t. plain-right Replace 0x03 0x13 t refl refl (λ e. no e)) (λ _.
-      by-cond Right (either op 0x04 0x14) _ _ (λ t. plain-right Delete 0x04 0x14 t refl refl (λ e. (refl, refl))) (λ _.
+      by-cond Right (either op 0x01 0x11) _ _ (λ t. plain-right Set 0x01 0x11 t refl refl) (λ _.
+      by-cond Right (either op 0x02 0x12) _ _ (λ t. plain-right Add 0x02 0x12 t refl refl) (λ _.
+      by-cond Right (either op 0x03 0x13) _ _ (λ t. plain-right Replace 0x03 0x13 t refl refl) (λ _.
+      by-cond Right (either op 0x04 0x14) _ _ (λ t. (tt, named 0x04 0x14 t refl refl)) (λ _.
       by-cond Right (either op 0x05 0x15) _ _ (λ t. count-right true 0x05 0x15 t refl refl) (λ _.
       by-cond Right (either op 0x06 0x16) _ _ (λ t. count-right false 0x06 0x16 t refl refl) (λ _.
       by-cond Right (eqb op 0x0b) _ _ (λ t. (tt, tt)) (λ _. (tt, tt))))))))))
@@ -202,7 +191,7 @@ module _ (s : List ℕ) (y : Bytes s) (h : Header) (g : reachesDecision (frameSt
   pub command-right : Formed (requestOf s h .command) × Named (h .keylen) (requestOf s h .command)
   unfolding requestOf commandOf shapeOf lookUp among commands bare unbuilt
   command-right =
-      by-cond Right (either op 0xa2 0xa3) _ _ (λ t. meta-right Set 1 0xa2 0xa3 t refl refl refl refl refl (λ e. no e)) (λ _.
-      by-cond Right (either op 0xa4 0xa5) _ _ (λ t. meta-right Add 1 0xa4 0xa5 t refl refl refl refl refl (λ e. no e)) (λ _.
-      by-cond Right (either op 0xa8 0xa9) _ _ (λ t. meta-right Delete 2 0xa8 0xa9 t refl refl refl refl refl (λ e. refl)) (λ _.
+      by-cond Right (either op 0xa2 0xa3) _ _ (λ t. meta-right SetMeta 1 0xa2 0xa3 t refl refl refl refl refl (λ e. no e)) (λ _.
+      by-cond Right (either op 0xa4 0xa5) _ _ (λ t. meta-right AddMeta 1 0xa4 0xa5 t refl refl refl refl refl (λ e. no e)) (λ _.
+      by-cond Right (either op 0xa8 0xa9) _ _ (λ t. meta-right DeleteMeta 2 0xa8 0xa9 t refl refl refl refl refl (λ e. refl)) (λ _.
       plain-command)))

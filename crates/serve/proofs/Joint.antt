@@ -15,9 +15,10 @@ use Rattle.document.specs.declared.Stored.{Stored}
 use Rattle.document.specs.declared.Stored.the-variants.{Nothing as NoRow}
 use Rattle.digits.specs.declared.Number.{Number}
 use Rattle.digits.specs.Decimal.{numberOf}
+use Rattle.commands.specs.declared.Context.{Context}
 use Rattle.commands.specs.declared.Instruction.{Instruction}
 use Rattle.commands.specs.declared.Decision.{Decision}
-use Rattle.commands.specs.Rules.{isWrite}
+use Rattle.commands.specs.Writes.{isMutation}
 use Rattle.commands.specs.Done.{decision}
 use Rattle.commands.proofs.Writing.{stores-none}
 use Rattle.commands.specs.Decide.{instructionOf, docFrom, bytesFrom}
@@ -35,22 +36,22 @@ use Rattle.serving.specs.Serve.{reachesDecision, refusal, decisionOn, answerOn,
 use Rattle.serving.proofs.Storing.{stored-none}
 use Rattle.serve.specs.Rows.{slotIn, heldBy, valueBy, placeFor}
 use Rattle.serve.specs.Bare.{bareHeader}
-use Rattle.serve.proofs.Lookups.{held-found, value-found, free-found, value-place}
-use Rattle.serve.proofs.Placing.{held-by, value-by, placed, placed-table}
+use Rattle.serve.proofs.Lookups.{held-found, value-found, free-found}
+use Rattle.serve.proofs.Placing.{held-by, value-by, seenAt, placed, placed-table}
 
 module _ (b s : List ℕ) (clock : ℕ) (h : Header) (f free : Found)
     (ef : f ≡ findIn (bytesIn s (keySpan h)) 0 (tableOf b .rows)) (er : free ≡ freeIn 0 (tableOf b .rows)) where
   -- a frame that goes on is decided from its key's row
   pub decided-is : (hd : Head) (st : Stored) (fr : Bool) (n : Number) (q : Instruction) (d : Decision) → reachesDecision (frameStatus s h) ≡ true
       → hd ≡ headOf b → st ≡ heldAt b f → fr ≡ not (missing free) → n ≡ numberOf (valueIn b f) → q ≡ instructionOf (requestOf s h)
-      → d ≡ decision hd st fr clock n q → d ≡ decisionOn (tableOf b) clock s h
+      → d ≡ decision (record { head = hd; row = st; free = fr; clock = clock; number = n }) q → d ≡ decisionOn (tableOf b) clock s h
   unfolding decisionOn tableOf
   decided-is hd st fr n q d g e1 e2 e3 e4 e5 ed =
       let key = bytesIn s (keySpan h) in
       let h2 = e2 ∙ ap (heldAt b) ef ∙ sym (held-found b key) in
       let h3 = e3 ∙ ap (λ (x : Found). not (missing x)) er ∙ sym (free-found b) in
       let h4 = e4 ∙ ap (λ (x : Found). numberOf (valueIn b x)) ef ∙ ap numberOf (sym (value-found b key)) in
-      rw g (ed ∙ (λ i. decision (e1 i) (h2 i) (h3 i) clock (h4 i) (e5 i)))
+      rw g (ed ∙ (λ i. decision (record { head = e1 i; row = h2 i; free = h3 i; clock = clock; number = h4 i }) (e5 i)))
 
 module _ (b s : List ℕ) (clock : ℕ) (h : Header) (d : Decision) (ed : d ≡ decisionOn (tableOf b) clock s h) where
   pub status-is : d .status ≡ answerOn (tableOf b) clock s h .effect .status
@@ -70,16 +71,15 @@ module _ (b s : List ℕ) (clock : ℕ) (h : Header) (d : Decision) (ed : d ≡ 
         → Done (d .status) (24 + h .body) n ≡ answerBy b clock s (Whole h)
     answer-is n en = λ i. Done (status-is i) (24 + h .body) ((en ∙ ap length reply-is) i)
 
-    module _ (place : Found) (v : List ℕ) (y : Bytes b) (sb : sound b ≡ true) (ep : place ≡ orElse f free) (ev : v ≡ bareValue s h) where
+    module _ (place : Found) (v : List ℕ) (ep : place ≡ orElse f free) (ev : v ≡ bareValue s h) where
       place-is : place ≡ orElse (findIn (bytesIn s (keySpan h)) 0 (tableOf b .rows)) (freeIn 0 (tableOf b .rows))
       place-is = ep ∙ (λ i. orElse ((ef ∙ ap (λ (x : List ℕ). findIn x 0 (tableOf b .rows)) ek) i) (er i))
 
-      pub table-is : storedAt b place k (docFrom (d .done .store) (bytesFrom (d .done .source) v (valueIn b place))) (d .done .head .mark .0)
+      pub table-is : storedAt b place k (docFrom (d .done .store) (bytesFrom (d .done .source) v)) (d .done .head .mark .0)
           ≡ frameTable b clock s h
       unfolding frameTable answerOn requestOf
       table-is =
-          let w = ap (valueIn b) place-is ∙ value-place b y sb (bytesIn s (keySpan h)) in
-          λ i. storedAt b (place-is i) (ek i) (docFrom (ed i .done .store) (bytesFrom (ed i .done .source) (ev i) (w i))) (ed i .done .head .mark .0)
+          λ i. storedAt b (place-is i) (ek i) (docFrom (ed i .done .store) (bytesFrom (ed i .done .source) (ev i))) (ed i .done .head .mark .0)
 
 -- ---- a frame whose status the reader gives: its reply is a bare header
 bare-reply : (op opaque : ℕ) (hd : Head) (st : ℕ) → replyBytes op opaque (refusal hd st) [] [] ≡ headerBytes (bareHeader op opaque st)
@@ -120,15 +120,19 @@ module _ (b s : List ℕ) (clock : ℕ) (h : Header) (g : reachesDecision (frame
 
 -- ---- the row's fixed part read once, and a free row looked for only where the key has none and the command writes
 module _ (b s : List ℕ) (clock : ℕ) (h : Header) (k : List ℕ) (f place : Found) (w : Bool) (slot : Slot) (old : List ℕ) (hd : Head) (q : Instruction) (d : Decision)
-    (g : reachesDecision (frameStatus s h) ≡ true) (ek : k ≡ bytesIn s (keySpan h)) (ef : f ≡ findIn k 0 (tableOf b .rows)) (ew : w ≡ isWrite (q .command))
+    (g : reachesDecision (frameStatus s h) ≡ true) (ek : k ≡ bytesIn s (keySpan h)) (ef : f ≡ findIn k 0 (tableOf b .rows)) (ew : w ≡ isMutation (q .command))
     (ep : place ≡ placeFor w f (freeIn 0 (tableOf b .rows))) (es : slot ≡ slotIn b f) (eo : old ≡ valueBy b f slot) (eh : hd ≡ headOf b)
-    (eq : q ≡ instructionOf (requestOf s h)) (ed : d ≡ decision hd (heldBy f slot) (not (missing place)) clock (numberOf old) q) where
+    (eq : q ≡ instructionOf (requestOf s h))
+    (ed : d ≡ decision (record { head = hd; row = heldBy f slot; free = not (missing place); clock = clock; number = numberOf old }) q) where
   pub old-value : old ≡ valueIn b f
   old-value = eo ∙ ap (valueBy b f) es ∙ value-by b f
 
-  placed-decision : d ≡ decision hd (heldAt b f) (not (missing (freeIn 0 (tableOf b .rows)))) clock (numberOf (valueIn b f)) q
+  abbrev seen : Context
+  seen = seenAt b clock hd (numberOf (valueIn b f)) f (not (missing (freeIn 0 (tableOf b .rows))))
+
+  placed-decision : d ≡ decision seen q
   placed-decision =
-      ed ∙ (λ i. decision hd ((ap (heldBy f) es ∙ held-by b f) i) (not (missing (ep i))) clock (numberOf (old-value i)) q)
+      ed ∙ (λ i. decision (record { head = hd; row = (ap (heldBy f) es ∙ held-by b f) i; free = not (missing (ep i)); clock = clock; number = numberOf (old-value i) }) q)
       ∙ placed b (freeIn 0 (tableOf b .rows)) clock hd (numberOf (valueIn b f)) q f w ew
 
   decision-is : d ≡ decisionOn (tableOf b) clock s h
@@ -137,22 +141,22 @@ module _ (b s : List ℕ) (clock : ℕ) (h : Header) (k : List ℕ) (f place : F
       hd (heldAt b f) (not (missing (freeIn 0 (tableOf b .rows)))) (numberOf (valueIn b f)) q d g eh refl refl refl eq placed-decision
 
   no-store : w ≡ false → d .done .store ≡ NoRow
-  no-store z = ap (λ (x : Decision). x .done .store) placed-decision ∙ stores-none hd (heldAt b f) clock (numberOf (valueIn b f)) q (not (missing (freeIn 0 (tableOf b .rows)))) (sym ew ∙ z)
+  no-store z = ap (λ (x : Decision). x .done .store) placed-decision ∙ stores-none seen q (sym ew ∙ z)
 
   -- what answering and storing by the decision leaves
   pub formed-by : (v : List ℕ) (r : Served) (n : ℕ) (b′ out out′ : List ℕ) → Bytes b → sound b ≡ true → v ≡ bareValue s h
       → n ≡ length (replyBytes (h .opcode) (h .opaque) d k old) → r ≡ Done (d .status) (24 + h .body) n
       → out′ ≡ written out 0 (replyBytes (h .opcode) (h .opaque) d k old)
-      → b′ ≡ storedAt b place k (docFrom (d .done .store) (bytesFrom (d .done .source) v (valueIn b place))) (d .done .head .mark .0)
+      → b′ ≡ storedAt b place k (docFrom (d .done .store) (bytesFrom (d .done .source) v)) (d .done .head .mark .0)
       → (r ≡ answerBy b clock s (Whole h)) × ((b′ ≡ frameTable b clock s h) × (out′ ≡ written out 0 (frameReply b clock s h)))
   formed-by v r n b′ out out′ y sb ev en er eout eb =
       let free = freeIn 0 (tableOf b .rows) in (
         er ∙ answer-is b s clock h d decision-is f free k old ek ef refl old-value n en,
         (
           eb
-              ∙ ap (λ (x : Found). storedAt b x k (docFrom (d .done .store) (bytesFrom (d .done .source) v (valueIn b x))) (d .done .head .mark .0)) ep
+              ∙ ap (λ (x : Found). storedAt b x k (docFrom (d .done .store) (bytesFrom (d .done .source) v)) (d .done .head .mark .0)) ep
               ∙ placed-table b free f w k (d .done .store) (d .done .source) v (d .done .head .mark .0) no-store
-              ∙ table-is b s clock h d decision-is f free k old ek ef refl old-value (orElse f free) v y sb refl ev,
+              ∙ table-is b s clock h d decision-is f free k old ek ef refl old-value (orElse f free) v refl ev,
           eout ∙ ap (written out 0) (reply-is b s clock h d decision-is f free k old ek ef refl old-value),
         ),
       )

@@ -70,7 +70,7 @@ fn put(b: &mut [u8], i: usize, key: &[u8], d: Metadata, value: &[u8], mark: Cas,
 // Stores decimal digits for a key.
 fn store_digits(b: &mut [u8], i: usize, key: &[u8], d: Metadata, n: u64, mark: Cas, used: usize)
     requires { ⌜ (sound (now b) ≡ true) × (used ≡ usedAt (now b) i) ⌝ }
-    ensures { λ _. ⌜ now (b .exit) ≡ stored (now (b .entry)) i (record { key = now (key .entry); doc = record { tomb = d .tomb; value = bytesFrom (Source.Digits n) [] []; numbers = d .numbers } }) (mark .0) ⌝ }
+    ensures { λ _. ⌜ now (b .exit) ≡ stored (now (b .entry)) i (record { key = now (key .entry); doc = record { tomb = d .tomb; value = bytesFrom (Source.Digits n) []; numbers = d .numbers } }) (mark .0) ⌝ }
 {
     let mut text = [0u8; 20];
     let k = digits::put_number(&mut text, n);
@@ -89,7 +89,7 @@ fn store_from(
     used: usize,
 )
     requires { ⌜ (sound (now b) ≡ true) × ((used ≡ usedAt (now b) i) × (length (docOf (rowAt (now b) i) .value) ≤ 1024)) ⌝ }
-    ensures { λ _. ⌜ now (b .exit) ≡ stored (now (b .entry)) i (record { key = now (key .entry); doc = record { tomb = d .tomb; value = bytesFrom source (now (value .entry)) (docOf (rowAt (now (b .entry)) i) .value); numbers = d .numbers } }) (mark .0) ⌝ }
+    ensures { λ _. ⌜ now (b .exit) ≡ stored (now (b .entry)) i (record { key = now (key .entry); doc = record { tomb = d .tomb; value = bytesFrom source (now (value .entry)); numbers = d .numbers } }) (mark .0) ⌝ }
 {
     match source {
         Source::Empty => put(b, i, key, d, octets::part(value, 0, 0), mark, used),
@@ -109,7 +109,7 @@ fn store_used(
     used: usize,
 )
     requires { ⌜ (sound (now b) ≡ true) × ((used ≡ usedIn (now b) place) × (length (valueIn (now b) place) ≤ 1024)) ⌝ }
-    ensures { λ _. ⌜ now (b .exit) ≡ storedAt (now (b .entry)) place (now (key .entry)) (docFrom (Stored.Used d) (bytesFrom source (now (value .entry)) (valueIn (now (b .entry)) place))) (mark .0) ⌝ }
+    ensures { λ _. ⌜ now (b .exit) ≡ storedAt (now (b .entry)) place (now (key .entry)) (docFrom (Stored.Used d) (bytesFrom source (now (value .entry)))) (mark .0) ⌝ }
 {
     match place {
         Found::At(i) => store_from(b, i, key, d, source, value, mark, used),
@@ -120,7 +120,7 @@ fn store_used(
 // Stores what a decision says, in the key's place, of whose row used bytes after the fixed part are in use.
 pub(crate) fn change(b: &mut [u8], place: Found, key: &[u8], d: Done, value: &[u8], used: usize)
     requires { ⌜ (sound (now b) ≡ true) × ((used ≡ usedIn (now b) place) × (length (valueIn (now b) place) ≤ 1024)) ⌝ }
-    ensures { λ _. ⌜ now (b .exit) ≡ storedAt (now (b .entry)) place (now (key .entry)) (docFrom (d .store) (bytesFrom (d .source) (now (value .entry)) (valueIn (now (b .entry)) place))) (d .head .mark .0) ⌝ }
+    ensures { λ _. ⌜ now (b .exit) ≡ storedAt (now (b .entry)) place (now (key .entry)) (docFrom (d .store) (bytesFrom (d .source) (now (value .entry)))) (d .head .mark .0) ⌝ }
 {
     let store = d.store;
     let source = d.source;

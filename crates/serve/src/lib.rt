@@ -21,6 +21,7 @@ ghost use Rattle.rows.specs.Table.{headOf, tableOf};
 ghost use Rattle.serving.specs.Serve.{reachesDecision, answerBy, frameTable, frameReply, served, servedTable, servedReply};
 ghost use Rattle.serve.specs.Rows.{heldBy, placeFor};
 ghost use Rattle.serve.specs.Bare.{bareHeader};
+use commands::Context;
 use commands::Decision;
 use commands::Instruction;
 use decode::Decoded;
@@ -80,14 +81,19 @@ fn decided(
     old: &[u8],
     ask: Instruction,
 ) -> Decision
-    ensures { λ r. ⌜ r ≡ decision head (heldBy f slot) (not (missing place)) clock (numberOf (now (old .entry))) ask ⌝ }
+    ensures { λ r. ⌜ r ≡ decision (record { head = head; row = heldBy f slot; free = not (missing place); clock = clock; number = numberOf (now (old .entry)) }) ask ⌝ }
 {
+    let row = change::held_by(f, slot);
+    let free = is_place(place);
+    let number = digits::parse(old);
     commands::decide(
-        head,
-        change::held_by(f, slot),
-        is_place(place),
-        clock,
-        digits::parse(old),
+        Context {
+            head,
+            row,
+            free,
+            clock,
+            number,
+        },
         ask,
     )
 }

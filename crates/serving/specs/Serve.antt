@@ -10,12 +10,10 @@ use Rattle.request.specs.declared.Gate.{Gate}
 use Rattle.request.specs.declared.Gate.the-variants.{Stop, Whole}
 use Rattle.request.specs.Reading.{gateOf, frameStatus, bytesIn, keySpan}
 use Rattle.document.specs.declared.Head.{Head}
-use Rattle.document.specs.Stored.{storedOf}
-use Rattle.digits.specs.Decimal.{numberOf}
 use Rattle.commands.specs.declared.Decision.{Decision}
 use Rattle.commands.specs.declared.Reply.the-variants.{Bare}
 use Rattle.commands.specs.Done.{decision, nothing}
-use Rattle.commands.specs.Decide.{Answer, instructionOf, answerOf}
+use Rattle.commands.specs.Decide.{Answer, contextOf, instructionOf, answerOf}
 use Rattle.document.specs.Documents.{docValue}
 use Rattle.decode.specs.Decode.{requestOf}
 use Rattle.rows.specs.Table.{Table, tableOf}
@@ -47,8 +45,7 @@ refusal h status = record { status = status; silent = false; done = nothing h Ba
 unfoldable pub decisionOn : Table → ℕ → List ℕ → Header → Decision
 decisionOn t clock s h =
     cond (reachesDecision (frameStatus s h))
-    (decision (t .head) (storedOf (findRow (t .rows) (bytesIn s (keySpan h)))) (ltb 0 (freeRows (t .rows))) clock
-    (numberOf (docValue (findRow (t .rows) (bytesIn s (keySpan h))))) (instructionOf (requestOf s h)))
+    (decision (contextOf (t .head) (findRow (t .rows) (bytesIn s (keySpan h))) (ltb 0 (freeRows (t .rows))) clock) (instructionOf (requestOf s h)))
     (refusal (t .head) (frameStatus s h))
 
 -- its answer, with the bytes put in

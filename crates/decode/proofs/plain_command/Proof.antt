@@ -1,4 +1,4 @@
--- `asks::plain_command` meets its contract: each answer is one of `chosen`, which is the definition at every byte.
+-- `decode::plain_command` meets its contract: each answer is one of `chosen`, which is the definition at every byte.
 use mathlib.Core.Path.{sym, _∙_}
 use native.Mathlib.Omega.{arith}
 use denote.Ref.{now}
@@ -51,20 +51,65 @@ either-requires-2 c κs = search needs
 returns-4 : tie.Need-returns-4
 unfolding chosen
 returns-4 c =
-    let a = c .before .before .before .before .before .before .before .before .before .args in
-    rw (← chosen-is (now (a .extras)) (a .op) (omega arith)) (simp (sym ((c .before .before .before .before .before .before .before .is-write) .ensures) ∙ (c .before .before .before .before .before .before .if1) .left, sym ((c .before .before .before .before .before .is-count) .ensures) ∙ (c .before .before .before .before .if2) .left, sym ((c .before .before .before .either) .ensures) ∙ (c .before .before .if3) .left, sym ((c .before .either2) .ensures) ∙ (c .if4) .taken))
+    let p = c .before .before in
+    let q = p .before .before .before .before in
+    rw (← chosen-is (now (q .before .before .before .args .extras)) (q .before .before .before .args .op) (omega arith))
+    (simp (
+      sym (q .before .is-write .ensures) ∙ q .if1 .left,
+      sym (p .before .before .before .is-count .ensures) ∙ p .before .before .if2 .left,
+      sym (p .before .either .ensures) ∙ p .if3 .left,
+      sym (c .before .either2 .ensures) ∙ c .if4 .taken,
+    ))
+
+either-requires-3 : tie.Need-either-requires-3
+either-requires-3 c κs = search needs
 
 returns-5 : tie.Need-returns-5
 unfolding chosen
 returns-5 c =
-    let a = c .before .before .before .before .before .before .before .before .before .before .args in
-    rw (← chosen-is (now (a .extras)) (a .op) (omega arith)) (simp (sym ((c .before .before .before .before .before .before .before .before .is-write) .ensures) ∙ (c .before .before .before .before .before .before .before .if1) .left, sym ((c .before .before .before .before .before .before .is-count) .ensures) ∙ (c .before .before .before .before .before .if2) .left, sym ((c .before .before .before .before .either) .ensures) ∙ (c .before .before .before .if3) .left, sym ((c .before .before .either2) .ensures) ∙ (c .before .if4) .left, eq-eqb _ _ ((c .if5) .taken)))
+    let o = c .before .before in
+    let p = o .before .before in
+    let q = p .before .before .before .before in
+    rw (← chosen-is (now (q .before .before .before .args .extras)) (q .before .before .before .args .op) (omega arith))
+    (simp (
+      sym (q .before .is-write .ensures) ∙ q .if1 .left,
+      sym (p .before .before .before .is-count .ensures) ∙ p .before .before .if2 .left,
+      sym (p .before .either .ensures) ∙ p .if3 .left,
+      sym (o .before .either2 .ensures) ∙ o .if4 .left,
+      sym (c .before .either3 .ensures) ∙ c .if5 .taken,
+    ))
 
 returns-6 : tie.Need-returns-6
 unfolding chosen
 returns-6 c =
-    let a = c .before .before .before .before .before .before .before .before .before .before .args in
-    rw (← chosen-is (now (a .extras)) (a .op) (omega arith)) (simp (sym ((c .before .before .before .before .before .before .before .before .is-write) .ensures) ∙ (c .before .before .before .before .before .before .before .if1) .left, sym ((c .before .before .before .before .before .before .is-count) .ensures) ∙ (c .before .before .before .before .before .if2) .left, sym ((c .before .before .before .before .either) .ensures) ∙ (c .before .before .before .if3) .left, sym ((c .before .before .either2) .ensures) ∙ (c .before .if4) .left, ne-eqb _ _ ((c .if5) .left)))
+    let o = c .before .before .before in
+    let p = o .before .before in
+    let q = p .before .before .before .before in
+    rw (← chosen-is (now (q .before .before .before .args .extras)) (q .before .before .before .args .op) (omega arith))
+    (simp (
+      sym (q .before .is-write .ensures) ∙ q .if1 .left,
+      sym (p .before .before .before .is-count .ensures) ∙ p .before .before .if2 .left,
+      sym (p .before .either .ensures) ∙ p .if3 .left,
+      sym (o .before .either2 .ensures) ∙ o .if4 .left,
+      sym (c .before .before .either3 .ensures) ∙ c .before .if5 .left,
+      eq-eqb _ _ (c .if6 .taken),
+    ))
+
+returns-7 : tie.Need-returns-7
+unfolding chosen
+returns-7 c =
+    let o = c .before .before .before in
+    let p = o .before .before in
+    let q = p .before .before .before .before in
+    rw (← chosen-is (now (q .before .before .before .args .extras)) (q .before .before .before .args .op) (omega arith))
+    (simp (
+      sym (q .before .is-write .ensures) ∙ q .if1 .left,
+      sym (p .before .before .before .is-count .ensures) ∙ p .before .before .if2 .left,
+      sym (p .before .either .ensures) ∙ p .if3 .left,
+      sym (o .before .either2 .ensures) ∙ o .if4 .left,
+      sym (c .before .before .either3 .ensures) ∙ c .before .if5 .left,
+      ne-eqb _ _ (c .if6 .left),
+    ))
 
 pub plain-command-spec : {M : Type 1} → statement M
 plain-command-spec =
@@ -81,5 +126,7 @@ plain-command-spec =
     returns-3
     either-requires-2
     returns-4
+    either-requires-3
     returns-5
-    returns-6)
+    returns-6
+    returns-7)

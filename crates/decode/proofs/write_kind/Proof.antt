@@ -13,11 +13,7 @@ returns-2 c = rw ((c .match) .keys2)
 
 returns-3 : tie.Need-returns-3
 unfolding writeKind
-returns-3 c = rw ((c .match) .keys3)
-
-returns-4 : tie.Need-returns-4
-unfolding writeKind
-returns-4 c = rw (ne-eqb ((c .before .args) .digit) 1 ((c .match) .rest .0 .0 .1), ne-eqb ((c .before .args) .digit) 2 ((c .match) .rest .0 .1), ne-eqb ((c .before .args) .digit) 3 ((c .match) .rest .1))
+returns-3 c = rw (ne-eqb ((c .before .args) .digit) 1 ((c .match) .rest .0 .1), ne-eqb ((c .before .args) .digit) 2 ((c .match) .rest .1))
 
 pub write-kind-spec : {M : Type 1} → statement M
-write-kind-spec = tie.close (tie.spec returns returns-2 returns-3 returns-4)
+write-kind-spec = tie.close (tie.spec returns returns-2 returns-3)

@@ -19,7 +19,14 @@ decide-requires c κs = search needs
 returns : tie.Need-returns
 returns c =
     let a = c .before .before .before .before .before .args in
-    c .decide .ensures ∙ (λ i. decision (a .head) (c .before .before .before .held-by .ensures i) (c .before .before .is-place .ensures i) (a .clock) (c .before .parse .ensures i) (a .ask))
+    c .decide .ensures
+    ∙ (λ i. decision (record {
+      head = a .head;
+      row = c .before .before .before .held-by .ensures i;
+      free = c .before .before .is-place .ensures i;
+      clock = a .clock;
+      number = c .before .parse .ensures i;
+    }) (a .ask))
 
 pub decided-spec : {M : Type 1} → statement M
 decided-spec =
