@@ -9,43 +9,43 @@ enum-known-command : tie.Need-enum-known-command
 enum-known-command c = search needs
 
 get-requires : tie.Need-get-requires
-get-requires c κs = search needs
+get-requires c κs = tt
 
 enum-known-command-2 : tie.Need-enum-known-command-2
 enum-known-command-2 c = search needs
 
 write-requires : tie.Need-write-requires
-write-requires c κs = search needs
+write-requires c κs = tt
 
 enum-told : tie.Need-enum-told
 enum-told c = search needs
 
 delete-requires : tie.Need-delete-requires
-delete-requires c κs = search needs
+delete-requires c κs = tt
 
 enum-known-command-3 : tie.Need-enum-known-command-3
 enum-known-command-3 c = search needs
 
 count-requires : tie.Need-count-requires
-count-requires c κs = search needs
+count-requires c κs = tt
 
 enum-told-2 : tie.Need-enum-told-2
 enum-told-2 c = search needs
 
 noop-requires : tie.Need-noop-requires
-noop-requires c κs = search needs
+noop-requires c κs = tt
 
 enum-told-3 : tie.Need-enum-told-3
 enum-told-3 c = search needs
 
 version-requires : tie.Need-version-requires
-version-requires c κs = search needs
+version-requires c κs = tt
 
 enum-known-command-4 : tie.Need-enum-known-command-4
 enum-known-command-4 c = search needs
 
 with-meta-requires : tie.Need-with-meta-requires
-with-meta-requires c κs = search needs
+with-meta-requires c κs = tt
 
 returns : tie.Need-returns
 unfolding ruleOf doneOf

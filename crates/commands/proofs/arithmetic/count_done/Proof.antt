@@ -1,24 +1,23 @@
-use borrow.Author.Needs.{needs}
 use Rattle.commands.proofs.arithmetic.count_done.Statement.{statement}
 use Rattle.commands.proofs.arithmetic.count_done.Tie as tie
 
 numbers-of-requires : tie.Need-numbers-of-requires
-numbers-of-requires c κs = search needs
+numbers-of-requires c κs = tt
 
 live-requires : tie.Need-live-requires
-live-requires c κs = search needs
+live-requires c κs = tt
 
 sum-requires : tie.Need-sum-requires
-sum-requires c κs = search needs
+sum-requires c κs = tt
 
 counted-requires : tie.Need-counted-requires
-counted-requires c κs = search needs
+counted-requires c κs = tt
 
 absolute-requires : tie.Need-absolute-requires
-absolute-requires c κs = search needs
+absolute-requires c κs = tt
 
 counted-requires-2 : tie.Need-counted-requires-2
-counted-requires-2 c κs = search needs
+counted-requires-2 c κs = tt
 
 returns : tie.Need-returns
 returns c = simp (c .counted .ensures, c .before .sum .ensures, ← c .before .before .before .live .ensures, c .before .before .if1 .taken, c .before .before .before .before .numbers-of .ensures)

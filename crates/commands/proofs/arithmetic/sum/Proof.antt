@@ -6,10 +6,10 @@ enum-known-n : tie.Need-enum-known-n
 enum-known-n c = search needs
 
 increment-requires : tie.Need-increment-requires
-increment-requires c κs = search needs
+increment-requires c κs = tt
 
 decrement-requires : tie.Need-decrement-requires
-decrement-requires c κs = search needs
+decrement-requires c κs = tt
 
 enum-told : tie.Need-enum-told
 enum-told c = search needs

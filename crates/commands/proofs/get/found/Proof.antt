@@ -1,12 +1,11 @@
-use borrow.Author.Needs.{needs}
 use Rattle.commands.proofs.get.found.Statement.{statement}
 use Rattle.commands.proofs.get.found.Tie as tie
 
 numbers-of-requires : tie.Need-numbers-of-requires
-numbers-of-requires c κs = search needs
+numbers-of-requires c κs = tt
 
 nothing-requires : tie.Need-nothing-requires
-nothing-requires c κs = search needs
+nothing-requires c κs = tt
 
 returns : tie.Need-returns
 returns c = simp (c .nothing .ensures, c .before .before .numbers-of .ensures)

@@ -1,16 +1,15 @@
 use Rattle.commands.specs.Rules.{testsOf}
-use borrow.Author.Needs.{needs}
 use Rattle.commands.proofs.get.get_status.Statement.{statement}
 use Rattle.commands.proofs.get.get_status.Tie as tie
 
 is-here-requires : tie.Need-is-here-requires
-is-here-requires c κs = search needs
+is-here-requires c κs = tt
 
 live-requires : tie.Need-live-requires
-live-requires c κs = search needs
+live-requires c κs = tt
 
 first-status-requires : tie.Need-first-status-requires
-first-status-requires c κs = search needs
+first-status-requires c κs = tt
 
 returns : tie.Need-returns
 unfolding testsOf

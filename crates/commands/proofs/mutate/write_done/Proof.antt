@@ -1,15 +1,14 @@
-use borrow.Author.Needs.{needs}
 use Rattle.commands.proofs.mutate.write_done.Statement.{statement}
 use Rattle.commands.proofs.mutate.write_done.Tie as tie
 
 absolute-requires : tie.Need-absolute-requires
-absolute-requires c κs = search needs
+absolute-requires c κs = tt
 
 plain-numbers-requires : tie.Need-plain-numbers-requires
-plain-numbers-requires c κs = search needs
+plain-numbers-requires c κs = tt
 
 storing-requires : tie.Need-storing-requires
-storing-requires c κs = search needs
+storing-requires c κs = tt
 
 returns : tie.Need-returns
 returns c = simp (c .storing .ensures, c .before .plain-numbers .ensures, c .before .before .absolute .ensures)

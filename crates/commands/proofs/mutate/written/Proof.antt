@@ -1,19 +1,18 @@
 use Rattle.commands.proofs.Deciding.{by-rule}
-use borrow.Author.Needs.{needs}
 use Rattle.commands.proofs.mutate.written.Statement.{statement}
 use Rattle.commands.proofs.mutate.written.Tie as tie
 
 passes-requires : tie.Need-passes-requires
-passes-requires c κs = search needs
+passes-requires c κs = tt
 
 write-status-requires : tie.Need-write-status-requires
-write-status-requires c κs = search needs
+write-status-requires c κs = tt
 
 write-done-requires : tie.Need-write-done-requires
-write-done-requires c κs = search needs
+write-done-requires c κs = tt
 
 with-status-requires : tie.Need-with-status-requires
-with-status-requires c κs = search needs
+with-status-requires c κs = tt
 
 returns : tie.Need-returns
 returns c =

@@ -1,6 +1,5 @@
 use borrow.Author.Tests.{lt-ltb, le-ltb}
 use Rattle.commands.specs.Rules.{testsOf, firstStatus, firstFailure}
-use borrow.Author.Needs.{needs}
 use Rattle.commands.proofs.service.service_status.Statement.{statement}
 use Rattle.commands.proofs.service.service_status.Tie as tie
 

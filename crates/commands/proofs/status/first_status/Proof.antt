@@ -1,31 +1,30 @@
 use Rattle.commands.specs.Rules.{firstStatus, firstFailure}
-use borrow.Author.Needs.{needs}
 use Rattle.commands.proofs.status.first_status.Statement.{statement}
 use Rattle.commands.proofs.status.first_status.Tie as tie
 
 first-requires : tie.Need-first-requires
-first-requires c κs = search needs
+first-requires c κs = tt
 
 first-requires-2 : tie.Need-first-requires-2
-first-requires-2 c κs = search needs
+first-requires-2 c κs = tt
 
 first-requires-3 : tie.Need-first-requires-3
-first-requires-3 c κs = search needs
+first-requires-3 c κs = tt
 
 first-requires-4 : tie.Need-first-requires-4
-first-requires-4 c κs = search needs
+first-requires-4 c κs = tt
 
 first-requires-5 : tie.Need-first-requires-5
-first-requires-5 c κs = search needs
+first-requires-5 c κs = tt
 
 first-requires-6 : tie.Need-first-requires-6
-first-requires-6 c κs = search needs
+first-requires-6 c κs = tt
 
 first-requires-7 : tie.Need-first-requires-7
-first-requires-7 c κs = search needs
+first-requires-7 c κs = tt
 
 first-requires-8 : tie.Need-first-requires-8
-first-requires-8 c κs = search needs
+first-requires-8 c κs = tt
 
 returns : tie.Need-returns
 unfolding firstStatus firstFailure

@@ -1,9 +1,8 @@
-use borrow.Author.Needs.{needs}
 use Rattle.commands.proofs.status.storing.Statement.{statement}
 use Rattle.commands.proofs.status.storing.Tie as tie
 
 larger-requires : tie.Need-larger-requires
-larger-requires c κs = search needs
+larger-requires c κs = tt
 
 returns : tie.Need-returns
 returns c = simp (c .larger .ensures)

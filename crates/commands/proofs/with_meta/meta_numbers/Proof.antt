@@ -1,9 +1,8 @@
-use borrow.Author.Needs.{needs}
 use Rattle.commands.proofs.with_meta.meta_numbers.Statement.{statement}
 use Rattle.commands.proofs.with_meta.meta_numbers.Tie as tie
 
 next-requires : tie.Need-next-requires
-next-requires c κs = search needs
+next-requires c κs = tt
 
 returns : tie.Need-returns
 returns c = rw (c .before .before .if1 .taken) (simp (c .next .ensures))

@@ -1,15 +1,14 @@
-use borrow.Author.Needs.{needs}
 use Rattle.commands.proofs.with_meta.with_meta.Statement.{statement}
 use Rattle.commands.proofs.with_meta.with_meta.Tie as tie
 
 is-add-requires : tie.Need-is-add-requires
-is-add-requires c κs = search needs
+is-add-requires c κs = tt
 
 is-delete-requires : tie.Need-is-delete-requires
-is-delete-requires c κs = search needs
+is-delete-requires c κs = tt
 
 written-requires : tie.Need-written-requires
-written-requires c κs = search needs
+written-requires c κs = tt
 
 returns : tie.Need-returns
 returns c = simp (c .written .ensures, c .before .is-delete .ensures, c .before .before .is-add .ensures)

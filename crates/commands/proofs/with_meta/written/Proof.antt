@@ -1,16 +1,15 @@
 use Rattle.commands.proofs.Deciding.{by-rule}
-use borrow.Author.Needs.{needs}
 use Rattle.commands.proofs.with_meta.written.Statement.{statement}
 use Rattle.commands.proofs.with_meta.written.Tie as tie
 
 meta-status-requires : tie.Need-meta-status-requires
-meta-status-requires c κs = search needs
+meta-status-requires c κs = tt
 
 meta-done-requires : tie.Need-meta-done-requires
-meta-done-requires c κs = search needs
+meta-done-requires c κs = tt
 
 with-status-requires : tie.Need-with-status-requires
-with-status-requires c κs = search needs
+with-status-requires c κs = tt
 
 returns : tie.Need-returns
 returns c = by-rule _ _ _ _ _ _ _ (c .before .before .meta-status .ensures) (c .before .meta-done .ensures) (c .with-status .ensures)
