@@ -11,11 +11,11 @@ use Rattle.document.specs.declared.Head.{Head}
 use Rattle.document.specs.Head.{marked}
 use Rattle.document.specs.Documents.{Doc}
 use Rattle.document.specs.Stored.{storedOf, hasRow, numbersOf, accepted}
-use Rattle.commands.specs.declared.Kind.{Kind}
+use Rattle.commands.specs.declared.MetaKind.{MetaKind}
 use Rattle.commands.specs.declared.Command.{Command}
-use Rattle.commands.specs.declared.Command.the-variants.{Get, Write, Count, Noop, Version, WithMeta}
+use Rattle.commands.specs.declared.Command.the-variants.{Get, Write, Delete, Count, Noop, Version, WithMeta}
 use Rattle.commands.specs.declared.Meta.{Meta}
-use Rattle.commands.specs.Rules.{isDelete}
+use Rattle.commands.specs.Done.{isDelete}
 use Rattle.commands.specs.Decide.{Request, Effect, decide}
 use Rattle.commands.specs.Merging.{RequestAt, MergingRequest, carried}
 
@@ -33,13 +33,14 @@ pub record SoundDoc (mark : ℕ) (d : Doc) : Type 0 where
   pub short : length (d .value) ≤ 1024
   pub bare : d .tomb ≡ true → (d .value ≡ []) × (d .numbers .flags ≡ 0) × (d .numbers .expiry ≡ 0)
 
--- what the rules of form say of a command
-abbrev pub BareDelete : Kind → ℕ → ℕ → Type 0
+-- what the rules of form say of a command. "for Delete, [..] flags or expiry not 0"
+abbrev pub BareDelete : MetaKind → ℕ → ℕ → Type 0
 BareDelete k flags expiry = isDelete k ≡ true → (flags ≡ 0) × (expiry ≡ 0)
 
 abbrev pub Formed : Command → Type 0
 Formed (Get k) = Unit {0}
-Formed (Write p) = (p .flags < 2 ^ 32) × (p .expiry < 2 ^ 32) × BareDelete (p .kind) (p .flags) (p .expiry)
+Formed (Write p) = (p .flags < 2 ^ 32) × (p .expiry < 2 ^ 32)
+Formed Delete = Unit {0}
 Formed (Count k) = k .expiry < 2 ^ 32
 Formed Noop = Unit {0}
 Formed Version = Unit {0}

@@ -13,6 +13,7 @@ use Rattle.document.specs.declared.Stored.{Stored}
 use Rattle.document.specs.declared.Stored.the-variants.{Nothing, Used}
 use Rattle.document.specs.declared.Head.{Head}
 use Rattle.commands.specs.declared.Command.{Command}
+use Rattle.commands.specs.declared.Context.{Context}
 use Rattle.commands.specs.declared.Instruction.{Instruction}
 use Rattle.commands.specs.declared.Source.{Source}
 use Rattle.commands.specs.declared.Source.the-variants.{Empty, Frame, Digits}
@@ -47,11 +48,11 @@ pub record Answer : Type 0 where
 abbrev pub instructionOf : Request → Instruction
 instructionOf a = record { vbucket = a .vbucket; cas = a .cas; quiet = a .quiet; size = length (a .value); command = a .command }
 
--- ---- the bytes of a decision: those of the frame, and those that were stored
-abbrev pub bytesFrom : Source → List ℕ → List ℕ → List ℕ
-bytesFrom Empty frame old = []
-bytesFrom Frame frame old = frame
-bytesFrom (Digits n) frame old = digits n
+-- ---- the bytes of a decision: those of the frame, and the stored ones in a reply
+abbrev pub bytesFrom : Source → List ℕ → List ℕ
+bytesFrom Empty frame = []
+bytesFrom Frame frame = frame
+bytesFrom (Digits n) frame = digits n
 
 abbrev pub docFrom : Stored → List ℕ → Option Doc
 docFrom Nothing value = none
@@ -75,12 +76,12 @@ replyValue (Found flags keyed) old = old
 replyValue (Counted n) old = bytesOf 8 n
 replyValue VersionReply old = 52 ∷ 46 ∷ 48 ∷ 46 ∷ 48 ∷ []
 
-abbrev pub effectOf : Request → List ℕ → Decision → Effect
-effectOf a old x = record { status = x .status; store = docFrom (x .done .store) (bytesFrom (x .done .source) (a .value) old); head = x .done .head }
+abbrev pub effectOf : Request → Decision → Effect
+effectOf a x = record { status = x .status; store = docFrom (x .done .store) (bytesFrom (x .done .source) (a .value)); head = x .done .head }
 
 abbrev pub answerOf : Request → List ℕ → Decision → Answer
 answerOf a old x = record {
-  effect = effectOf a old x;
+  effect = effectOf a x;
   silent = x .silent;
   extras = replyExtras (x .done .reply);
   key = replyKey (x .done .reply) (a .key);
@@ -88,5 +89,9 @@ answerOf a old x = record {
   cas = x .done .cas .0;
 }
 
+-- what a decision sees of a table's head, the key's row, whether a row is free and the clock
+abbrev pub contextOf : Head → Option Doc → Bool → ℕ → Context
+contextOf h row free clock = record { head = h; row = storedOf row; free = free; clock = clock; number = numberOf (docValue row) }
+
 unfoldable pub decide : Head → Option Doc → Bool → ℕ → Request → Answer
-decide h row anyFree clock a = answerOf a (docValue row) (decision h (storedOf row) anyFree clock (numberOf (docValue row)) (instructionOf a))
+decide h row free clock a = answerOf a (docValue row) (decision (contextOf h row free clock) (instructionOf a))

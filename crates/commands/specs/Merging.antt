@@ -1,33 +1,33 @@
 -- The writes that demand 3 speaks of, as requests whose form is right.
 use Prim.Native.Nat.{ℕ, _≤_}
 use mathlib.Core.Path.{_≡_}
-use mathlib.Core.Bool.{false}
+use mathlib.Core.Bool.{false, cond}
 use mathlib.Core.List.{List, []}
 use lib.ListN.{length}
 use Rattle.numbers.specs.declared.Mode.{Mode}
 use Rattle.document.specs.Documents.{Doc, Entry}
-use Rattle.commands.specs.declared.Kind.{Kind}
-use Rattle.commands.specs.declared.Kind.the-variants.{Set, Add, Replace, Delete}
+use Rattle.commands.specs.declared.MetaKind.{MetaKind}
+use Rattle.commands.specs.declared.MetaKind.the-variants.{Set, Add, Delete}
 use Rattle.commands.specs.declared.Meta.{Meta}
 use Rattle.commands.specs.declared.Command.{Command}
-use Rattle.commands.specs.declared.Command.the-variants.{Get, Write, Count, Noop, Version, WithMeta}
-use Rattle.commands.specs.Rules.{isDelete, isLast, sourceOf}
-use Rattle.commands.specs.Decide.{Request, bytesFrom}
+use Rattle.commands.specs.declared.Command.the-variants.{Get, Write, Delete as PlainDelete, Count, Noop, Version, WithMeta}
+use Rattle.commands.specs.Rules.{isLast}
+use Rattle.commands.specs.Done.{isDelete}
+use Rattle.commands.specs.Decide.{Request}
 
 -- a request served at a clock
 pub record RequestAt : Type 0 where
   pub clock : ℕ
   pub request : Request
 
-abbrev pub SetOrDelete : Kind → Type 0
+abbrev pub SetOrDelete : MetaKind → Type 0
 SetOrDelete Set = Unit {0}
 SetOrDelete Add = ⊥
-SetOrDelete Replace = ⊥
 SetOrDelete Delete = Unit {0}
 
 -- "A Set carries a document with the numbers in its extras and the value before its extended meta, a Delete a tombstone with its revision and CAS"
 abbrev pub carried : List ℕ → Meta → Doc
-carried value w = record { tomb = isDelete (w .kind); value = bytesFrom (sourceOf (w .kind)) value []; numbers = w .numbers }
+carried value w = record { tomb = isDelete (w .kind); value = cond (isDelete (w .kind)) [] value; numbers = w .numbers }
 
 -- the meta of a with-meta command; of any other command nothing is said
 abbrev pub noMeta : Meta
@@ -36,6 +36,7 @@ noMeta = record { kind = Set; numbers = record { flags = 0; expiry = 0; revision
 abbrev pub metaIn : Command → Meta
 metaIn (Get k) = noMeta
 metaIn (Write p) = noMeta
+metaIn PlainDelete = noMeta
 metaIn (Count k) = noMeta
 metaIn Noop = noMeta
 metaIn Version = noMeta

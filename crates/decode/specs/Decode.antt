@@ -16,9 +16,11 @@ use Rattle.rules.specs.declared.WithMeta.{WithMeta}
 use Rattle.rules.specs.Rules.{withMetaOk, metaSize}
 use Rattle.request.specs.Reading.{extrasSpan, keySpan, valueSpan, bytesIn}
 use Rattle.commands.specs.declared.Kind.{Kind}
-use Rattle.commands.specs.declared.Kind.the-variants.{Set, Add, Replace, Delete}
+use Rattle.commands.specs.declared.Kind.the-variants.{Set, Add, Replace}
+use Rattle.commands.specs.declared.MetaKind.{MetaKind}
+use Rattle.commands.specs.declared.MetaKind.the-variants.{Set as SetMeta, Add as AddMeta, Delete as DeleteMeta}
 use Rattle.commands.specs.declared.Command.{Command}
-use Rattle.commands.specs.declared.Command.the-variants.{Get, Write, Count, Noop, Version, WithMeta as Metas}
+use Rattle.commands.specs.declared.Command.the-variants.{Get, Write, Delete, Count, Noop, Version, WithMeta as Metas}
 use Rattle.commands.specs.declared.Instruction.{Instruction}
 use Rattle.commands.specs.Decide.{Request}
 use Rattle.decode.specs.declared.Family.{Family}
@@ -26,7 +28,7 @@ use Rattle.decode.specs.declared.Family.the-variants.{Bare, Stored, Coun
 use Rattle.decode.specs.declared.Decoded.{Decoded}
 use Rattle.decode.specs.declared.Decoded.the-variants.{Broken, Whole}
 
--- "8 extras (flags, expiry)"; a Delete has none, and so both 0
+-- "8 extras (flags, expiry)"
 unfoldable pub plainOf : Kind → List ℕ → Command
 plainOf k extras = Write (record { kind = k; flags = num extras 0 4; expiry = num extras 4 4 })
 
@@ -35,7 +37,7 @@ unfoldable pub counterOf : Bool → List ℕ → Command
 counterOf up extras = Count (record { up = up; delta = num extras 0 8; initial = num extras 8 8; expiry = num extras 16 4 })
 
 -- the options' bits: 0x01, 0x02, 0x04, 0x08
-unfoldable pub metaCommand : Kind → WithMeta → Command
+unfoldable pub metaCommand : MetaKind → WithMeta → Command
 metaCommand k w = Metas (record {
   kind = k;
   numbers = w .numbers;
@@ -52,14 +54,14 @@ familyOf Operations.GetKey = Bare (Get true)
 familyOf Operations.Set = Stored Set
 familyOf Operations.Add = Stored Add
 familyOf Operations.Replace = Stored Replace
-familyOf Operations.Delete = Stored Delete
+familyOf Operations.Delete = Bare Delete
 familyOf Operations.Increment = Counted true
 familyOf Operations.Decrement = Counted false
 familyOf Operations.Noop = Bare Noop
 familyOf Operations.Version = Bare Version
-familyOf Operations.SetWithMeta = Carried Set
-familyOf Operations.AddWithMeta = Carried Add
-familyOf Operations.DeleteWithMeta = Carried Delete
+familyOf Operations.SetWithMeta = Carried SetMeta
+familyOf Operations.AddWithMeta = Carried AddMeta
+familyOf Operations.DeleteWithMeta = Carried DeleteMeta
 familyOf Operations.NotBuilt = Bare Noop
 familyOf Operations.Unknown = Bare Noop
 
@@ -83,7 +85,7 @@ abbrev pub instructionWith : Shape → Header → Command → ℕ → Instructio
 instructionWith s h command size = record { vbucket = h .vbucket; cas = h .cas; quiet = s .quiet; size = size; command = command }
 
 -- a with-meta command unless its fields break the rules
-unfoldable pub metaDecoded : Shape → Header → Kind → List ℕ → List ℕ → Decoded
+unfoldable pub metaDecoded : Shape → Header → MetaKind → List ℕ → List ℕ → Decoded
 metaDecoded s h k extras value =
     cond (withMetaOk (s .meta) (withMeta extras) value)
     (Whole (instructionWith s h (metaCommand k (withMeta extras)) (length value - withMeta extras .section)))

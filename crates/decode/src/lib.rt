@@ -6,6 +6,7 @@ use commands::Counter;
 use commands::Instruction;
 use commands::Kind;
 use commands::Meta;
+use commands::MetaKind;
 use commands::Plain;
 use header::Header;
 use rules::WithMeta;
@@ -38,7 +39,7 @@ fn counter_of(up: bool, extras: &[u8]) -> Command
     })
 }
 
-fn meta_of(kind: Kind, w: WithMeta) -> Command
+fn meta_of(kind: MetaKind, w: WithMeta) -> Command
     ensures { λ r. ⌜ r ≡ metaCommand kind w ⌝ }
 {
     let numbers = w.numbers;
@@ -57,7 +58,7 @@ enum Family {
     Bare(Command),
     Stored(Kind),
     Counted(bool),
-    Carried(Kind),
+    Carried(MetaKind),
 }
 
 fn family_of(operation: Operation) -> Family
@@ -71,14 +72,14 @@ fn family_of(operation: Operation) -> Family
         Operation::Set => Family::Stored(Kind::Set),
         Operation::Add => Family::Stored(Kind::Add),
         Operation::Replace => Family::Stored(Kind::Replace),
-        Operation::Delete => Family::Stored(Kind::Delete),
+        Operation::Delete => Family::Bare(Command::Delete),
         Operation::Increment => Family::Counted(true),
         Operation::Decrement => Family::Counted(false),
         Operation::Noop => Family::Bare(Command::Noop),
         Operation::Version => Family::Bare(Command::Version),
-        Operation::SetWithMeta => Family::Carried(Kind::Set),
-        Operation::AddWithMeta => Family::Carried(Kind::Add),
-        Operation::DeleteWithMeta => Family::Carried(Kind::Delete),
+        Operation::SetWithMeta => Family::Carried(MetaKind::Set),
+        Operation::AddWithMeta => Family::Carried(MetaKind::Add),
+        Operation::DeleteWithMeta => Family::Carried(MetaKind::Delete),
     }
 }
 
@@ -102,7 +103,7 @@ pub enum Decoded {
 }
 
 // A with-meta command, unless its fields break the rules.
-fn meta_decoded(shape: Shape, h: Header, kind: Kind, extras: &[u8], value: &[u8]) -> Decoded
+fn meta_decoded(shape: Shape, h: Header, kind: MetaKind, extras: &[u8], value: &[u8]) -> Decoded
     ensures { λ r. ⌜ r ≡ metaDecoded shape h kind (now (extras .entry)) (now (value .entry)) ⌝ }
 {
     let w = rules::with_meta(extras);

@@ -22,8 +22,8 @@ use Rattle.rules.specs.Rules.{formOk, fieldRulesOk, metaSize, judged, status}
 use Rattle.rules.proofs.RuleLaws.{parts-inside}
 use Rattle.request.proofs.Gated.{whole-frame}
 use Rattle.request.specs.Reading.{frameStatus, extrasSpan, valueSpan, bytesIn}
-use Rattle.commands.specs.declared.Kind.{Kind}
-use Rattle.commands.specs.declared.Kind.the-variants.{Set, Delete}
+use Rattle.commands.specs.declared.MetaKind.{MetaKind}
+use Rattle.commands.specs.declared.MetaKind.the-variants.{Set, Delete}
 use Rattle.commands.specs.declared.Command.{Command}
 use Rattle.commands.specs.declared.Command.the-variants.{WithMeta as Metas}
 use Rattle.commands.specs.Rules.{isLast}
@@ -42,7 +42,7 @@ asked c = record { clock = c .clock; request = requestOf (c .received) (headerOf
 
 -- ---- the command
 kind-of : (op : ℕ) (extras : List ℕ) → among op (0xa2 ∷ 0xa3 ∷ 0xa8 ∷ 0xa9 ∷ []) ≡ true
-    → (k : Kind) × SetOrDelete k × (commandOf (shapeOf op .operation) extras ≡ decoding.metaCommand k (withMeta extras))
+    → (k : MetaKind) × SetOrDelete k × (commandOf (shapeOf op .operation) extras ≡ decoding.metaCommand k (withMeta extras))
 unfolding among commandOf shapeOf
 kind-of op extras e =
     ⊎-elim (λ z. rw (eqb-true op 0xa2 z) (Set, tt, refl))
@@ -59,7 +59,7 @@ record Metaed (m : Mode) (x : Command) : Type 0 where
   regenerate : metaIn x .regenerate ≡ false
   skip : metaIn x .skip ≡ false
 
-metaed : (m : Mode) (x : Command) (k : Kind) (w : WithMeta) → SetOrDelete k → x ≡ decoding.metaCommand k w → w .options ≡ optionsFor m → Metaed m x
+metaed : (m : Mode) (x : Command) (k : MetaKind) (w : WithMeta) → SetOrDelete k → x ≡ decoding.metaCommand k w → w .options ≡ optionsFor m → Metaed m x
 unfolding decoding.metaCommand
 metaed ByRevision x k w d e o = rw e (record { with-meta = refl; kind = d; last = rw o; force = rw o; regenerate = rw o; skip = rw o })
 metaed LastWrite x k w d e o = rw e (record { with-meta = refl; kind = d; last = rw o; force = rw o; regenerate = rw o; skip = rw o })

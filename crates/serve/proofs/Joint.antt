@@ -23,14 +23,13 @@ use Rattle.document.specs.declared.Head.{Head}
 use Rattle.document.specs.declared.Metadata.{Metadata}
 use Rattle.document.specs.declared.Stored.{Stored}
 use Rattle.document.specs.declared.Stored.the-variants.{Nothing as NoRow, Used}
+use Rattle.commands.specs.declared.Context.{Context}
 use Rattle.commands.specs.declared.Instruction.{Instruction}
-use Rattle.commands.specs.declared.Source.{Source}
-use Rattle.commands.specs.declared.Source.the-variants.{Empty, Frame, Digits}
 use Rattle.commands.specs.declared.Decision.{Decision}
-use Rattle.commands.specs.Rules.{isWrite, testsOf}
+use Rattle.commands.specs.Writes.{isMutation}
 use Rattle.commands.specs.Done.{decision}
 use Rattle.commands.specs.Decide.{Effect, instructionOf, docFrom, bytesFrom}
-use Rattle.commands.proofs.Writing.{free-unread, stores-none}
+use Rattle.commands.proofs.Writing.{free-with-row, free-unread, stores-none}
 use Rattle.decode.specs.Decode.{requestOf, bareValue}
 use Rattle.engine.specs.Engine.{storeRow}
 use Rattle.rows.specs.Table.{Table, tableOf, tableBytes, headOf, headBytes}
@@ -88,22 +87,18 @@ pub read-back : (s xs s′ v : List ℕ) (k : ℕ) → k ≡ length xs → s′ 
 unfolding pasted
 read-back s xs s′ v k p q r = r ∙ rw (q, p) (take-at xs (drop (0 + length xs) s) (length xs) refl)
 
--- what is stored doesn't hang on the value before
-old-unread : (source : Source) (frame old old′ : List ℕ) → bytesFrom source frame old ≡ bytesFrom source frame old′
-old-unread Empty frame old old′ = refl
-old-unread Frame frame old old′ = refl
-old-unread (Digits n) frame old old′ = refl
-
 -- a key with a row needs no free one, and a command that doesn't write doesn't look for one
-room-known : (h : Head) (s : Stored) (free : Bool) (clock : ℕ) (n : Number) (q : Instruction) → decision h s (hasRow s || free) clock n q ≡ decision h s free clock n q
-unfolding decision testsOf
-room-known h NoRow free clock n q = refl
-room-known h (Used m) free clock n q = refl
+abbrev pub seeing : Head → Stored → Bool → ℕ → Number → Context
+seeing h s free clock n = record { head = h; row = s; free = free; clock = clock; number = n }
 
-placed : (h : Head) (s : Stored) (place free : Bool) (clock : ℕ) (n : Number) (q : Instruction) (w : Bool) → w ≡ isWrite (q .command)
-    → (w ≡ true → place ≡ (hasRow s || free)) → decision h s place clock n q ≡ decision h s free clock n q
-placed h s place free clock n q true e p = ap (λ (x : Bool). decision h s x clock n q) (p refl) ∙ room-known h s free clock n q
-placed h s place free clock n q false e p = free-unread h s clock n q place free (sym e)
+room-known : (h : Head) (s : Stored) (free : Bool) (clock : ℕ) (n : Number) (q : Instruction) → decision (seeing h s (hasRow s || free) clock n) q ≡ decision (seeing h s free clock n) q
+room-known h NoRow free clock n q = refl
+room-known h (Used m) free clock n q = free-with-row (seeing h (Used m) true clock n) q free refl
+
+placed : (h : Head) (s : Stored) (place free : Bool) (clock : ℕ) (n : Number) (q : Instruction) (w : Bool) → w ≡ isMutation (q .command)
+    → (w ≡ true → place ≡ (hasRow s || free)) → decision (seeing h s place clock n) q ≡ decision (seeing h s free clock n) q
+placed h s place free clock n q true e p = ap (λ (x : Bool). decision (seeing h s x clock n) q) (p refl) ∙ room-known h s free clock n q
+placed h s place free clock n q false e p = free-unread (seeing h s place clock n) q free (sym e)
 
 no-doc : (st : Stored) (value : List ℕ) → st ≡ NoRow → docFrom st value ≡ none
 no-doc st value e = rw e
@@ -133,8 +128,8 @@ changed-is b s clock h w y z inside sb none-if =
 
 module _ (b s : List ℕ) (clock : ℕ) (h : Header) (y : Bytes b) (z : Bytes s) (sb : sound b ≡ true) (inside : 24 + h .body ≤ length s)
     (g : reachesDecision (frameStatus s h) ≡ true) (k : List ℕ) (w : Bool) (l : Lookup) (old : List ℕ) (hd : Head) (q : Instruction) (d : Decision)
-    (ek : k ≡ bytesIn s (keySpan h)) (ew : w ≡ isWrite (q .command)) (el : l ≡ lookupOf w b k) (eo : old ≡ part b (l .at) (l .len)) (eh : hd ≡ headOf b)
-    (eq : q ≡ instructionOf (requestOf s h)) (ed : d ≡ decision hd (l .stored) (hasPlace (l .place)) clock (numberOf old) q) where
+    (ek : k ≡ bytesIn s (keySpan h)) (ew : w ≡ isMutation (q .command)) (el : l ≡ lookupOf w b k) (eo : old ≡ part b (l .at) (l .len)) (eh : hd ≡ headOf b)
+    (eq : q ≡ instructionOf (requestOf s h)) (ed : d ≡ decision (seeing hd (l .stored) (hasPlace (l .place)) clock (numberOf old)) q) where
   abbrev key : Key
   key = bytesIn s (keySpan h)
 
@@ -156,15 +151,15 @@ module _ (b s : List ℕ) (clock : ℕ) (h : Header) (y : Bytes b) (z : Bytes s)
   old-is : old ≡ docValue row
   old-is = eo ∙ ap (λ (x : Lookup). part b (x .at) (x .len)) found ∙ finds .value
 
-  decided-is : d ≡ decision (headOf b) (storedOf row) free clock (numberOf (docValue row)) q
+  decided-is : d ≡ decision (seeing (headOf b) (storedOf row) free clock (numberOf (docValue row))) q
   decided-is =
-      ed ∙ (λ i. decision (eh i) (stored-is i) (hasPlace (l .place)) clock (numberOf (old-is i)) q)
+      ed ∙ (λ i. decision (seeing (eh i) (stored-is i) (hasPlace (l .place)) clock (numberOf (old-is i))) q)
       ∙ placed (headOf b) (storedOf row) (hasPlace (l .place)) free clock (numberOf (docValue row)) q w ew
       (λ e. ap (λ (x : Lookup). hasPlace (x .place)) found ∙ finds .room e)
 
   decision-is : d ≡ decisionOn (tableOf b) clock s h
   unfolding decisionOn tableOf
-  decision-is = rw g (decided-is ∙ ap (decision (headOf b) (storedOf row) free clock (numberOf (docValue row))) eq)
+  decision-is = rw g (decided-is ∙ ap (decision (seeing (headOf b) (storedOf row) free clock (numberOf (docValue row)))) eq)
 
   status-is : d .status ≡ answerOn (tableOf b) clock s h .effect .status
   unfolding answerOn
@@ -174,16 +169,14 @@ module _ (b s : List ℕ) (clock : ℕ) (h : Header) (y : Bytes b) (z : Bytes s)
   unfolding answerOn
   head-is = ap (λ (x : Decision). x .done .head) decision-is
 
-  store-is : (v : List ℕ) → v ≡ bareValue s h → docFrom (d .done .store) (bytesFrom (d .done .source) v []) ≡ answerOn (tableOf b) clock s h .effect .store
+  store-is : (v : List ℕ) → v ≡ bareValue s h → docFrom (d .done .store) (bytesFrom (d .done .source) v) ≡ answerOn (tableOf b) clock s h .effect .store
   unfolding answerOn requestOf
-  store-is v ev =
-      ap (docFrom (d .done .store)) (old-unread (d .done .source) v [] (docValue row))
-      ∙ (λ i. docFrom (decision-is i .done .store) (bytesFrom (decision-is i .done .source) (ev i) (docValue row)))
+  store-is v ev = λ i. docFrom (decision-is i .done .store) (bytesFrom (decision-is i .done .source) (ev i))
 
   store-none : (v : List ℕ) → v ≡ bareValue s h → w ≡ false → answerOn (tableOf b) clock s h .effect .store ≡ none
   store-none v ev e =
       sym (store-is v ev) ∙ no-doc (d .done .store) _ (ap (λ (x : Decision). x .done .store) decided-is
-      ∙ stores-none (headOf b) (storedOf row) clock (numberOf (docValue row)) q free (sym ew ∙ e))
+      ∙ stores-none (seeing (headOf b) (storedOf row) free clock (numberOf (docValue row))) q (sym ew ∙ e))
 
   reply-is : replyBytes (h .opcode) (h .opaque) d k old ≡ frameReply b clock s h
   unfolding frameReply
@@ -193,7 +186,7 @@ module _ (b s : List ℕ) (clock : ℕ) (h : Header) (y : Bytes b) (z : Bytes s)
   pub formed-by : (v : List ℕ) (r : Served) (n : ℕ) (b′ out out′ : List ℕ) → v ≡ bareValue s h → 1302 ≤ length out
       → n ≡ length (fittingReply (length out) (h .opcode) (h .opaque) d k old) → r ≡ Done (d .status) (24 + h .body) n
       → out′ ≡ written out 0 (fittingReply (length out) (h .opcode) (h .opaque) d k old)
-      → b′ ≡ storedWith b l k (docFrom (d .done .store) (bytesFrom (d .done .source) v [])) (d .done .head)
+      → b′ ≡ storedWith b l k (docFrom (d .done .store) (bytesFrom (d .done .source) v)) (d .done .head)
       → ServesFrame b clock s h out r b′ out′
   formed-by v r n b′ out out′ ev lo en er eout eb =
       let lk : length k ≤ 250 = omega (arith, ap length ek, key-short s h g) in

@@ -12,7 +12,7 @@ use table::Lookup;
 
 // Stores decimal digits for a key.
 fn store_digits(b: &mut [u8], l: Lookup, key: &[u8], m: Metadata, n: u64)
-    ensures { λ _. ⌜ now (b .exit) ≡ storedBy (now (b .entry)) l (record { key = now (key .entry); doc = record { tomb = m .tomb; value = bytesFrom (Source.Digits n) [] []; numbers = m .numbers } }) ⌝ }
+    ensures { λ _. ⌜ now (b .exit) ≡ storedBy (now (b .entry)) l (record { key = now (key .entry); doc = record { tomb = m .tomb; value = bytesFrom (Source.Digits n) []; numbers = m .numbers } }) ⌝ }
 {
     let mut text = [0u8; 20];
     let k = digits::put_number(&mut text, n);
@@ -21,7 +21,7 @@ fn store_digits(b: &mut [u8], l: Lookup, key: &[u8], m: Metadata, n: u64)
 
 // Stores a value from its source for a key.
 fn store_from(b: &mut [u8], l: Lookup, key: &[u8], m: Metadata, source: Source, value: &[u8])
-    ensures { λ _. ⌜ now (b .exit) ≡ storedBy (now (b .entry)) l (record { key = now (key .entry); doc = record { tomb = m .tomb; value = bytesFrom source (now (value .entry)) []; numbers = m .numbers } }) ⌝ }
+    ensures { λ _. ⌜ now (b .exit) ≡ storedBy (now (b .entry)) l (record { key = now (key .entry); doc = record { tomb = m .tomb; value = bytesFrom source (now (value .entry)); numbers = m .numbers } }) ⌝ }
 {
     match source {
         Source::Empty => table::store(b, l, key, m, octets::part(value, 0, 0)),
@@ -32,7 +32,7 @@ fn store_from(b: &mut [u8], l: Lookup, key: &[u8], m: Metadata, source: Source, 
 
 // Stores what a decision says, where a lookup of the key said. value: the frame's.
 pub(crate) fn change(b: &mut [u8], l: Lookup, key: &[u8], d: Done, value: &[u8])
-    ensures { λ _. ⌜ now (b .exit) ≡ storedWith (now (b .entry)) l (now (key .entry)) (docFrom (d .store) (bytesFrom (d .source) (now (value .entry)) [])) (d .head) ⌝ }
+    ensures { λ _. ⌜ now (b .exit) ≡ storedWith (now (b .entry)) l (now (key .entry)) (docFrom (d .store) (bytesFrom (d .source) (now (value .entry)))) (d .head) ⌝ }
 {
     let store = d.store;
     let source = d.source;

@@ -20,6 +20,7 @@ ghost use Rattle.table.specs.Calls.{hasPlace};
 ghost use Rattle.serving.specs.Serve.{reachesDecision};
 ghost use Rattle.serving.specs.Serves.{Serves, ServesFrame};
 ghost use Rattle.reply.specs.Fitting.{bareHeader};
+use commands::Context;
 use commands::Decision;
 use commands::Instruction;
 use decode::Decoded;
@@ -33,16 +34,20 @@ use table::Lookup;
 
 // The decision on a request, from what was found for its key. old: the stored value.
 fn decided(head: Head, clock: u32, l: Lookup, old: &[u8], ask: Instruction) -> Decision
-    ensures { λ r. ⌜ r ≡ decision head (l .stored) (hasPlace (l .place)) clock (numberOf (now (old .entry))) ask ⌝ }
+    ensures { λ r. ⌜ r ≡ decision (record { head = head; row = l .stored; free = hasPlace (l .place); clock = clock; number = numberOf (now (old .entry)) }) ask ⌝ }
 {
-    let stored = l.stored;
+    let row = l.stored;
     let place = l.place;
+    let free = table::has_place(place);
+    let number = digits::parse(old);
     commands::decide(
-        head,
-        stored,
-        table::has_place(place),
-        clock,
-        digits::parse(old),
+        Context {
+            head,
+            row,
+            free,
+            clock,
+            number,
+        },
         ask,
     )
 }

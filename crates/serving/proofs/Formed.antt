@@ -22,10 +22,12 @@ use Rattle.rules.specs.Rules.{formOk, extrasOk, keyOk, numbersOk, bodyOk, withM
 use Rattle.rules.proofs.RuleLaws.{formed}
 use Rattle.request.specs.Reading.{extrasSpan, valueSpan, bytesIn, frameStatus}
 use Rattle.commands.specs.declared.Kind.{Kind}
-use Rattle.commands.specs.declared.Kind.the-variants.{Set, Add, Replace, Delete}
+use Rattle.commands.specs.declared.Kind.the-variants.{Set, Add, Replace}
+use Rattle.commands.specs.declared.MetaKind.{MetaKind}
+use Rattle.commands.specs.declared.MetaKind.the-variants.{Set as SetMeta, Add as AddMeta, Delete as DeleteMeta}
 use Rattle.commands.specs.declared.Command.{Command}
-use Rattle.commands.specs.declared.Command.the-variants.{Get, Write, Count, Noop, Version, WithMeta as Metas}
-use Rattle.commands.specs.Rules.{isDelete}
+use Rattle.commands.specs.declared.Command.the-variants.{Get, Write, Delete, Count, Noop, Version, WithMeta as Metas}
+use Rattle.commands.specs.Done.{isDelete}
 use Rattle.commands.specs.Claims.{Formed}
 use Rattle.decode.specs.Decode.{plainOf, counterOf, metaCommand, commandOf, requestOf}
 use Rattle.serving.specs.Serve.{reachesDecision}
@@ -42,6 +44,7 @@ by-cond P false x y f g = g refl
 abbrev pub Named : ℕ → Command → Type 0
 Named n (Get k) = Unit {0}
 Named n (Write p) = 1 ≤ n
+Named n Delete = 1 ≤ n
 Named n (Count k) = 1 ≤ n
 Named n Noop = Unit {0}
 Named n Version = Unit {0}
@@ -133,7 +136,7 @@ module _ (s : List ℕ) (y : Bytes s) (h : Header) (g : reachesDecision (frameSt
   abbrev Right : Command → Type 0
   Right c = Formed c × Named (h .keylen) c
 
-  meta-right : (k : Kind) (m : ℕ) → 1 ≤ h .keylen → withMetaOk m (withMeta extras) value ≡ true → (isDelete k ≡ true → m ≡ 2) → Right (metaCommand k (withMeta extras))
+  meta-right : (k : MetaKind) (m : ℕ) → 1 ≤ h .keylen → withMetaOk m (withMeta extras) value ≡ true → (isDelete k ≡ true → m ≡ 2) → Right (metaCommand k (withMeta extras))
   unfolding metaCommand withMeta carriedNumbers
   meta-right k m n r d = (
     (
@@ -144,16 +147,9 @@ module _ (s : List ℕ) (y : Bytes s) (h : Header) (g : reachesDecision (frameSt
     n,
   )
 
-  plain-right : (k : Kind) → 1 ≤ h .keylen → (isDelete k ≡ true → h .extlen ≡ 0) → Right (plainOf k extras)
-  unfolding plainOf extrasSpan be beFrom
-  plain-right k n d = (
-    (
-      num-below extras 0 4 bytes,
-      num-below extras 4 4 bytes,
-      λ t. (ap (λ (n : ℕ). num (part s 24 n) 0 4) (d t), ap (λ (n : ℕ). num (part s 24 n) 4 4) (d t)),
-    ),
-    n,
-  )
+  plain-right : (k : Kind) → 1 ≤ h .keylen → Right (plainOf k extras)
+  unfolding plainOf
+  plain-right k n = ((num-below extras 0 4 bytes, num-below extras 4 4 bytes), n)
 
   count-right : (up : Bool) → 1 ≤ h .keylen → Right (counterOf up extras)
   unfolding counterOf
@@ -166,10 +162,7 @@ module _ (s : List ℕ) (y : Bytes s) (h : Header) (g : reachesDecision (frameSt
   key-there : (x : Shape) → x .key ≡ 1 → Form x h → 1 ≤ h .keylen
   key-there x p f = key-least (x .key) (h .keylen) p (f .key)
 
-  stores : (k : Kind) (x : Shape) → isDelete k ≡ false → x .key ≡ 1 → Form x h → Right (plainOf k extras)
-  stores k x z p f = plain-right k (key-there x p f) (λ t. no (sym z ∙ t))
-
-  carries : (k : Kind) (x : Shape) → x .key ≡ 1 → eqb (x .meta) 0 ≡ false → (isDelete k ≡ true → x .meta ≡ 2)
+  carries : (k : MetaKind) (x : Shape) → x .key ≡ 1 → eqb (x .meta) 0 ≡ false → (isDelete k ≡ true → x .meta ≡ 2)
       → Form x h → fieldRulesOk x extras value ≡ true → Right (metaCommand k (withMeta extras))
   carries k x p z d f r = meta-right k (x .meta) (key-there x p f) (meta-ok x extras value (x .meta) refl z r) d
 
@@ -181,13 +174,13 @@ module _ (s : List ℕ) (y : Bytes s) (h : Header) (g : reachesDecision (frameSt
         (
           (λ q f r. (tt, tt)),
           (
-            (λ q f r. stores Set _ refl refl f),
+            (λ q f r. plain-right Set (key-there _ refl f)),
             (
-              (λ q f r. stores Add _ refl refl f),
+              (λ q f r. plain-right Add (key-there _ refl f)),
               (
-                (λ q f r. stores Replace _ refl refl f),
+                (λ q f r. plain-right Replace (key-there _ refl f)),
                 (
-                  (λ q f r. plain-right Delete (key-there _ refl f) (λ t. eqb-true (h .extlen) 0 (f .extras))),
+                  (λ q f r. (tt, key-there _ refl f)),
                   (
                     (λ q f r. count-right true (key-there _ refl f)),
                     (
@@ -197,10 +190,10 @@ module _ (s : List ℕ) (y : Bytes s) (h : Header) (g : reachesDecision (frameSt
                         (
                           (λ q f r. (tt, tt)),
                           (
-                            (λ q f r. carries Set _ refl refl (λ t. no t) f r),
+                            (λ q f r. carries SetMeta _ refl refl (λ t. no t) f r),
                             (
-                              (λ q f r. carries Add _ refl refl (λ t. no t) f r),
-                              ((λ q f r. carries Delete _ refl refl (λ t. refl) f r), tt),
+                              (λ q f r. carries AddMeta _ refl refl (λ t. no t) f r),
+                              ((λ q f r. carries DeleteMeta _ refl refl (λ t. refl) f r), tt),
                             ),
                           ),
                         ),

@@ -2,6 +2,7 @@
 use Prim.Native.Nat.{ℕ, _+_}
 use mathlib.Core.Bool.{Bool, false, cond, not, _||_}
 use mathlib.Core.List.{List}
+use mathlib.Core.Option.{Option}
 use lib.ListN.{length}
 use lib.Dec.{ltb, eqb}
 use Rattle.octets.specs.Parts.{written}
@@ -10,13 +11,12 @@ use Rattle.request.specs.declared.Gate.{Gate}
 use Rattle.request.specs.declared.Gate.the-variants.{Stop, Whole}
 use Rattle.request.specs.Reading.{gateOf, frameStatus, bytesIn, keySpan}
 use Rattle.document.specs.declared.Head.{Head}
-use Rattle.document.specs.Stored.{storedOf}
-use Rattle.digits.specs.Decimal.{numberOf}
+use Rattle.commands.specs.declared.Context.{Context}
 use Rattle.commands.specs.declared.Decision.{Decision}
 use Rattle.commands.specs.declared.Reply.the-variants.{Bare}
 use Rattle.commands.specs.Done.{decision, nothing}
-use Rattle.commands.specs.Decide.{Effect, Answer, instructionOf, answerOf}
-use Rattle.document.specs.Documents.{Key, docValue}
+use Rattle.commands.specs.Decide.{Effect, Answer, contextOf, instructionOf, answerOf}
+use Rattle.document.specs.Documents.{Key, Doc, docValue}
 use Rattle.engine.specs.Engine.{storeRow}
 use Rattle.decode.specs.Decode.{requestOf}
 use Rattle.rows.specs.Table.{Table, tableOf, tableBytes}
@@ -43,12 +43,15 @@ reachesDecision status = eqb status 0 || eqb status 0x03
 abbrev pub refusal : Head → ℕ → Decision
 refusal h status = record { status = status; silent = false; done = nothing h Bare (record { 0 = 0 }) }
 
+-- what a decision on a key's document sees of a table
+abbrev pub contextOn : Table → ℕ → Option Doc → Context
+contextOn t clock row = contextOf (t .head) row (ltb 0 (freeRows (t .rows))) clock
+
 -- the decision on a whole frame
 unfoldable pub decisionOn : Table → ℕ → List ℕ → Header → Decision
 decisionOn t clock s h =
     cond (reachesDecision (frameStatus s h))
-    (decision (t .head) (storedOf (findRow (t .rows) (bytesIn s (keySpan h)))) (ltb 0 (freeRows (t .rows))) clock
-    (numberOf (docValue (findRow (t .rows) (bytesIn s (keySpan h))))) (instructionOf (requestOf s h)))
+    (decision (contextOn t clock (findRow (t .rows) (bytesIn s (keySpan h)))) (instructionOf (requestOf s h)))
     (refusal (t .head) (frameStatus s h))
 
 -- its answer, with the bytes put in

@@ -3,30 +3,24 @@ use Prim.Native.Nat.{ℕ}
 use mathlib.Core.Bool.{not}
 use mathlib.Core.Path.{_≡_}
 use mathlib.Core.List.{List, [], _∷_}
-use mathlib.Core.Option.{Option}
-use lib.Dec.{ltb, eqb}
+use lib.Dec.{eqb}
 use Rattle.shape.specs.Shapes.{shapeOf}
 use Rattle.header.specs.declared.Header.{Header}
 use Rattle.rules.specs.Rules.{formOk, fieldRulesOk}
 use Rattle.request.specs.Reading.{bytesIn, extrasSpan, keySpan, valueSpan}
-use Rattle.numbers.specs.Order.{modeOf}
-use Rattle.digits.specs.Decimal.{numberOf}
-use Rattle.document.specs.Documents.{Doc, docValue}
-use Rattle.document.specs.Stored.{storedOf}
 use Rattle.commands.specs.declared.Tests.{Tests}
 use Rattle.commands.specs.Rules.{Check, _⇒_, firstFailure, ruleOf, testsOf}
 use Rattle.commands.specs.Decide.{instructionOf}
 use Rattle.decode.specs.Decode.{requestOf}
 use Rattle.rows.specs.Table.{Table}
-use Rattle.rows.specs.Find.{findRow, freeRows}
-use Rattle.serving.specs.Serve.{decisionOn}
+use Rattle.rows.specs.Find.{findRow}
+use Rattle.serving.specs.Serve.{contextOn, decisionOn}
 
 -- the tests of the command that a frame asks for, on its key's document in a table
 abbrev pub testsOn : Table → ℕ → List ℕ → Header → Tests
 testsOn t clock s h =
-    let row : Option Doc = findRow (t .rows) (bytesIn s (keySpan h)) in
-    let rule = ruleOf (modeOf (t .head .mode)) (storedOf row) clock (requestOf s h .command) in
-    testsOf (t .head) (storedOf row) (ltb 0 (freeRows (t .rows))) clock (numberOf (docValue row)) (instructionOf (requestOf s h)) rule
+    let seen = contextOn t clock (findRow (t .rows) (bytesIn s (keySpan h))) in
+    testsOf seen (instructionOf (requestOf s h)) (ruleOf seen (requestOf s h .command))
 
 abbrev pub statuses : Table → ℕ → List ℕ → Header → List Check
 statuses t clock s h =

@@ -27,7 +27,7 @@ returns c =
     let w = c .before .before .before .before .before .before in
     let a = w .before .before .before .before .before .before .before .before .before .args in
     let m = c .before .before .before .before .before .before .before .before .before .store .given .0 in
-    let head = ap (λ (x : List ℕ). storing x (a .l) (a .key .now) (m .0) (bytesFrom (a .d .source) (a .value .now) [])) (w .put-head .ensures) in
+    let head = ap (λ (x : List ℕ). storing x (a .l) (a .key .now) (m .0) (bytesFrom (a .d .source) (a .value .now))) (w .put-head .ensures) in
     rw (c .before .before .before .before .before .before .before .before .before .store .given .1) (c .before .before .store-from .ensures ∙ head)
 
 returns-2 : tie.Need-returns-2
