@@ -9,6 +9,8 @@ use document::Head;
 use engine::Checked;
 use numbers::Cas;
 use numbers::Numbers;
+use rows::HEADER;
+use rows::ROW;
 use table::Lookup;
 
 // Outcome 5, status 0x01, or the live document's four numbers and where its value stands: a place and a length.
@@ -34,7 +36,7 @@ pub fn size(rows: usize) -> usize
     if 256 < rows {
         return 0;
     }
-    16 + rows * 1312
+    HEADER + rows * ROW
 }
 
 fn make_ok(len: usize, rows: usize, state: u8, mode: u8) -> bool
@@ -56,7 +58,7 @@ fn put_fresh(s: &mut [u8], rows: usize, state: u8, mode: u8, vbucket: u16)
         mark: Cas(0),
     };
     rows::put_head(s, h);
-    octets::put_zeros(s, 16, rows * 1312);
+    octets::put_zeros(s, HEADER, rows * ROW);
 }
 
 // Makes a fresh table: 0, or 5 where it is refused and the memory is unchanged.

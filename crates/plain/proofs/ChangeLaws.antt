@@ -19,7 +19,7 @@ use Rattle.plain.specs.Store.{stored}
 use Rattle.plain.specs.Plain.{putRow, purgeRows, Distinct, plain}
 use Rattle.plain.specs.Claims.{Good, StoreGood, PurgeGood, FreshGood}
 use Rattle.rows.specs.Good.{EntryGood, AllGood}
-use Rattle.plain.proofs.PlainLaws.{plain-laws}
+use Rattle.plain.proofs.PlainLaws.{plain-laws, length-purge}
 use Rattle.plain.proofs.Places.{at-place, place-room}
 use Rattle.rows.proofs.RowLaws.{RowGood, row-length}
 use Rattle.rows.proofs.Writes.{head-length}
@@ -116,11 +116,6 @@ store-good t i e mark g k m s p =
     }
 
 module _ (p : Doc → Bool) where
-  pub length-purge : (ws : List Row) → length (purgeRows ws p) ≡ length ws
-  length-purge [] = refl
-  length-purge (none ∷ ws) = ap suc (length-purge ws)
-  length-purge (some x ∷ ws) = ap suc (length-purge ws)
-
   rows-purge : (mark : ℕ) (ws : List Row) → AllGood mark ws → AllGood mark (purgeRows ws p)
   rows-purge mark [] g = tt
   rows-purge mark (none ∷ ws) g = rows-purge mark ws g

@@ -4,14 +4,15 @@ use mathlib.Core.Path.{_≡_, refl, sym, _∙_, ap}
 use mathlib.Core.Bool.{Bool, false, cond, true≢false}
 use mathlib.Core.List.{List, [], _∷_}
 use mathlib.Core.Option.{Option, none, some}
-use Prim.Native.Nat.{ℕ, suc, _<_}
+use Prim.Native.Nat.{ℕ, suc, _+_, _<_}
+use lib.ListN.{length}
 use Rattle.octets.specs.Compare.{same}
 use Rattle.octets.proofs.Choices.{cases}
 use Rattle.octets.proofs.Tests.{same-true, same-refl}
 use Rattle.document.specs.Documents.{Key, Doc}
-use Rattle.engine.specs.Engine.{Laws, afterPurge}
+use Rattle.engine.specs.Engine.{Laws, afterPurge, isSome, findEntry, DistinctKeys}
 use Rattle.rows.specs.Row.{Row}
-use Rattle.plain.specs.Plain.{replace, fill, purgeRows, Distinct, plain}
+use Rattle.plain.specs.Plain.{replace, fill, purgeRows, Distinct, usedRows, plain}
 use Rattle.rows.specs.Find.{findRow, freeRows}
 use Rattle.octets.proofs.Options.{options, none-some}
 
@@ -84,6 +85,37 @@ module _ (p : Doc → Bool) where
       (λ t. rw t (distinct-purge r (g .1)))
       (λ t. rw t (find-purge r (g .1) (x .key) ∙ ap (afterPurge p) (g .0), distinct-purge r (g .1)))
 
+  pub length-purge : (ws : List Row) → length (purgeRows ws p) ≡ length ws
+  length-purge [] = refl
+  length-purge (none ∷ ws) = ap suc (length-purge ws)
+  length-purge (some x ∷ ws) = ap suc (length-purge ws)
+
+-- the used rows' entries, and how many rows there are
+find-used : (r : List Row) (k : Key) → findRow r k ≡ findEntry (usedRows r) k
+find-used [] k = refl
+find-used (none ∷ r) k = find-used r k
+find-used (some x ∷ r) k = ap (λ (o : Option Doc). cond (same (x .key) k) (some (x .doc)) o) (find-used r k)
+
+distinct-used : (r : List Row) → Distinct r → DistinctKeys (usedRows r)
+distinct-used [] g = tt
+distinct-used (none ∷ r) g = distinct-used r g
+distinct-used (some x ∷ r) g = (sym (find-used r (x .key)) ∙ g .0, distinct-used r (g .1))
+
+count-used : (r : List Row) → freeRows r + length (usedRows r) ≡ length r
+count-used [] = refl
+count-used (none ∷ r) = omega (arith, count-used r)
+count-used (some x ∷ r) = omega (arith, count-used r)
+
+length-replace : (r : List Row) (k : Key) (d : Doc) → length (replace r k d) ≡ length r
+length-replace [] k d = refl
+length-replace (none ∷ r) k d = ap suc (length-replace r k d)
+length-replace (some x ∷ r) k d = cases (same (x .key) k) (λ s. rw s) (λ s. rw s (ap suc (length-replace r k d)))
+
+length-fill : (r : List Row) (k : Key) (d : Doc) → length (fill r k d) ≡ length r
+length-fill [] k d = refl
+length-fill (none ∷ r) k d = refl
+length-fill (some x ∷ r) k d = ap suc (length-fill r k d)
+
 pub plain-laws : Laws plain
 plain-laws = record {
   good-put = λ r k d g room. options (findRow r k) (λ n. rw n (distinct-fill r k d n (room n) g)) (λ e s. rw s (distinct-replace r k d e s g));
@@ -92,4 +124,9 @@ plain-laws = record {
   free-old = λ r k d e g s. rw s (free-replace r k d);
   good-purge = λ r p g. distinct-purge p r g;
   find-purge = λ r p g k. find-purge p r g k;
+  find-docs = λ r g k. find-used r k;
+  distinct-docs = λ r g. distinct-used r g;
+  count = λ r g. count-used r;
+  size-put = λ r k d g room. cases (isSome (findRow r k)) (λ t. rw t (length-replace r k d)) (λ t. rw t (length-fill r k d));
+  size-purge = λ r p g. length-purge p r;
 }

@@ -65,7 +65,8 @@ module _ (p : Doc → Bool) where
 
       pub purge-step : take (at + 1312) s′ ++ purgeBytes p (n - 1) (drop (at + 1312) s′) ≡ take at s ++ purgeBytes p n (drop at s)
       purge-step =
-          let q : purgeBytes p n (drop at s) ≡ purgeRow p (part s at 1312) ++ purgeBytes p (n - 1) (drop (at + 1312) s) = ap (λ (k : ℕ). purgeBytes p k (drop at s)) one-more ∙ rw (drop-drop 1312 at s) in
+          let q : purgeBytes p n (drop at s) ≡ purgeRow p (part s at 1312) ++ purgeBytes p (n - 1) (drop (at + 1312) s) = ap (λ (k : ℕ). purgeBytes p k (drop at s)) one-more ∙ rw
+          (drop-drop 1312 at s) in
           rw (before, behind, q, append-assoc)
 
       pub count-step : purgeCount p n (drop at s) ≡ one (picked p (rowOf (part s at 1312))) + purgeCount p (n - 1) (drop (at + 1312) s′)

@@ -51,7 +51,8 @@ module _ (s : List ℕ) (at later : ℕ) where
   pub distinct-free : num (part s at 1312) 0 2 ≡ 0 → distinct (rowsOf later (drop (at + 1312) s)) ≡ distinct (rowsOf (later + 1) (drop at s))
   distinct-free e = rw (first-row s at later, row-free (part s at 1312) e)
 
-  pub distinct-used : (num (part s at 1312) 0 2 ≡ 0 → ⊥) → (missing (findIn (part (part s at 1312) 32 (num (part s at 1312) 2 2)) 0 (rowsOf later (drop (at + 1312) s))) && distinct (rowsOf later (drop (at + 1312) s))) ≡ distinct (rowsOf (later + 1) (drop at s))
+  pub distinct-used : (num (part s at 1312) 0 2 ≡ 0 → ⊥) → (missing (findIn (part (part s at 1312) 32 (num (part s at 1312) 2 2)) 0 (rowsOf later (drop (at + 1312) s))) && distinct
+      (rowsOf later (drop (at + 1312) s))) ≡ distinct (rowsOf (later + 1) (drop at s))
   unfolding keyOf slotOf
   distinct-used e = rw (first-row s at later, row-used (part s at 1312) e)
 

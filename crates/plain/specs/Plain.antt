@@ -3,8 +3,9 @@ use mathlib.Core.Path.{_≡_}
 use mathlib.Core.Bool.{Bool, cond}
 use mathlib.Core.List.{List, [], _∷_}
 use mathlib.Core.Option.{none, some}
+use lib.ListN.{length}
 use Rattle.octets.specs.Compare.{same}
-use Rattle.document.specs.Documents.{Key, Doc}
+use Rattle.document.specs.Documents.{Key, Doc, Entry}
 use Rattle.engine.specs.Engine.{Engine, isSome}
 use Rattle.rows.specs.Row.{Row}
 use Rattle.rows.specs.Find.{findRow, freeRows}
@@ -34,5 +35,11 @@ Distinct [] = Unit {0}
 Distinct (none ∷ r) = Distinct r
 Distinct (some x ∷ r) = (findRow r (x .key) ≡ none) × Distinct r
 
+-- the used rows' entries
+abbrev pub usedRows : List Row → List Entry
+usedRows [] = []
+usedRows (none ∷ r) = usedRows r
+usedRows (some x ∷ r) = x ∷ usedRows r
+
 abbrev pub plain : Engine
-plain = record { Rows = List Row; Good = Distinct; find = findRow; free = freeRows; put = putRow; purge = purgeRows }
+plain = record { Rows = List Row; Good = Distinct; find = findRow; free = freeRows; put = putRow; purge = purgeRows; size = length; docs = usedRows }

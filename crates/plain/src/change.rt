@@ -10,6 +10,8 @@ ghost use Rattle.plain.specs.Purge.{picked};
 ghost use Rattle.plain.specs.Change.{rowStored, purgeRow, purgeBytes, purgeCount, purgedRows, freedRows};
 use document::Metadata;
 use numbers::Cas;
+use rows::HEADER;
+use rows::ROW;
 
 // Stores an entry in the row at a place. Where there is no such row or the entry doesn't fit, nothing changes.
 // old: the length of the value that the row holds for this key, 0 where it is free. What follows that value is left as it is.
@@ -19,8 +21,8 @@ pub fn store(b: &mut [u8], i: usize, key: &[u8], m: Metadata, value: &[u8], old:
     if i >= rows::rows_in(b.len()) {
         return;
     }
-    let at = 16 + i * 1312;
-    let end = at + 1312;
+    let at = HEADER + i * ROW;
+    let end = at + ROW;
     rows::row::put_row(&mut b[at..end], key, m, value, old);
 }
 
@@ -43,8 +45,8 @@ fn purge_row(b: &mut [u8], at: usize, clock: u32, bound: Cas) -> bool
     ensures { λ r. ⌜ (r ≡ picked (goneDoc clock (bound .0)) (rowOf (part (now (b .entry)) at 1312)))
         × (now (b .exit) ≡ pasted (now (b .entry)) at (purgeRow (goneDoc clock (bound .0)) (part (now (b .entry)) at 1312))) ⌝ }
 {
-    if row_gone(octets::part(b, at, 1312), clock, bound) {
-        octets::put_zeros(b, at, 1312);
+    if row_gone(octets::part(b, at, ROW), clock, bound) {
+        octets::put_zeros(b, at, ROW);
         return true;
     }
     false
@@ -55,14 +57,14 @@ fn purge_rows(b: &mut [u8], n: usize, clock: u32, bound: Cas) -> usize
     ensures { λ r. ⌜ (r ≡ purgeCount (goneDoc clock (bound .0)) n (drop 16 (now (b .entry))))
         × (now (b .exit) ≡ take 16 (now (b .entry)) ++ purgeBytes (goneDoc clock (bound .0)) n (drop 16 (now (b .entry)))) ⌝ }
 {
-    let mut at: usize = 16;
+    let mut at: usize = HEADER;
     let mut left = n;
     let mut count: usize = 0;
     while 0 < left {
         if purge_row(b, at, clock, bound) {
             count += 1;
         }
-        at += 1312;
+        at += ROW;
         left -= 1;
     }
     count
@@ -72,7 +74,7 @@ fn purge_rows(b: &mut [u8], n: usize, clock: u32, bound: Cas) -> usize
 pub fn purge(b: &mut [u8], clock: u32, bound: Cas) -> usize
     ensures { λ r. ⌜ (r ≡ freedRows (goneDoc clock (bound .0)) (now (b .entry))) × (now (b .exit) ≡ purgedRows (goneDoc clock (bound .0)) (now (b .entry))) ⌝ }
 {
-    if b.len() < 16 {
+    if b.len() < HEADER {
         return 0;
     }
     purge_rows(b, rows::rows_in(b.len()), clock, bound)

@@ -14,19 +14,22 @@ ghost use Rattle.plain.specs.Damage.{distinct, sound, checkedOf};
 ghost use Rattle.rows.specs.RowRules.{sizeOk, headOk, usedOk, rowSound, allSound};
 use crate::Found;
 use engine::Checked;
+use rows::FIXED;
+use rows::HEADER;
+use rows::ROW;
 
 fn rows_sound(s: &[u8], n: usize, mark: u64) -> bool
     requires { ⌜ 16 + n * 1312 ≤ length (now s) ⌝ }
     ensures { λ r. ⌜ r ≡ allSound mark (chunks n (drop 16 (now (s .entry)))) ⌝ }
 {
-    let mut at: usize = 16;
+    let mut at: usize = HEADER;
     let mut left = n;
     while 0 < left {
-        let end = at + 1312;
+        let end = at + ROW;
         if !rows::damage::row_sound(&s[at..end], mark) {
             return false;
         }
-        at += 1312;
+        at += ROW;
         left -= 1;
     }
     true
@@ -48,7 +51,7 @@ fn row_print(r: &[u8]) -> u32
     if octets::be16(r, 0) == 0 {
         return 0;
     }
-    fingerprint::of_key(octets::part(r, 32, octets::be16(r, 2) as usize))
+    fingerprint::of_key(octets::part(r, FIXED, octets::be16(r, 2) as usize))
 }
 
 // Whether the first of the rows from at is free, or none of the later ones has its key: what distinct asks of it. Keys are
@@ -58,15 +61,15 @@ fn first_distinct(s: &[u8], at: usize, later: usize, p: u32, prints: &[u32]) -> 
     requires { ⌜ (p ≡ rowPrint (rowOf (part (now s) at 1312))) × (now prints ≡ map rowPrint (rowsOf later (drop (at + 1312) (now s)))) ⌝ }
     ensures { λ r. ⌜ (r && distinct (rowsOf later (drop (at + 1312) (now (s .entry))))) ≡ distinct (rowsOf (later + 1) (drop at (now (s .entry)))) ⌝ }
 {
-    let r = octets::part(s, at, 1312);
+    let r = octets::part(s, at, ROW);
     if octets::be16(r, 0) == 0 {
         return true;
     }
     if !fingerprint::among(p, prints) {
         return true;
     }
-    let key = octets::part(r, 32, octets::be16(r, 2) as usize);
-    is_missing(crate::lookup::find_from(s, key, at + 1312, later, 0))
+    let key = octets::part(r, FIXED, octets::be16(r, 2) as usize);
+    is_missing(crate::lookup::find_from(s, key, at + ROW, later, 0))
 }
 
 // From the last row to the first; the fingerprints of the rows seen stand at the end of prints, and their buckets are marked
@@ -80,12 +83,12 @@ fn rows_distinct(s: &[u8], n: usize) -> bool
     }
     let mut prints = [0u32; 256];
     let mut seen = [0u8; 1024];
-    let mut at: usize = 16 + n * 1312;
+    let mut at: usize = HEADER + n * ROW;
     let mut later: usize = 0;
     let mut apart = true;
     while later < n {
         let end = at;
-        at -= 1312;
+        at -= ROW;
         let p = row_print(&s[at..end]);
         let from = 256 - later;
         let b = fingerprint::bucket(p);
@@ -107,7 +110,7 @@ pub fn checked(s: &[u8]) -> Checked
     if !rows::damage::size_ok(s.len(), n) {
         return Checked::Damaged;
     }
-    let h = rows::head_of(&s[..16]);
+    let h = rows::head_of(&s[..HEADER]);
     if !rows::damage::head_ok(h) {
         return Checked::Damaged;
     }

@@ -8,6 +8,9 @@ ghost use Rattle.rows.specs.Table.{rowsOf, tableOf};
 ghost use Rattle.plain.specs.Lookup.{holds, findIn, freeIn, freePlace, keyRow, placeBy};
 use crate::Found;
 use engine::Place;
+use rows::FIXED;
+use rows::HEADER;
+use rows::ROW;
 
 // Whether a row is used and has this key.
 fn row_holds(r: &[u8], key: &[u8]) -> bool
@@ -15,7 +18,7 @@ fn row_holds(r: &[u8], key: &[u8]) -> bool
 {
     let kind = octets::be16(r, 0);
     let k = octets::be16(r, 2) as usize;
-    (kind != 0) & octets::same(octets::part(r, 32, k), key)
+    (kind != 0) & octets::same(octets::part(r, FIXED, k), key)
 }
 
 // The first of the left rows from at that holds the key, counted from i.
@@ -27,11 +30,11 @@ pub(crate) fn find_from(s: &[u8], key: &[u8], at: usize, left: usize, i: usize) 
     let mut n = left;
     let mut k = i;
     while 0 < n {
-        let end = a + 1312;
+        let end = a + ROW;
         if row_holds(&s[a..end], key) {
             return Found::At(k);
         }
-        a += 1312;
+        a += ROW;
         n -= 1;
         k += 1;
     }
@@ -47,11 +50,11 @@ fn free_from(s: &[u8], at: usize, left: usize, i: usize) -> Found
     let mut n = left;
     let mut k = i;
     while 0 < n {
-        let end = a + 1312;
+        let end = a + ROW;
         if octets::be16(&s[a..end], 0) == 0 {
             return Found::At(k);
         }
-        a += 1312;
+        a += ROW;
         n -= 1;
         k += 1;
     }
@@ -62,20 +65,20 @@ fn free_from(s: &[u8], at: usize, left: usize, i: usize) -> Found
 pub fn find(s: &[u8], key: &[u8]) -> Found
     ensures { λ r. ⌜ r ≡ findIn (now (key .entry)) 0 (tableOf (now (s .entry)) .rows) ⌝ }
 {
-    if s.len() < 16 {
+    if s.len() < HEADER {
         return Found::Nothing;
     }
-    find_from(s, key, 16, rows::rows_in(s.len()), 0)
+    find_from(s, key, HEADER, rows::rows_in(s.len()), 0)
 }
 
 // The place of the lowest free row.
 pub fn free(s: &[u8]) -> Found
     ensures { λ r. ⌜ r ≡ freeIn 0 (tableOf (now (s .entry)) .rows) ⌝ }
 {
-    if s.len() < 16 {
+    if s.len() < HEADER {
         return Found::Nothing;
     }
-    free_from(s, 16, rows::rows_in(s.len()), 0)
+    free_from(s, HEADER, rows::rows_in(s.len()), 0)
 }
 
 // The key's row. No sound row has an empty key, so that there is nothing to look for.

@@ -1,14 +1,15 @@
 // The row at a place: what it holds, where its value stands, and a new entry in it.
 ghost use mathlib.Core.Path.{_≡_};
 ghost use Prim.Native.Nat.{_+_, _-_};
-ghost use Rattle.document.specs.Stored.{metadataOf};
 ghost use Rattle.octets.specs.Parts.{part};
 ghost use Rattle.rows.specs.Row.{slotOf, docOf};
 ghost use Rattle.plain.specs.Store.{storedOver};
-ghost use Rattle.rows.specs.Table.{rowAt, valueAt};
+ghost use Rattle.rows.specs.Table.{rowAt};
 use document::Metadata;
 use numbers::Cas;
 use numbers::Numbers;
+use rows::HEADER;
+use rows::ROW;
 use rows::Slot;
 
 // The bytes of the row at a place, none where there is no such row.
@@ -16,8 +17,8 @@ fn row_at(s: &[u8], i: usize) -> &[u8]
     ensures { λ r. ⌜ now r ≡ rowAt (now (s .entry)) i ⌝ }
 {
     if i < rows::rows_in(s.len()) {
-        let at = 16 + i * 1312;
-        let end = at + 1312;
+        let at = HEADER + i * ROW;
+        let end = at + ROW;
         return &s[at..end];
     }
     &s[..0]
@@ -28,28 +29,6 @@ pub fn slot_at(s: &[u8], i: usize) -> Slot
     ensures { λ r. ⌜ r ≡ slotOf (rowAt (now (s .entry)) i) ⌝ }
 {
     rows::row::slot(row_at(s, i))
-}
-
-// What the row at a place holds, the value aside.
-pub fn held_at(s: &[u8], i: usize) -> Metadata
-    ensures { λ r. ⌜ r ≡ metadataOf (docOf (rowAt (now (s .entry)) i)) ⌝ }
-{
-    let h = slot_at(s, i);
-    let numbers = h.numbers;
-    Metadata {
-        tomb: h.kind == 2,
-        numbers,
-    }
-}
-
-// Where the value of the row at a place stands in memory; 0 where there is no such row.
-pub fn value_at(s: &[u8], i: usize) -> usize
-    ensures { λ r. ⌜ r ≡ valueAt (now (s .entry)) i ⌝ }
-{
-    if i < rows::rows_in(s.len()) {
-        return 16 + i * 1312 + 32 + octets::be16(row_at(s, i), 2) as usize;
-    }
-    0
 }
 
 // The value of the row at a place.
@@ -86,8 +65,8 @@ pub fn store(
     if !rows::row::fits(key.len(), value.len()) {
         return;
     }
-    let at = 16 + i * 1312;
-    let end = at + 1312;
+    let at = HEADER + i * ROW;
+    let end = at + ROW;
     let old = past(used, key.len());
     rows::row::put_row(
         &mut s[at..end],

@@ -1,14 +1,12 @@
 -- A table's bytes and what they mean: a header of 16 bytes, state 1, mode 1, vbucket 2, a number kept 0 (4), mark 8, and then the rows.
-use Prim.Native.Nat.{ℕ, zero, suc, _+_, _-_, _*_, _/_}
-use mathlib.Core.Bool.{cond}
+use Prim.Native.Nat.{ℕ, zero, suc, _-_, _/_}
 use mathlib.Core.List.{List, [], _∷_, _++_, map}
 use mathlib.Core.Option.{none}
-use lib.Dec.{ltb}
 use lib.ListN.{length, take, drop, set, getD, replicate}
 use Rattle.octets.specs.BigEndian.{num, bytesOf}
 use Rattle.document.specs.declared.Head.{Head}
 use Rattle.document.specs.Head.{marked}
-use Rattle.rows.specs.Row.{Row, slotOf, rowOf, rowBytes}
+use Rattle.rows.specs.Row.{Row, rowOf, rowBytes}
 
 pub record Table : Type 0 where
   pub head : Head
@@ -36,10 +34,6 @@ tableOf b = record { head = headOf b; rows = rowsOf (rowCount b) (drop 16 b) }
 -- the bytes of the row at a place, none where there is no such row
 abbrev pub rowAt : List ℕ → ℕ → List ℕ
 rowAt b i = getD (chunks (rowCount b) (drop 16 b)) i []
-
--- where the value of the row at a place stands, 0 where there is no such row
-unfoldable pub valueAt : List ℕ → ℕ → ℕ
-valueAt b i = cond (ltb i (rowCount b)) (16 + i * 1312 + 32 + slotOf (rowAt b i) .keylen) 0
 
 unfoldable pub headBytes : Head → List ℕ
 headBytes h = bytesOf 1 (h .state) ++ (bytesOf 1 (h .mode) ++ (bytesOf 2 (h .vbucket) ++ (bytesOf 4 (h .clock) ++ bytesOf 8 (h .mark .0))))

@@ -2,6 +2,9 @@
 ghost use mathlib.Core.Path.{_≡_};
 ghost use Rattle.rows.specs.Row.{slotOf};
 ghost use Rattle.rows.specs.RowRules.{sizeOk, headOk, usedOk, rowSound};
+use crate::FIXED;
+use crate::HEADER;
+use crate::ROW;
 use crate::Slot;
 use document::Head;
 use numbers::Cas;
@@ -44,7 +47,7 @@ pub fn row_sound(r: &[u8], mark: u64) -> bool
     }
     let s = slot_here(r);
     let used = s.keylen as usize + s.vallen as usize;
-    used_ok(s, mark) & octets::all_zero(octets::rest(r, 32 + used))
+    used_ok(s, mark) & octets::all_zero(octets::rest(r, FIXED + used))
 }
 
 pub fn head_ok(h: Head) -> bool
@@ -63,5 +66,5 @@ pub fn size_ok(len: usize, n: usize) -> bool
     if 256 < n {
         return false;
     }
-    len == 16 + n * 1312
+    len == HEADER + n * ROW
 }

@@ -11,6 +11,16 @@ use document::Head;
 use numbers::Cas;
 use numbers::Numbers;
 
+// How many bytes the header and a row take.
+pub const HEADER: usize = 16;
+
+pub const ROW: usize = 1312;
+
+// How many bytes a row's fixed part takes, and how many are left for the key and the value.
+pub const FIXED: usize = 32;
+
+pub const SPACE: usize = 1280;
+
 // The fixed part of a row.
 pub struct Slot {
     // 0 free, 1 document, 2 tombstone
@@ -36,7 +46,7 @@ pub fn head_of(s: &[u8]) -> Head
 pub fn put_head(b: &mut [u8], h: Head)
     ensures { λ _. ⌜ now (b .exit) ≡ written (now (b .entry)) 0 (headBytes h) ⌝ }
 {
-    if b.len() < 16 {
+    if b.len() < HEADER {
         return;
     }
     octets::put_be(b, 0, 1, h.state as u64);
@@ -50,8 +60,8 @@ pub fn put_head(b: &mut [u8], h: Head)
 pub fn rows_in(len: usize) -> usize
     ensures { λ r. ⌜ r ≡ (len - 16) / 1312 ⌝ }
 {
-    if len < 16 {
+    if len < HEADER {
         return 0;
     }
-    (len - 16) / 1312
+    (len - HEADER) / ROW
 }

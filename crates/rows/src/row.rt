@@ -7,6 +7,9 @@ ghost use Rattle.octets.specs.Parts.{written};
 ghost use Rattle.document.specs.Stored.{metadataOf};
 ghost use Rattle.rows.specs.Row.{slotOf, docOf, sizeBytes, shortBytes, longBytes, slotBytes, kindOf};
 ghost use Rattle.rows.specs.Over.{overBytes, overRow};
+use crate::FIXED;
+use crate::ROW;
+use crate::SPACE;
 use crate::Slot;
 use document::Metadata;
 use numbers::Cas;
@@ -98,7 +101,7 @@ fn kind_of(tomb: bool) -> u16
 pub fn put_row(row: &mut [u8], key: &[u8], m: Metadata, value: &[u8], old: usize)
     ensures { λ _. ⌜ now (row .exit) ≡ overRow (now (row .entry)) (record { key = now (key .entry); doc = record { tomb = m .tomb; value = now (value .entry); numbers = m .numbers } }) old ⌝ }
 {
-    if row.len() != 1312 {
+    if row.len() != ROW {
         return;
     }
     if !fits(key.len(), value.len()) {
@@ -111,13 +114,13 @@ pub fn put_row(row: &mut [u8], key: &[u8], m: Metadata, value: &[u8], old: usize
 pub fn fits(k: usize, v: usize) -> bool
     ensures { λ r. ⌜ r ≡ leb (k + v) 1280 ⌝ }
 {
-    if 1280 < k {
+    if SPACE < k {
         return false;
     }
-    if 1280 < v {
+    if SPACE < v {
         return false;
     }
-    k + v <= 1280
+    k + v <= SPACE
 }
 
 fn put_entry(row: &mut [u8], key: &[u8], m: Metadata, value: &[u8], old: usize)
@@ -134,9 +137,9 @@ fn put_entry(row: &mut [u8], key: &[u8], m: Metadata, value: &[u8], old: usize)
         numbers: n,
     };
     put_slot(row, 0, h);
-    octets::put_bytes(row, 32, key);
-    octets::put_bytes(row, 32 + k, value);
+    octets::put_bytes(row, FIXED, key);
+    octets::put_bytes(row, FIXED + k, value);
     if v < old {
-        octets::put_zeros(row, 32 + k + v, old - v);
+        octets::put_zeros(row, FIXED + k + v, old - v);
     }
 }

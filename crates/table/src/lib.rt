@@ -15,6 +15,9 @@ use engine::Checked;
 use engine::Place;
 use numbers::Cas;
 use plain::Found;
+use rows::FIXED;
+use rows::HEADER;
+use rows::ROW;
 
 // What is found for a key.
 pub struct Lookup {
@@ -57,13 +60,13 @@ fn held(b: &[u8], k: usize, i: usize) -> Lookup
     requires { ⌜ (i < rowCount (now b)) × (k ≤ 1280) ⌝ }
     ensures { λ r. ⌜ r ≡ lookupAt (now (b .entry)) k (Place.Over i) ⌝ }
 {
-    let at = 16 + i * 1312;
-    let end = at + 1312;
+    let at = HEADER + i * ROW;
+    let end = at + ROW;
     let r = &b[at..end];
     Lookup {
         place: Place::Over(i),
         stored: Stored::Used(rows::row::metadata(r)),
-        at: at + (32 + k),
+        at: at + (FIXED + k),
         len: octets::be32(r, 4) as usize,
     }
 }

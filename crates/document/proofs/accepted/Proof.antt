@@ -3,24 +3,19 @@ use borrow.Author.Needs.{needs}
 use Rattle.document.proofs.accepted.Statement.{statement}
 use Rattle.document.proofs.accepted.Tie as tie
 
--- src/lib.rt:72:28
 enum-told : tie.Need-enum-told
 enum-told c = search needs
 
--- src/lib.rt:73:22
 enum-known-s : tie.Need-enum-known-s
 enum-known-s c = search needs
 
--- src/lib.rt:75:13
 greater-requires : tie.Need-greater-requires
 greater-requires c κs = search needs
 
--- src/lib.rt:68:1
 returns : tie.Need-returns
 unfolding accepted
 returns c = rw ((c .enum-told) .given .1)
 
--- src/lib.rt:68:1
 returns-2 : tie.Need-returns-2
 unfolding accepted
 returns-2 c = rw ((c .before .before .before .s) .given .1) ((c .greater) .ensures)

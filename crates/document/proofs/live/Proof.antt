@@ -3,24 +3,19 @@ use borrow.Author.Needs.{needs}
 use Rattle.document.proofs.live.Statement.{statement}
 use Rattle.document.proofs.live.Tie as tie
 
--- src/lib.rt:38:28
 enum-told : tie.Need-enum-told
 enum-told c = search needs
 
--- src/lib.rt:39:22
 enum-known-s : tie.Need-enum-known-s
 enum-known-s c = search needs
 
--- src/lib.rt:39:39
 expired-requires : tie.Need-expired-requires
 expired-requires c κs = search needs
 
--- src/lib.rt:34:1
 returns : tie.Need-returns
 unfolding live
 returns c = rw ((c .enum-told) .given .1)
 
--- src/lib.rt:34:1
 returns-2 : tie.Need-returns-2
 unfolding live
 returns-2 c = rw ((c .before .before .before .s) .given .1) (simp ((c .expired) .ensures))

@@ -2,19 +2,15 @@ use borrow.Author.Needs.{needs}
 use Rattle.document.proofs.numbers_of.Statement.{statement}
 use Rattle.document.proofs.numbers_of.Tie as tie
 
--- src/lib.rt:60:23
 enum-told : tie.Need-enum-told
 enum-told c = search needs
 
--- src/lib.rt:63:22
 enum-known-s : tie.Need-enum-known-s
 enum-known-s c = search needs
 
--- src/lib.rt:53:1
 returns : tie.Need-returns
 returns c = rw ((c .enum-told) .given .1)
 
--- src/lib.rt:53:1
 returns-2 : tie.Need-returns-2
 returns-2 c = rw ((c .before .before .s) .given .1)
 

@@ -36,7 +36,8 @@ returns-2 c =
     let at9 = at8 .before in
     let a = (at9 .args) in
     let y : Bytes (a .s .now) = λ k. at8 .slice-known .given k .fits in
-    purge-done (a .s .now) (a .clock) (a .bound .0) _ _ y (checked-sound _ _ (sym (at6 .checked .ensures) ∙ at4 .enum-told2 .given .1) .0) ((c .before .before .purge) .ensures .0) ((c .before .before .purge) .ensures .1)
+    purge-done (a .s .now) (a .clock) (a .bound .0) _ _ y (checked-sound _ _ (sym (at6 .checked .ensures) ∙ at4 .enum-told2 .given .1) .0) ((c .before .before .purge) .ensures .0)
+    ((c .before .before .purge) .ensures .1)
 
 pub purge-spec : {M : Type 1} → statement M
 purge-spec =

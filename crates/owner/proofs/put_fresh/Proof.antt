@@ -20,7 +20,8 @@ returns c =
     let at6 = c .before .before .before .before .before .before in
     let at9 = at6 .before .before .before in
     let a = (at9 .args) in
-    fresh-put (a .s .now) (at6 .put-head .last .0) ((c .before .before .put-zeros) .last .0) (a .rows) (a .state) (a .mode) (a .vbucket) (at9 .pre .0) (at6 .put-head .ensures) ((c .before .before .put-zeros) .ensures)
+    fresh-put (a .s .now) (at6 .put-head .last .0) ((c .before .before .put-zeros) .last .0) (a .rows) (a .state) (a .mode) (a .vbucket) (at9 .pre .0) (at6 .put-head .ensures)
+    ((c .before .before .put-zeros) .ensures)
 
 pub put-fresh-spec : {M : Type 1} → statement M
 put-fresh-spec =

@@ -32,7 +32,8 @@ returns-2 c =
     let at7 = at6 .before in
     let a = (at7 .args) in
     let y : Bytes (a .s .now) = λ k. at6 .shared-slice-known .given k .fits in
-    read-found (a .s .now) (a .clock) (a .key .now) ((c .before .find) .result) ((c .shown) .result) y (checked-sound _ _ (sym (at4 .checked .ensures) ∙ (c .before .before .enum-told2) .given .1) .0) ((c .before .find) .ensures) ((c .shown) .ensures)
+    read-found (a .s .now) (a .clock) (a .key .now) ((c .before .find) .result) ((c .shown) .result) y
+    (checked-sound _ _ (sym (at4 .checked .ensures) ∙ (c .before .before .enum-told2) .given .1) .0) ((c .before .find) .ensures) ((c .shown) .ensures)
 
 pub read-spec : {M : Type 1} → statement M
 read-spec =

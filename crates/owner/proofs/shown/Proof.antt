@@ -18,7 +18,8 @@ numbers-of-requires c κs = search needs
 
 returns-2 : tie.Need-returns-2
 returns-2 c = let l = (c .before .before .before .args) .l in
-    ap (λ (n : Numbers). Live n (l .at) (l .len)) ((c .numbers-of) .ensures) ∙ shown-live ((c .before .before .before .args) .clock) l (sym ((c .before .before .live) .ensures) ∙ not-false _ ((c .before .if1) .left))
+    ap (λ (n : Numbers). Live n (l .at) (l .len)) ((c .numbers-of) .ensures) ∙ shown-live ((c .before .before .before .args) .clock) l
+    (sym ((c .before .before .live) .ensures) ∙ not-false _ ((c .before .if1) .left))
 
 pub shown-spec : {M : Type 1} → statement M
 shown-spec = tie.close (tie.spec live-requires returns numbers-of-requires returns-2)

@@ -44,7 +44,8 @@ returns-2 c =
     let at21 = at16 .before .before .before .before .before in
     let at24 = at21 .before .before .before in
     let at26 = at24 .before .before in
-    head-put (at26 .args .b .now) (at21 .put-be .last .0) (at16 .put-be2 .last .0) (at11 .put-be3 .last .0) (at6 .put-be4 .last .0) ((c .before .before .put-be5) .last .0) (at26 .args .h) (at24 .if1 .left)
+    head-put (at26 .args .b .now) (at21 .put-be .last .0) (at16 .put-be2 .last .0) (at11 .put-be3 .last .0) (at6 .put-be4 .last .0) ((c .before .before .put-be5) .last .0)
+    (at26 .args .h) (at24 .if1 .left)
     (at21 .put-be .ensures) (at16 .put-be2 .ensures) (at11 .put-be3 .ensures) (at6 .put-be4 .ensures) ((c .before .before .put-be5) .ensures)
 
 pub put-head-spec : {M : Type 1} → statement M

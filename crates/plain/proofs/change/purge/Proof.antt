@@ -27,8 +27,11 @@ returns-2 : tie.Need-returns-2
 returns-2 c =
     let at7 = c .before .before .before .before .before .before .before in
     let b = at7 .args .b .now in
-    let p = goneDoc (at7 .args .clock) (at7 .args .bound .0) in
-    ((c .before .before .purge-rows) .ensures .0 ∙ ap (λ (k : ℕ). purgeCount p k (drop 16 b)) ((c .before .before .before .rows-in) .ensures), (c .before .before .purge-rows) .ensures .1 ∙ ap (λ (k : ℕ). take 16 b ++ purgeBytes p k (drop 16 b)) ((c .before .before .before .rows-in) .ensures))
+    let p = goneDoc (at7 .args .clock) (at7 .args .bound .0) in (
+      (c .before .before .purge-rows) .ensures .0 ∙ ap (λ (k : ℕ). purgeCount p k (drop 16 b)) ((c .before .before .before .rows-in) .ensures),
+      (c .before .before .purge-rows) .ensures .1
+          ∙ ap (λ (k : ℕ). take 16 b ++ purgeBytes p k (drop 16 b)) ((c .before .before .before .rows-in) .ensures),
+    )
 
 pub purge-spec : {M : Type 1} → statement M
 purge-spec =

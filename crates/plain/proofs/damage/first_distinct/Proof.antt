@@ -63,8 +63,10 @@ returns-3 c =
     let s = a .s .now in
     let r = c .before .before .before .before .before .before .before .before .part .ensures in
     let key = c .before .before .part2 .ensures ∙ (λ i. part (r i) 32 ((c .before .before .before .be162 .ensures ∙ ap (λ (x : List ℕ). num x 2 2) r) i)) in
-    ap (λ (t : Bool). t && distinct (rowsOf (a .later) (drop (a .at + 1312) s))) (c .is-missing .ensures ∙ ap missing (c .before .find-from .ensures ∙ ap (λ (k : List ℕ). findIn k 0 (rowsOf (a .later) (drop (a .at + 1312) s))) key))
-    ∙ distinct-used s (a .at) (a .later) (λ z. c .before .before .before .before .before .before .if1 .left (c .before .before .before .before .before .before .before .be16 .ensures ∙ ap (λ (x : List ℕ). num x 0 2) r ∙ z))
+    ap (λ (t : Bool). t && distinct (rowsOf (a .later) (drop (a .at + 1312) s)))
+    (c .is-missing .ensures ∙ ap missing (c .before .find-from .ensures ∙ ap (λ (k : List ℕ). findIn k 0 (rowsOf (a .later) (drop (a .at + 1312) s))) key))
+    ∙ distinct-used s (a .at) (a .later) (λ z. c .before .before .before .before .before .before .if1 .left
+    (c .before .before .before .before .before .before .before .be16 .ensures ∙ ap (λ (x : List ℕ). num x 0 2) r ∙ z))
 
 pub first-distinct-spec : {M : Type 1} → statement M
 first-distinct-spec =

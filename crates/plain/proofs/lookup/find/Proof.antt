@@ -19,7 +19,8 @@ find-from-requires c κs = search needs
 
 returns-2 : tie.Need-returns-2
 unfolding tableOf
-returns-2 c = c .find-from .ensures ∙ ap (λ (n : ℕ). findIn (c .before .before .before .before .before .args .key .now) 0 (rowsOf n (drop 16 (c .before .before .before .before .before .args .s .now)))) (c .before .rows-in .ensures)
+returns-2 c = c .find-from .ensures ∙ ap (λ (n : ℕ). findIn (c .before .before .before .before .before .args .key .now) 0
+    (rowsOf n (drop 16 (c .before .before .before .before .before .args .s .now)))) (c .before .rows-in .ensures)
 
 pub find-spec : {M : Type 1} → statement M
 find-spec = tie.close (tie.spec returns rows-in-requires find-from-requires returns-2)

@@ -44,7 +44,8 @@ returns : tie.Need-returns Inv-loop μ-loop
 returns c =
     let s = c .before .before .before .before .before .before .args .s .now in
     let p = c .before .before .before .before .loop in
-    let f : isFree (rowOf (part s (p .a) 1312)) ≡ true = is-free (part s (p .a) 1312) ∙ eq-eqb _ _ (ap (λ (r : List ℕ). num r 0 2) (sym (row-cut s (p .a))) ∙ sym (c .before .be16 .ensures) ∙ c .if1 .taken) in
+    let f : isFree (rowOf (part s (p .a) 1312)) ≡ true = is-free (part s (p .a) 1312) ∙ eq-eqb _ _
+    (ap (λ (r : List ℕ). num r 0 2) (sym (row-cut s (p .a))) ∙ sym (c .before .be16 .ensures) ∙ c .if1 .taken) in
     sym (p .inv .2 ∙ free-row s (p .a) (p .n) (c .before .before .before .loop-test .taken) (p .k) ∙ rw f)
 
 add-a : tie.Need-add-a Inv-loop μ-loop
@@ -63,7 +64,8 @@ loop-again : tie.Need-loop-again Inv-loop μ-loop
 loop-again c =
     let s = c .before .before .before .before .before .before .args .s .now in
     let p = c .before .before .before .before .loop in
-    let f : isFree (rowOf (part s (p .a) 1312)) ≡ false = is-free (part s (p .a) 1312) ∙ ne-eqb _ _ (λ z. c .if1 .left (c .before .be16 .ensures ∙ ap (λ (r : List ℕ). num r 0 2) (row-cut s (p .a)) ∙ z)) in
+    let f : isFree (rowOf (part s (p .a) 1312)) ≡ false = is-free (part s (p .a) 1312) ∙ ne-eqb _ _
+    (λ z. c .if1 .left (c .before .be16 .ensures ∙ ap (λ (r : List ℕ). num r 0 2) (row-cut s (p .a)) ∙ z)) in
     (omega arith, omega arith, p .inv .2 ∙ free-row s (p .a) (p .n) (c .before .before .before .loop-test .taken) (p .k) ∙ rw f)
 
 returns-2 : tie.Need-returns-2 Inv-loop μ-loop

@@ -30,7 +30,8 @@ returns-2 : tie.Need-returns-2
 unfolding placeBy
 returns-2 c =
     let at6 = c .before .before .before .before .before .before in
-    (c .free-place) .ensures ∙ ap (λ (f : Found). foundPlace f (cond (at6 .args .new) (freeIn 0 (tableOf (at6 .args .s .now) .rows)) Nothing)) (sym ((c .before .enum-told) .given .1) ∙ (c .before .before .before .find-key) .ensures)
+    (c .free-place) .ensures ∙ ap (λ (f : Found). foundPlace f (cond (at6 .args .new) (freeIn 0 (tableOf (at6 .args .s .now) .rows)) Nothing))
+    (sym ((c .before .enum-told) .given .1) ∙ (c .before .before .before .find-key) .ensures)
 
 pub place-spec : {M : Type 1} → statement M
 place-spec =

@@ -28,7 +28,8 @@ same-requires c κs = search needs
 returns : tie.Need-returns
 returns c =
     let a = c .before .before .before .before .before .before .args in
-    (λ i. not (eqb (c .before .before .before .be16 .ensures i) 0) && (c .same .ensures ∙ ap (λ (l : List ℕ). same l (a .key .now)) (c .before .part .ensures ∙ ap (part (a .r .now) 32) (c .before .before .be162 .ensures))) i)
+    (λ i. not (eqb (c .before .before .before .be16 .ensures i) 0) &&
+    (c .same .ensures ∙ ap (λ (l : List ℕ). same l (a .key .now)) (c .before .part .ensures ∙ ap (part (a .r .now) 32) (c .before .before .be162 .ensures))) i)
     ∙ row-holds (a .r .now) (a .key .now)
 
 pub row-holds-spec : {M : Type 1} → statement M

@@ -20,7 +20,13 @@ be64-requires-2 c κs = search needs
 
 returns : tie.Need-returns
 unfolding docOf slotOf
-returns c = simp ((c .before .before .before .before .be16) .ensures, (c .before .before .before .be32) .ensures, (c .before .before .be322) .ensures, (c .before .be64) .ensures, (c .be642) .ensures)
+returns c = simp (
+  (c .before .before .before .before .be16) .ensures,
+  (c .before .before .before .be32) .ensures,
+  (c .before .before .be322) .ensures,
+  (c .before .be64) .ensures,
+  (c .be642) .ensures,
+)
 
 pub metadata-spec : {M : Type 1} → statement M
 metadata-spec =

@@ -41,7 +41,8 @@ returns c =
     let at7 = c .before .before .before .before .before .before .before in
     let at12 = at7 .before .before .before .before .before in
     let at16 = at12 .before .before .before .before in
-    then-two _ _ _ _ (at16 .args .at) (at16 .args .at + 2) (at16 .args .at + 4) _ _ _ (at12 .put-be .ensures) (at7 .put-be2 .ensures) (c .before .before .put-be3 .ensures) refl (omega arith) (omega (arith, (at16 .pre)))
+    then-two _ _ _ _ (at16 .args .at) (at16 .args .at + 2) (at16 .args .at + 4) _ _ _ (at12 .put-be .ensures) (at7 .put-be2 .ensures) (c .before .before .put-be3 .ensures) refl
+    (omega arith) (omega (arith, (at16 .pre)))
 
 pub put-sizes-spec : {M : Type 1} → statement M
 put-sizes-spec =

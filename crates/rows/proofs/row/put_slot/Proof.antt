@@ -32,7 +32,8 @@ returns c =
     let at6 = c .before .before .before .before .before .before in
     let at10 = at6 .before .before .before .before in
     let at13 = at10 .before .before .before in
-    then-two _ _ _ _ (at13 .args .at) (at13 .args .at + 8) (at13 .args .at + 16) _ _ _ (at10 .put-sizes .ensures) (at6 .put-short .ensures) (c .before .before .put-long .ensures) refl (omega arith) (omega (arith, (at13 .pre)))
+    then-two _ _ _ _ (at13 .args .at) (at13 .args .at + 8) (at13 .args .at + 16) _ _ _ (at10 .put-sizes .ensures) (at6 .put-short .ensures) (c .before .before .put-long .ensures) refl
+    (omega arith) (omega (arith, (at13 .pre)))
 
 pub put-slot-spec : {M : Type 1} → statement M
 put-slot-spec =
