@@ -91,12 +91,14 @@ written-reads f extras key value out n p e =
     written-fits out 0 (frameBytes f extras key value) (omega (arith, d .fits)) ∙ (unfold pasted frame in refl) in
     rw q (reads-back f extras key value p (d .is-held) (d .read) (drop (0 + length (frameBytes f extras key value)) out))
 
-refused : (f : Fields) (extras key value : List ℕ) (room : ℕ) → lengthsHeld (length extras) (length key) (length value) ≡ true → writing f extras key value room ≡ Refused → refuses (reading (frameBytes f extras key value)) ≡ true
+refused : (f : Fields) (extras key value : List ℕ) (room : ℕ) → lengthsHeld (length extras) (length key) (length value) ≡ true
+    → writing f extras key value room ≡ Refused → refuses (reading (frameBytes f extras key value)) ≡ true
 unfolding writing
 refused f extras key value room w e =
     cond-elim (not (lengthsHeld (length extras) (length key) (length value))) _ _ _ e (λ t z. absurd (let b : false ≡ true = sym (not-true _ t) ∙ w in let y : _≡_ {A = ℕ} 0 1 = cc in omega arith))
     (λ t e₁. cond-elim (refuses (reading (frameBytes f extras key value))) _ _ _ e₁ (λ u z. u)
-    (λ u e₂. cond-elim (ltb room (length (frameBytes f extras key value))) _ _ _ e₂ (λ v z. absurd (let y : _≡_ {A = ℕ} 0 1 = cc in omega arith)) (λ v z. absurd (let y : _≡_ {A = ℕ} 0 1 = cc in omega arith))))
+    (λ u e₂. cond-elim (ltb room (length (frameBytes f extras key value))) _ _ _ e₂ (λ v z. absurd (let y : _≡_ {A = ℕ} 0 1 = cc in omega arith))
+    (λ v z. absurd (let y : _≡_ {A = ℕ} 0 1 = cc in omega arith))))
 
 pub refused-reads : RefusedReads
 unfolding frame

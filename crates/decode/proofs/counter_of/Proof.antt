@@ -3,19 +3,15 @@ use borrow.Author.Needs.{needs}
 use Rattle.decode.proofs.counter_of.Statement.{statement}
 use Rattle.decode.proofs.counter_of.Tie as tie
 
--- src/lib.rt:46:9
 be64-requires : tie.Need-be64-requires
 be64-requires c κs = search needs
 
--- src/lib.rt:47:9
 be64-requires-2 : tie.Need-be64-requires-2
 be64-requires-2 c κs = search needs
 
--- src/lib.rt:48:9
 be32-requires : tie.Need-be32-requires
 be32-requires c κs = search needs
 
--- src/lib.rt:43:1
 returns : tie.Need-returns
 unfolding counterOf
 returns c = simp ((c .before .before .be64) .ensures, (c .before .be642) .ensures, (c .be32) .ensures)

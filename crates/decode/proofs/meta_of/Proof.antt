@@ -3,7 +3,6 @@ use mathlib.Core.Path.{refl}
 use Rattle.decode.proofs.meta_of.Statement.{statement}
 use Rattle.decode.proofs.meta_of.Tie as tie
 
--- src/lib.rt:57:1
 returns : tie.Need-returns
 unfolding metaCommand
 returns c = refl

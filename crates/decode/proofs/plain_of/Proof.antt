@@ -3,15 +3,12 @@ use borrow.Author.Needs.{needs}
 use Rattle.decode.proofs.plain_of.Statement.{statement}
 use Rattle.decode.proofs.plain_of.Tie as tie
 
--- src/lib.rt:34:9
 be32-requires : tie.Need-be32-requires
 be32-requires c κs = search needs
 
--- src/lib.rt:35:9
 be32-requires-2 : tie.Need-be32-requires-2
 be32-requires-2 c κs = search needs
 
--- src/lib.rt:31:1
 returns : tie.Need-returns
 unfolding plainOf
 returns c = simp ((c .before .be32) .ensures, (c .be322) .ensures)

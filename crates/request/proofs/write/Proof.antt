@@ -12,7 +12,7 @@ use Rattle.header.specs.Header.{headerBytes}
 use Rattle.header.specs.Layout.{layoutOf}
 use Rattle.rules.specs.Rules.{status}
 use Rattle.request.specs.declared.Written.the-variants.{Wrote}
-use Rattle.request.specs.Writing.{headerFor, frameBytes}
+use Rattle.request.specs.Writing.{headerFor, frameBytes, FieldsFit}
 use Rattle.request.proofs.WriterLaws.{too-long, wide-extras, against-rules, no-room, wrote, over-sum, small-sum}
 use Rattle.request.proofs.write.Statement.{statement}
 use Rattle.request.proofs.write.Tie as tie
@@ -28,7 +28,11 @@ returns : tie.Need-returns
 returns c =
     let a = c .before .before .before .before .before .before .args in
     let n = over-sum _ _ (c .before .body-size .ensures) (c .if1 .taken) in
-    (sym (too-long (a .f) (now (a .extras)) (now (a .key)) (now (a .value)) (length (now (a .out))) (record { opcode = search needs; datatype = search needs; vbucket = search needs; opaque = search needs; cas = search needs }) n), refl)
+    let x =
+    too-long (a .f) (now (a .extras)) (now (a .key)) (now (a .value)) (length (now (a .out)))
+    (record { opcode = search needs; datatype = search needs; vbucket = search needs; opaque = search needs; cas = search needs })
+    n in
+    (sym x, refl)
 
 returns-2 : tie.Need-returns-2
 returns-2 c =
@@ -90,16 +94,20 @@ unfolding frameBytes headerFor
 returns-5 c =
     let a = c .before .before .before .before .before .before .before .before .before .before .before .before .before .before .before .before .args in
     let g = c .before .before .before .before .before .before .before .before .before .before .before .before .before .before .before .before .good in
-    let n = small-sum _ _ (c .before .before .before .before .before .before .before .before .before .before .before .body-size .ensures) (omega (arith, c .before .before .before .before .before .before .before .before .before .before .if1 .left)) in
-    let h = c .before .before .before .before .before .before .before .before .header-for .ensures in
-    let s = sym (ap (λ (h : Header). status h (now (a .extras)) (now (a .value))) h) ∙ sym (c .before .before .before .before .before .before .before .status .ensures) in
-    let e = ends _ _ _ (c .before .before .before .before .before .layout-of .ensures) h in
+    let fit : FieldsFit (a .f) = record { opcode = search needs; datatype = search needs; vbucket = search needs; opaque = search needs; cas = search needs } in
+    let p4 = c .before .before .before .before in
+    let p8 = p4 .before .before .before .before in
+    let p10 = p8 .before .before in
+    let n = small-sum _ _ (p10 .before .body-size .ensures) (omega (arith, p10 .if1 .left)) in
+    let h = p8 .header-for .ensures in
+    let s = sym (ap (λ (h : Header). status h (now (a .extras)) (now (a .value))) h) ∙ sym (p4 .before .before .before .status .ensures) in
+    let e = ends _ _ _ (p4 .before .layout-of .ensures) h in
     let w =
-    wrote (a .f) (now (a .extras)) (now (a .key)) (now (a .value)) (length (now (a .out)))
-    (record { opcode = search needs; datatype = search needs; vbucket = search needs; opaque = search needs; cas = search needs })
-    (omega (arith, c .before .before .before .before .before .before .before .before .before .if2 .left)) (n .1) (s ∙ c .before .before .before .before .before .before .if3 .left) (omega (arith, e, c .before .before .before .before .if4 .left)) in (
+    wrote (a .f) (now (a .extras)) (now (a .key)) (now (a .value)) (length (now (a .out))) fit
+    (omega (arith, p8 .before .if2 .left)) (n .1) (s ∙ p4 .before .before .if3 .left) (omega (arith, e, p4 .if4 .left)) in (
       ap Wrote e ∙ sym w,
-      c .before .before .put-frame .ensures ∙ ap (λ (h : Header). written (now (a .out)) 0 (headerBytes h ++ (now (a .extras) ++ (now (a .key) ++ now (a .value))))) h,
+      c .before .before .put-frame .ensures
+          ∙ ap (λ (h : Header). written (now (a .out)) 0 (headerBytes h ++ (now (a .extras) ++ (now (a .key) ++ now (a .value))))) h,
     )
 
 pub write-spec : {M : Type 1} → statement M

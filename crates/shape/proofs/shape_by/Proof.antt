@@ -146,4 +146,36 @@ returns-15 c =
     ap (λ (f : Bool → Shape). f q) (sym (List·getD-eq-default operations unknown p14)))
 
 pub shape-by-spec : {M : Type 1} → statement M
-shape-by-spec = tie.close (tie.spec refused-requires key-only-requires key-only-requires-2 plain-write-requires plain-write-requires-2 plain-write-requires-3 key-only-requires-3 counter-requires counter-requires-2 bare-requires bare-requires-2 meta-write-requires meta-write-requires-2 meta-write-requires-3 refused-requires-2 returns returns-2 returns-3 returns-4 returns-5 returns-6 returns-7 returns-8 returns-9 returns-10 returns-11 returns-12 returns-13 returns-14 returns-15)
+shape-by-spec =
+    tie.close
+    (tie.spec
+    refused-requires
+    key-only-requires
+    key-only-requires-2
+    plain-write-requires
+    plain-write-requires-2
+    plain-write-requires-3
+    key-only-requires-3
+    counter-requires
+    counter-requires-2
+    bare-requires
+    bare-requires-2
+    meta-write-requires
+    meta-write-requires-2
+    meta-write-requires-3
+    refused-requires-2
+    returns
+    returns-2
+    returns-3
+    returns-4
+    returns-5
+    returns-6
+    returns-7
+    returns-8
+    returns-9
+    returns-10
+    returns-11
+    returns-12
+    returns-13
+    returns-14
+    returns-15)
