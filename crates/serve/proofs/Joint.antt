@@ -3,7 +3,7 @@ use Prim.Native.Nat.{ℕ, _+_, _≤_}
 use mathlib.Core.Path.{_≡_, refl, sym, ap, _∙_}
 use mathlib.Core.Bool.{Bool, true, false, _||_}
 use mathlib.Core.List.{List, []}
-use mathlib.Core.Option.{Option, none, some}
+use mathlib.Core.Option.{Option, none}
 use native.Mathlib.Omega.{arith}
 use lib.Dec.{ltb}
 use lib.ListN.{length, drop}
@@ -29,15 +29,14 @@ use Rattle.commands.specs.declared.Source.the-variants.{Empty, Frame, Digits}
 use Rattle.commands.specs.declared.Decision.{Decision}
 use Rattle.commands.specs.Rules.{isWrite, testsOf}
 use Rattle.commands.specs.Done.{decision}
-use Rattle.commands.specs.Decide.{Effect, instructionOf, docFrom, bytesFrom}
+use Rattle.commands.specs.Decide.{instructionOf, docFrom, bytesFrom}
 use Rattle.commands.proofs.Writing.{free-unread, stores-none}
 use Rattle.decode.specs.Decode.{requestOf, bareValue}
 use Rattle.engine.specs.Engine.{storeRow}
-use Rattle.rows.specs.Table.{Table, tableOf, tableBytes, headOf, headBytes}
+use Rattle.rows.specs.Table.{tableOf, tableBytes, headOf}
 use Rattle.rows.specs.Find.{findRow, freeRows}
 use Rattle.plain.specs.Damage.{sound}
 use Rattle.plain.specs.Plain.{plain}
-use Rattle.plain.specs.Claims.{Good}
 use Rattle.plain.proofs.TableLaws.{sound-good}
 use Rattle.table.specs.declared.Lookup.{Lookup}
 use Rattle.table.specs.Calls.{hasPlace, lookupOf, storedBy}
@@ -49,7 +48,7 @@ use Rattle.serving.specs.declared.Served.the-variants.{Done}
 use Rattle.serving.specs.Reply.{replyBytes}
 use Rattle.serving.specs.Serve.{reachesDecision, decisionOn, answerOn, frameTable, frameReply}
 use Rattle.serving.specs.Serves.{ServesFrame}
-use Rattle.serving.proofs.Change.{Storing, changing, unchanged, raised, raised-good, puts}
+use Rattle.serving.proofs.Change.{changing, unchanged, raised-good, puts}
 use Rattle.reply.specs.Fitting.{bareHeader, fittingReply}
 use Rattle.reply.proofs.Replies.{fitting}
 use Rattle.reply.proofs.Frames.{bare-reply, refused-is, refused-reply, refused-length, key-short}

@@ -6,7 +6,7 @@ use Rattle.rules.proofs.RuleLaws.{form-lengths}
 use Rattle.rules.specs.Rules.{formStatus}
 use Rattle.shape.specs.declared.Shape.{Shape}
 use native.Mathlib.Omega.{arith}
-use mathlib.Core.Path.{_≡_, sym, ap, _∙_}
+use mathlib.Core.Path.{sym, ap, _∙_}
 use denote.Ref.{now}
 use borrow.Author.Needs.{needs}
 use Rattle.serve.proofs.serve_parts.Statement.{statement}
