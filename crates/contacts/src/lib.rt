@@ -42,7 +42,7 @@ pub extern "C" fn contacts_make(b: &mut [u8], rows: usize, state: u8, mode: u8, 
 pub extern "C" fn contacts_sound(b: &[u8]) -> bool
     ensures { λ r. ⌜ r ≡ sound (now (b .entry)) ⌝ }
 {
-    plain::damage::is_sound(b)
+    table::is_sound(b)
 }
 
 // Serves the request at the start of the received bytes, and counts it.

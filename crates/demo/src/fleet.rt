@@ -2,7 +2,7 @@
 use crate::frames;
 use crate::shore;
 use crate::tell;
-use plain::Found;
+use engine::Place;
 use serving::Served;
 use tally::Tally;
 
@@ -69,13 +69,16 @@ fn row(boat: &[u8], i: usize) -> &[u8] {
 
 // Whether a row is free, or is byte for byte the other boat's row of its key.
 fn is_on(r: &[u8], other: &[u8]) -> bool {
-    let slot = plain::row::slot(r);
+    let slot = rows::row::slot(r);
     if slot.kind == 0 {
         return true;
     }
-    match plain::lookup::find(other, octets::part(r, 32, slot.keylen as usize)) {
-        Found::At(i) => octets::same(r, row(other, i)),
-        Found::Nothing => false,
+    let l = table::find(other, octets::part(r, 32, slot.keylen as usize), false);
+    let place = l.place;
+    match place {
+        Place::Over(i) => octets::same(r, row(other, i)),
+        Place::Into(_) => false,
+        Place::Full => false,
     }
 }
 

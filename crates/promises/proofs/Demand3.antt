@@ -87,7 +87,9 @@ table-same t c g w = rw (gate-go t c g w) (ap (λ (x : Table). tableBytes (stepp
 lifted : (t : Table) (cs : List Call) → Good t → All Passes cs → Lifted t cs
 lifted t [] g w = record { good = g; bytes = refl; table = refl; statuses = refl }
 lifted t (c ∷ cs) g w =
-    let r = lifted (stepped t c) cs (change-good t (c .clock) (c .received) (headerOf (c .received)) g (w .0 .bytes) (whole-frame (c .received) (headerOf (c .received)) (w .0 .whole) .inside)) (w .1) in
+    let h = headerOf (c .received) in
+    let good = change-good t (c .clock) (c .received) h g (w .0 .bytes) (whole-frame (c .received) h (w .0 .whole) .inside) in
+    let r = lifted (stepped t c) cs good (w .1) in
     let e = table-same t c g (w .0) in
     let v = step-same t c (w .0) in
     record {

@@ -74,7 +74,8 @@ module _ (op opaque : ℕ) (d : Decision) (key old : List ℕ) where
       → h ≡ replyHeader op opaque d key old → s2 ≡ written s1 0 (headerBytes h) → Replied (24 + n) s0 s2
   replied s0 s1 s2 n h f l b e w =
       let p : headerBytes h ++ bodyOf (d .done .reply) key old ≡ replyBytes op opaque d key old = rw e (sym (loud-reply f)) in
-      let q : s2 ≡ written s0 0 (headerBytes h ++ bodyOf (d .done .reply) key old) = before s0 s1 s2 24 (bodyOf (d .done .reply) key old) (headerBytes h) (b .1) w (length-header h) (omega (arith, b .0)) in
+      let q : s2 ≡ written s0 0 (headerBytes h ++ bodyOf (d .done .reply) key old) =
+      before s0 s1 s2 24 (bodyOf (d .done .reply) key old) (headerBytes h) (b .1) w (length-header h) (omega (arith, b .0)) in
       let z : length (headerBytes h ++ bodyOf (d .done .reply) key old) ≡ 24 + n = length-append (headerBytes h) _ ∙ omega (arith, length-header h, b .0) in
       (sym z ∙ ap length p, q ∙ ap (λ (xs : List ℕ). written s0 0 xs) p)
 

@@ -1,4 +1,5 @@
--- For the code alone: a reply that is written only where it is sure to fit, and the header of a bare one. Under the three bounds, which serving keeps, it is the reply of serving/specs/Reply.antt (proofs/Replies.antt).
+-- For the code alone: a reply that is written only where it is sure to fit, and the header of a bare one. Under the bounds, which serving keeps,
+-- it is the reply of serving/specs/Reply.antt (proofs/Replies.antt).
 use Prim.Native.Nat.{ℕ}
 use mathlib.Core.Bool.{Bool, cond, _||_}
 use mathlib.Core.List.{List, []}

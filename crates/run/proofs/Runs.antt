@@ -2,30 +2,19 @@
 use native.Mathlib.Omega.{arith}
 use Prim.Native.Nat.{ℕ, zero, suc, _+_, _-_, _≤_}
 use mathlib.Core.Path.{_≡_, refl, sym, ap, _∙_}
-use mathlib.Core.Bool.{true}
 use mathlib.Core.List.{List, _++_, append-nil}
-use lib.ListN.{length, take, drop, length-append, length-drop, drop-of-length-le, take-append-drop}
+use lib.ListN.{length, take, drop, length-drop, drop-of-length-le, take-append-drop}
 use lib.Seq.{take-all}
 use borrow.Rule.Slice.PartMut.{midOf, putMid}
 use Rattle.octets.specs.Parts.{Bytes}
-use Rattle.octets.proofs.Choices.{cases}
-use Rattle.header.specs.declared.Header.{Header}
-use Rattle.header.specs.Header.{headerBytes}
-use Rattle.header.proofs.HeaderLaws.{length-header}
 use Rattle.request.specs.declared.Gate.{Gate}
 use Rattle.request.specs.declared.Gate.the-variants.{Stop, Whole}
-use Rattle.request.specs.Reading.{frameStatus, bytesIn, keySpan}
-use Rattle.commands.specs.declared.Decision.{Decision}
-use Rattle.rows.specs.Table.{tableOf, headOf}
-use Rattle.plain.specs.Damage.{sound}
-use Rattle.plain.specs.Lookup.{findIn}
 use Rattle.tally.specs.declared.Tally.{Tally}
 use Rattle.tally.specs.Counts.{countedOf}
 use Rattle.serving.specs.declared.Served.{Served}
 use Rattle.serving.specs.declared.Served.the-variants.{Refused, Done}
-use Rattle.serving.specs.Reply.{replyBytes, bodyOf, replyHeader}
 use Rattle.serving.specs.Serves.{Serves}
-use Rattle.serving.specs.Serve.{gateAll, reachesDecision, decisionOn, frameReply, answerBy, served, servedTable, servedReply}
+use Rattle.serving.specs.Serve.{gateAll, frameReply, answerBy, served, servedTable, servedReply}
 use Rattle.reply.proofs.Frames.{reply-most}
 use Rattle.serving.proofs.Gated.{was-open, refused-keeps}
 use Rattle.run.specs.Run.{Stand, calledOn, further, onDone, standAfter, runEnd, ranOf}

@@ -1,4 +1,4 @@
--- Document 01's "Statuses, first that applies" as one list in its order, for any table, clock, received bytes and header. Proved in proofs/Statuses.antt: its first failure is the status that serving gives.
+-- Document 01's "Statuses, first that applies" as one list in its order, for any table, clock, received bytes and header. Its first failure is the status that serving gives (proofs/Statuses.antt).
 use Prim.Native.Nat.{ℕ}
 use mathlib.Core.Bool.{not}
 use mathlib.Core.Path.{_≡_}

@@ -14,7 +14,9 @@ same-length : tie.Need-same-length
 same-length c = search needs
 
 returns : tie.Need-returns
-returns c = (c .written-answer .ensures ∙ ap writtenAnswer (c .before .before .before .write .ensures .0), rw (← c .before .before .before .write .ensures .0) (c .before .before .before .write .ensures .1))
+returns c =
+    let wrote = c .before .before .before .write .ensures in
+    (c .written-answer .ensures ∙ ap writtenAnswer (wrote .0), rw (← wrote .0) (wrote .1))
 
 pub contacts-write-request-spec : {M : Type 1} → statement M
 contacts-write-request-spec =

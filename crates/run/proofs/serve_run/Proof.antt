@@ -42,7 +42,9 @@ add-at : tie.Need-add-at Inv-loop μ-loop
 add-at c =
     let l = c .before .before .before .before .before .before .before .before .before .before .before .loop in
     let a = c .before .before .before .before .before .before .before .before .before .before .before .before .before .before .before .args in
-    let w = turn-told (a .clock) (a .run .now) (l .b) (l .out) (l .tally) (l .at) (l .filled) (l .inv .1 .1 .1 .0) _ (c .before .before .before .before .before .before .before .before .before .rest .ensures) _ _ _ (c .before .before .before .before .before .before .before .serve-one .ensures) _ _ _ (c .before .r .given .1) in
+    let rest = c .before .before .before .before .before .before .before .before .before .rest .ensures in
+    let one = c .before .before .before .before .before .before .before .serve-one .ensures in
+    let w = turn-told (a .clock) (a .run .now) (l .b) (l .out) (l .tally) (l .at) (l .filled) (l .inv .1 .1 .1 .0) _ rest _ _ _ one _ _ _ (c .before .r .given .1) in
     let d = length-drop (l .at) (a .run .now) in
     omega (arith, w .inside, d, l .inv .1 .1 .0)
 
@@ -50,7 +52,9 @@ add-filled : tie.Need-add-filled Inv-loop μ-loop
 add-filled c =
     let l = c .before .before .before .before .before .before .before .before .before .before .before .loop in
     let a = c .before .before .before .before .before .before .before .before .before .before .before .before .before .before .before .args in
-    let w = turn-told (a .clock) (a .run .now) (l .b) (l .out) (l .tally) (l .at) (l .filled) (l .inv .1 .1 .1 .0) _ (c .before .before .before .before .before .before .before .before .before .rest .ensures) _ _ _ (c .before .before .before .before .before .before .before .serve-one .ensures) _ _ _ (c .before .r .given .1) in
+    let rest = c .before .before .before .before .before .before .before .before .before .rest .ensures in
+    let one = c .before .before .before .before .before .before .before .serve-one .ensures in
+    let w = turn-told (a .clock) (a .run .now) (l .b) (l .out) (l .tally) (l .at) (l .filled) (l .inv .1 .1 .1 .0) _ rest _ _ _ one _ _ _ (c .before .r .given .1) in
     let d = length-drop (l .at) (a .run .now) in
     omega (arith, w .fits (l .inv .1 .1 .1 .1 .0), l .inv .1 .1 .1 .0, l .inv .1 .0)
 
@@ -61,7 +65,9 @@ loop-less : tie.Need-loop-less Inv-loop μ-loop
 loop-less c =
     let l = c .before .before .before .before .before .before .before .before .before .before .before .before .loop in
     let a = c .before .before .before .before .before .before .before .before .before .before .before .before .before .before .before .before .args in
-    let w = turn-told (a .clock) (a .run .now) (l .b) (l .out) (l .tally) (l .at) (l .filled) (l .inv .1 .1 .1 .0) _ (c .before .before .before .before .before .before .before .before .before .before .rest .ensures) _ _ _ (c .before .before .before .before .before .before .before .before .serve-one .ensures) _ _ _ (c .before .before .r .given .1) in
+    let rest = c .before .before .before .before .before .before .before .before .before .before .rest .ensures in
+    let one = c .before .before .before .before .before .before .before .before .serve-one .ensures in
+    let w = turn-told (a .clock) (a .run .now) (l .b) (l .out) (l .tally) (l .at) (l .filled) (l .inv .1 .1 .1 .0) _ rest _ _ _ one _ _ _ (c .before .before .r .given .1) in
     let d = length-drop (l .at) (a .run .now) in
     omega (arith, w .least, w .inside, d, l .inv .1 .1 .0)
 
@@ -69,7 +75,11 @@ loop-again : tie.Need-loop-again Inv-loop μ-loop
 loop-again c =
     let l = c .before .before .before .before .before .before .before .before .before .before .before .before .loop in
     let a = c .before .before .before .before .before .before .before .before .before .before .before .before .before .before .before .before .args in
-    let w = turn-told (a .clock) (a .run .now) (l .b) (l .out) (l .tally) (l .at) (l .filled) (l .inv .1 .1 .1 .0) _ (c .before .before .before .before .before .before .before .before .before .before .rest .ensures) _ _ _ (c .before .before .before .before .before .before .before .before .serve-one .ensures) _ _ _ (c .before .before .r .given .1) in
+    let rest = c .before .before .before .before .before .before .before .before .before .before .rest .ensures in
+    let one = c .before .before .before .before .before .before .before .before .serve-one .ensures in
+    let w = turn-told (a .clock) (a .run .now) (l .b) (l .out) (l .tally) (l .at) (l .filled) (l .inv .1 .1 .1 .0) _ rest _ _ _ one _ _ _ (c .before .before .r .given .1) in
+    let more = turn-on (a .clock) (a .run .now) (l .b) (l .out) (l .tally) (l .at) (l .filled) (l .inv .1 .1 .1 .0) _ rest _ _ _ one
+    _ _ _ (c .before .before .r .given .1) _ (c .counted .ensures) in
     let d = length-drop (l .at) (a .run .now) in (
       c .before .before .before .before .before .before .before .b .given ∙ l .inv .0,
       (
@@ -80,7 +90,7 @@ loop-again c =
             omega (arith, w .fits (l .inv .1 .1 .1 .1 .0), c .before .before .before .before .before .out .given .1, l .inv .1 .1 .1 .0),
             (
               λ k. c .before .before .before .before .before .before .slice-known3 .given k .fits,
-              sym (turn-on (a .clock) (a .run .now) (l .b) (l .out) (l .tally) (l .at) (l .filled) (l .inv .1 .1 .1 .0) _ (c .before .before .before .before .before .before .before .before .before .before .rest .ensures) _ _ _ (c .before .before .before .before .before .before .before .before .serve-one .ensures) _ _ _ (c .before .before .r .given .1) _ (c .counted .ensures)) ∙ l .inv .1 .1 .1 .1 .1,
+              sym more ∙ l .inv .1 .1 .1 .1 .1,
             ),
           ),
         ),
@@ -100,7 +110,10 @@ returns : tie.Need-returns Inv-loop μ-loop
 returns c =
     let l = c .before .before .before .before .before .before .before .before .before .before .loop in
     let a = c .before .before .before .before .before .before .before .before .before .before .before .before .before .before .args in
-    turn-ends (a .clock) (a .run .now) (l .b) (l .out) (l .tally) (l .at) (l .filled) (l .inv .1 .1 .1 .0) _ (c .before .before .before .before .before .before .before .before .rest .ensures) _ _ _ (c .before .before .before .before .before .before .serve-one .ensures) _ _ (c .enum-told .given .1) (begun (a .b .now) (a .out .now) (a .t)) (l .inv .1 .1 .1 .1 .1)
+    let rest = c .before .before .before .before .before .before .before .before .rest .ensures in
+    let one = c .before .before .before .before .before .before .serve-one .ensures in
+    turn-ends (a .clock) (a .run .now) (l .b) (l .out) (l .tally) (l .at) (l .filled) (l .inv .1 .1 .1 .0) _ rest _ _ _ one
+    _ _ (c .enum-told .given .1) (begun (a .b .now) (a .out .now) (a .t)) (l .inv .1 .1 .1 .1 .1)
 
 pub serve-run-spec : {M : Type 1} → statement M
 serve-run-spec =
