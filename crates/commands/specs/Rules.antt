@@ -121,7 +121,8 @@ writeRule c p = plainRule (passes (p .expiry) (c .clock)) (isReplace (p .kind)) 
 abbrev pub deleteRule : Rule
 deleteRule = plainRule false true false false
 
--- Increment, Decrement: "Not live: expiry 0xffffffff gives 0x01"; "Live: the value must be 1 to 20 decimal digits of a number under 2^64, else 0x06."; "The 0x04 is tested even where the expiry goes unused."
+-- Increment, Decrement: "Not live: expiry 0xffffffff gives 0x01"; "Live: the value must be 1 to 20 decimal digits of a number under 2^64, else 0x06."
+-- "The 0x04 is tested even where the expiry goes unused."
 abbrev pub countRule : Context → Counter → Rule
 countRule c k = plainRule (passes (k .expiry) (c .clock)) (eqb (k .expiry) 0xffffffff) false true
 
@@ -136,7 +137,8 @@ isAddMeta SetMeta = false
 isAddMeta AddMeta = true
 isAddMeta DeleteMeta = false
 
--- Set, Add and Delete with meta. State: "with-meta with option 0x01 also passes in states 2 and 3"; "Header CAS not 0: not live 0x01, different 0x02."; "Without options 0x01 and 0x08, a key with any row, expired or tombstone included, is compared; the write must be greater, else 0x02."
+-- Set, Add and Delete with meta. "with-meta with option 0x01 also passes in states 2 and 3"; "Header CAS not 0: not live 0x01, different 0x02."
+-- "Without options 0x01 and 0x08, a key with any row, expired or tombstone included, is compared; the write must be greater, else 0x02."
 abbrev pub metaRule : Context → Meta → Bool → Rule
 metaRule c w fresh = record {
   fault = not (Bool·beq (w .last) (isLast (modeOf (c .head .mode))));

@@ -20,10 +20,14 @@ counted-requires-2 : tie.Need-counted-requires-2
 counted-requires-2 c κs = tt
 
 returns : tie.Need-returns
-returns c = simp (c .counted .ensures, c .before .sum .ensures, ← c .before .before .before .live .ensures, c .before .before .if1 .taken, c .before .before .before .before .numbers-of .ensures)
+returns c =
+    let a = c .before .before in
+    simp (c .counted .ensures, c .before .sum .ensures, ← a .before .live .ensures, a .if1 .taken, a .before .before .numbers-of .ensures)
 
 returns-2 : tie.Need-returns-2
-returns-2 c = simp (c .counted2 .ensures, c .before .absolute .ensures, ← c .before .before .before .live .ensures, c .before .before .if1 .left, c .before .before .before .before .numbers-of .ensures)
+returns-2 c =
+    let a = c .before .before in
+    simp (c .counted2 .ensures, c .before .absolute .ensures, ← a .before .live .ensures, a .if1 .left)
 
 pub count-done-spec : {M : Type 1} → statement M
 count-done-spec =
