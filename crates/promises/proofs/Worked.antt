@@ -152,7 +152,9 @@ pub last-write-premises : Premises (table 2) (calls 2)
 last-write-premises = premises (table 2) (calls 2) (worked-computed .1)
 
 pub worked : Worked
-unfolding written be bytesOf zeros same greater accepted shapeOf headerOf withMeta sectionOk status gateOf keySpan frameStatus ruleOf testsOf firstStatus firstFailure decision doneOf requestOf slotOf rowOf rowBytes tableOf tableBytes sizeOk headOk usedOk rowSound sound gateAll decisionOn answerOn frameTable served servedTable
+unfolding written be bytesOf zeros same greater accepted shapeOf headerOf withMeta sectionOk status gateOf keySpan frameStatus ruleOf testsOf
+    firstStatus firstFailure decision doneOf requestOf slotOf rowOf rowBytes tableOf tableBytes sizeOk headOk usedOk rowSound sound gateAll decisionOn
+    answerOn frameTable served servedTable
 worked = record {
   by-revision = record {
     premises = by-revision-premises;

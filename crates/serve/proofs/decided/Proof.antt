@@ -16,7 +16,14 @@ decide-requires c κs = search needs
 returns : tie.Need-returns
 returns c =
     let a = c .before .before .before .before .args in
-    c .decide .ensures ∙ (λ i. decision (record { head = a .head; row = a .l .stored; free = c .before .before .has-place .ensures i; clock = a .clock; number = c .before .parse .ensures i }) (a .ask))
+    c .decide .ensures ∙ (λ i. decision (record {
+      head = a .head;
+      row = a .l .stored;
+      free = c .before .before .has-place .ensures i;
+      clock =
+          a .clock;
+      number = c .before .parse .ensures i;
+    }) (a .ask))
 
 pub decided-spec : {M : Type 1} → statement M
 decided-spec = tie.close (tie.spec has-place-requires parse-requires decide-requires returns)
