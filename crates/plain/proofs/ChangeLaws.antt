@@ -14,10 +14,9 @@ use Rattle.octets.proofs.Lists.{pasted-skip, pasted-over}
 use Rattle.document.specs.Documents.{Key, Doc, Entry}
 use Rattle.engine.specs.Engine.{Room}
 use Rattle.rows.specs.Row.{Row, rowBytes}
-use Rattle.rows.specs.Table.{Table, headBytes, rowsBytes, tableBytes, withRow, withMark, fresh}
-use Rattle.plain.specs.Store.{stored}
+use Rattle.rows.specs.Table.{Table, headBytes, rowsBytes, tableBytes, withRow, fresh}
 use Rattle.plain.specs.Plain.{putRow, purgeRows, Distinct, plain}
-use Rattle.plain.specs.Claims.{Good, StoreGood, PurgeGood, FreshGood}
+use Rattle.plain.specs.Claims.{Good, PurgeGood, FreshGood}
 use Rattle.rows.specs.Good.{EntryGood, AllGood}
 use Rattle.plain.proofs.PlainLaws.{plain-laws, length-purge}
 use Rattle.plain.proofs.Places.{at-place, place-room}
@@ -68,10 +67,6 @@ module _ (t : Table) where
       pasted-skip (headBytes (t .head)) (rowsBytes (t .rows)) 16 (i * 1312) (rowBytes w) (head-length (t .head))
       ∙ ap (λ (l : List ℕ). headBytes (t .head) ++ l) (rows-put mark w r (t .rows) i g h)
 
-  pub mark-put : (mark : ℕ) → pasted (tableBytes t) 8 (bytesOf 8 mark) ≡ tableBytes (withMark t mark)
-  unfolding pasted tableBytes headBytes bytesOf
-  mark-put mark = refl
-
 -- a document put where there is room keeps a table good
 pub put-good : (t : Table) (key : Key) (d : Doc) → Good t → EntryGood (t .head .mark .0) (record { key = key; doc = d }) → Room plain (t .rows) key
     → Good (record { head = t .head; rows = putRow (t .rows) key d })
@@ -88,31 +83,6 @@ put-good t key d g k room =
       mark = g .mark;
       rows = rw row (good-set (t .head .mark .0) (some (record { key = key; doc = d })) k (t .rows) (p .0) (g .rows));
       keys = plain-laws .good-put (t .rows) key d (g .keys) room;
-    }
-
-pub store-good : StoreGood
-unfolding stored
-store-good t i e mark g k m s p =
-    let at = at-place (e .key) (t .rows) i p in
-    let row : putRow (t .rows) (e .key) (e .doc) ≡ set (t .rows) i (some e) = at .put (e .doc) in
-    let a = raise (t .head .mark .0) mark (t .rows) m (g .rows) in
-    let fits : length (e .key) + length (e .doc .value) ≤ 1280 = omega (arith, k .key-most, k .value-most) in
-    record {
-      bytes =
-          rw (table-count t g, lt-ltb i (length (t .rows)) (at .below), le-leb (length (e .key) + length (e .doc .value)) 1280 fits, row-put t mark i (some e) k a (at .below), row)
-          (mark-put (withRow t i (some e)) mark);
-      row = row;
-      good = record {
-        least = rw (row, length-set) (g .least);
-        most = rw (row, length-set) (g .most);
-        state = g .state;
-        mode = g .mode;
-        vbucket = g .vbucket;
-        clock = g .clock;
-        mark = s;
-        rows = rw row (good-set mark (some e) k (t .rows) i a);
-        keys = plain-laws .good-put (t .rows) (e .key) (e .doc) (g .keys) (at .room);
-      };
     }
 
 module _ (p : Doc → Bool) where

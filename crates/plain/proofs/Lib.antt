@@ -8,6 +8,5 @@ pub mod Buckets
 pub mod Prints
 pub mod Checks
 pub mod Writes
-pub mod Storing
 pub mod Purging
 pub mod Placing

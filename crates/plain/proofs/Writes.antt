@@ -18,7 +18,6 @@ use Rattle.rows.specs.Table.{rowCount, rowAt}
 use Rattle.rows.specs.Over.{overBytes, overRow}
 use Rattle.rows.proofs.OneRow.{row-cut, row-there, row-size}
 use Rattle.rows.proofs.Writes.{length-over, over-one}
-use Rattle.plain.specs.Store.{storedOver}
 use Rattle.plain.specs.Change.{rowStored}
 
 module _ (b : List ℕ) (i : ℕ) (e : Entry) where
@@ -46,23 +45,3 @@ module _ (b : List ℕ) (i : ℕ) (e : Entry) where
     pub put-nowhere : rowCount b ≤ i → b ≡ rowStored b i e old
     unfolding rowStored
     put-nowhere h = rw (le-ltb i (rowCount b) h)
-
-  -- the same with a mark
-  module _ (mark used : ℕ) where
-    pub store-nowhere : rowCount b ≤ i → b ≡ storedOver b i e mark used
-    unfolding storedOver
-    store-nowhere h = rw (le-ltb i (rowCount b) h)
-
-    pub store-unfit : leb (length (e .key) + length (e .doc .value)) 1280 ≡ false → b ≡ storedOver b i e mark used
-    unfolding storedOver
-    store-unfit f = rw (f, and-false)
-
-    module _ (h : i < rowCount b) (room : length (e .key) + length (e .doc .value) ≤ 1280) where
-      pub store-put : (old : ℕ) (r s : List ℕ) → old ≡ used - length (e .key) → r ≡ overRow (take (at + 1312 - at) (drop at b)) e old
-          → s ≡ written (putMid at (at + 1312 - at) b r) 8 (bytesOf 8 mark) → s ≡ storedOver b i e mark used
-      unfolding storedOver
-      store-put old r s k p q =
-          let o = overBytes (rowAt b i) e old in
-          let m : length (pasted b at o) ≡ length b = length-pasted b at o (omega (arith, over-length old h)) in
-          q ∙ ap (λ (t : List ℕ). written t 8 (bytesOf 8 mark)) (row-lent old h r p) ∙ written-fits (pasted b at o) 8 (bytesOf 8 mark) (omega (arith, length-bytes 8 mark))
-          ∙ rw (lt-ltb i (rowCount b) h, le-leb (length (e .key) + length (e .doc .value)) 1280 room, k)

@@ -9,10 +9,9 @@ use Rattle.octets.specs.Parts.{Bytes}
 use Rattle.document.specs.Documents.{Key, Doc, Entry}
 use Rattle.plain.specs.declared.Found.the-variants.{At}
 use Rattle.rows.specs.Good.{EntryGood, AllGood}
-use Rattle.rows.specs.Table.{Table, tableOf, tableBytes, withMark, fresh}
+use Rattle.rows.specs.Table.{Table, tableOf, tableBytes, fresh}
 use Rattle.plain.specs.Lookup.{placeIn}
 use Rattle.plain.specs.Damage.{sound}
-use Rattle.plain.specs.Store.{stored}
 use Rattle.plain.specs.Plain.{Distinct, putRow, purgeRows}
 
 pub record Good (t : Table) : Type 0 where
@@ -33,20 +32,6 @@ SoundGood = (b : List ℕ) → Bytes b → sound b ≡ true → (tableBytes (tab
 -- a good table's bytes are sound, and say that table
 abbrev pub GoodSound : Type 0
 GoodSound = (t : Table) → Good t → (sound (tableBytes t) ≡ true) × (tableOf (tableBytes t) ≡ t)
-
-abbrev pub withEntry : Table → Key → Doc → Table
-withEntry t k d = record { head = t .head; rows = putRow (t .rows) k d }
-
--- storing an entry at its key's place with a mark that is no lower puts it, changes that row and the mark alone, and keeps the table good
-pub record StoresMarked (t : Table) (i : ℕ) (e : Entry) (mark : ℕ) : Type 0 where
-  pub bytes : stored (tableBytes t) i e mark ≡ tableBytes (withMark (withEntry t (e .key) (e .doc)) mark)
-  pub row : putRow (t .rows) (e .key) (e .doc) ≡ set (t .rows) i (some e)
-  pub good : Good (withMark (withEntry t (e .key) (e .doc)) mark)
-
-abbrev pub StoreGood : Type 0
-StoreGood =
-    (t : Table) (i : ℕ) (e : Entry) (mark : ℕ) → Good t → EntryGood mark e → t .head .mark .0 ≤ mark → mark < 2 ^ 64
-    → placeIn (e .key) (t .rows) ≡ At i → StoresMarked t i e mark
 
 -- purging keeps a table good, whatever it picks
 abbrev pub PurgeGood : Type 0

@@ -1,6 +1,5 @@
 pub mod Lookup
 pub mod Damage
-pub mod Store
 pub mod Plain
 pub mod Claims
 pub mod Purge

@@ -3,7 +3,6 @@
 pub mod change;
 pub mod damage;
 pub mod lookup;
-pub mod store;
 
 pub enum Found {
     At(usize),

@@ -5,7 +5,6 @@ use mathlib.Core.Option.{none}
 use lib.ListN.{length, take, drop, set, getD, replicate}
 use Rattle.octets.specs.BigEndian.{num, bytesOf}
 use Rattle.document.specs.declared.Head.{Head}
-use Rattle.document.specs.Head.{marked}
 use Rattle.rows.specs.Row.{Row, rowOf, rowBytes}
 
 pub record Table : Type 0 where
@@ -46,12 +45,9 @@ unfoldable pub tableBytes : Table → List ℕ
 unfolding headBytes
 tableBytes t = headBytes (t .head) ++ rowsBytes (t .rows)
 
--- t with the row at a place set, and with another mark
+-- t with the row at a place set
 abbrev pub withRow : Table → ℕ → Row → Table
 withRow t i w = record { head = t .head; rows = set (t .rows) i w }
-
-abbrev pub withMark : Table → ℕ → Table
-withMark t m = record { head = marked (t .head) m; rows = t .rows }
 
 -- "A fresh table is all free, mark 0."
 abbrev pub fresh : ℕ → ℕ → ℕ → ℕ → Table
