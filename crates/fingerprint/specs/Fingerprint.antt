@@ -1,4 +1,4 @@
--- A number that equal keys share. It says nothing of the table: that equal keys have equal fingerprints holds of any function of the key, and this one is quick and seldom agrees on different keys.
+-- For the code alone: a number that equal keys share. It says nothing of the table: that equal keys have equal fingerprints holds of any function of the key, and this one is quick and seldom agrees on different keys.
 use Prim.Native.Nat.{ℕ, zero, suc, _+_, _-_, _*_, _/_, _%_, _^_}
 use mathlib.Core.List.{List, [], _∷_}
 use mathlib.Core.Bool.{Bool, false, _||_, cond}

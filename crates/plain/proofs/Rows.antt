@@ -1,7 +1,7 @@
 -- One row of a run of rows: what each pass over rows makes of it, and what a row's first bytes say.
 use Prim.Native.Nat.{ℕ, zero, suc, _+_, _-_, _*_, _≤_, _<_}
 use mathlib.Core.Path.{_≡_, refl, sym, ap, _∙_}
-use mathlib.Core.Bool.{true, _&&_, not, cond}
+use mathlib.Core.Bool.{Bool, true, _&&_, not, cond}
 use mathlib.Core.List.{List, [], _∷_, map}
 use mathlib.Core.Option.{none, some}
 use native.Mathlib.Omega.{arith}
@@ -17,7 +17,9 @@ use Rattle.octets.proofs.Choices.{cases, both}
 use Rattle.octets.proofs.Lists.{part-length}
 use Rattle.plain.specs.declared.Found.the-variants.{At}
 use Rattle.document.specs.declared.Head.{Head}
-use Rattle.rows.specs.Row.{slotOf, docOf, keyOf, rowOf}
+use Rattle.rows.specs.Row.{Row, slotOf, docOf, keyOf, rowOf}
+use Rattle.rows.specs.Find.{findRow}
+use Rattle.engine.specs.Engine.{isSome}
 use Rattle.rows.specs.Table.{headOf, chunks, rowCount, rowsOf, tableOf}
 use Rattle.plain.specs.Lookup.{holds, isFree, findIn, freeIn, missing}
 use Rattle.plain.specs.Damage.{distinct, sound}
@@ -46,6 +48,12 @@ module _ (r : List ℕ) where
       (λ t. rw (row-free r (eqb-true (num r 0 2) 0 t), t))
       (λ f. rw (row-used r (eqb-false (num r 0 2) 0 f), f))
 
+-- a key has no place where it has no document
+pub missing-found : (key : List ℕ) (i : ℕ) (ws : List Row) → missing (findIn key i ws) ≡ not (isSome (findRow ws key))
+missing-found key i [] = refl
+missing-found key i (none ∷ ws) = missing-found key (i + 1) ws
+missing-found key i (some x ∷ ws) = cases (same (x .key) key) (λ t. rw t) (λ f. rw f (missing-found key (i + 1) ws))
+
 -- the first of a run of rows, compared with those after it
 module _ (s : List ℕ) (at later : ℕ) where
   pub distinct-free : num (part s at 1312) 0 2 ≡ 0 → distinct (rowsOf later (drop (at + 1312) s)) ≡ distinct (rowsOf (later + 1) (drop at s))
@@ -54,7 +62,10 @@ module _ (s : List ℕ) (at later : ℕ) where
   pub distinct-used : (num (part s at 1312) 0 2 ≡ 0 → ⊥) → (missing (findIn (part (part s at 1312) 32 (num (part s at 1312) 2 2)) 0 (rowsOf later (drop (at + 1312) s))) && distinct
       (rowsOf later (drop (at + 1312) s))) ≡ distinct (rowsOf (later + 1) (drop at s))
   unfolding keyOf slotOf
-  distinct-used e = rw (first-row s at later, row-used (part s at 1312) e)
+  distinct-used e =
+      let rows = rowsOf later (drop (at + 1312) s) in
+      ap (λ (t : Bool). t && distinct rows) (missing-found (part (part s at 1312) 32 (num (part s at 1312) 2 2)) 0 rows)
+      ∙ rw (first-row s at later, row-used (part s at 1312) e)
 
 -- the damage test, part by part, with the row count and the header read before
 pub sound-is : (b : List ℕ) (n : ℕ) (h : Head) → n ≡ rowCount b → h ≡ headOf b

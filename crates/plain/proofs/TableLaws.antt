@@ -2,9 +2,9 @@
 use native.Mathlib.Omega.{arith}
 use mathlib.Core.Path.{_≡_, refl, sym, ap, _∙_}
 use mathlib.Core.Logic.{_⊎_, inl, ⊎-elim}
-use mathlib.Core.Bool.{true, _&&_, true≢false}
+use mathlib.Core.Bool.{true, not, _&&_, true≢false}
 use mathlib.Core.List.{List, [], _∷_, _++_}
-use mathlib.Core.Option.{none, some}
+use mathlib.Core.Option.{Option, none, some}
 use Prim.Native.Nat.{ℕ, zero, suc, _+_, _*_, _^_, _≤_, _<_}
 use lib.ListN.{length, take, drop, getD, length-append, length-take, length-drop, take-append-drop}
 use lib.Seq.{take-at, drop-at}
@@ -17,20 +17,20 @@ use Rattle.octets.proofs.Choices.{cases, both}
 use Rattle.octets.proofs.Lists.{bytes-take, bytes-drop, glue, glue-rest}
 use Rattle.octets.proofs.Numbers.{be-bytes, num-back, num-below}
 use Rattle.octets.proofs.Tests.{same-true}
-use Rattle.document.specs.Documents.{Key}
+use Rattle.document.specs.Documents.{Key, Doc}
 use Rattle.document.specs.declared.Head.{Head}
-use Rattle.plain.specs.declared.Found.{Found}
-use Rattle.plain.specs.declared.Found.the-variants.{At, Nothing}
+use Rattle.plain.specs.declared.Found.the-variants.{Nothing}
 use Rattle.rows.specs.Row.{Row, slotOf, rowOf, rowBytes}
 use Rattle.rows.specs.Table.{Table, headOf, chunks, rowCount, rowsOf, tableOf, headBytes, rowsBytes, tableBytes}
-use Rattle.plain.specs.Lookup.{findIn, missing}
+use Rattle.plain.specs.Lookup.{findIn}
 use Rattle.plain.specs.Damage.{distinct, sound}
 use Rattle.rows.specs.RowRules.{sizeOk, headOk, rowSound, allSound}
 use Rattle.plain.specs.Plain.{Distinct}
 use Rattle.rows.specs.Find.{findRow}
 use Rattle.plain.specs.Claims.{Good, SoundGood, GoodSound}
 use Rattle.rows.specs.Good.{AllGood}
-use Rattle.plain.proofs.Places.{find-nothing, nothing-find}
+use Rattle.engine.specs.Engine.{isSome}
+use Rattle.plain.proofs.Places.{nothing-find}
 use Rattle.rows.proofs.RowLaws.{RowGood, row-length, row-read, row-sound, row-back}
 
 -- a run of rows
@@ -88,21 +88,21 @@ length-rows zero b = refl
 length-rows (suc n) b = ap suc (length-rows n (drop 1312 b))
 
 -- no two used rows have one key, as the test and as the engine's rule
-nothing-of : (f : Found) → missing f ≡ true → f ≡ Nothing
-nothing-of (At i) e = absurd (true≢false (sym e))
-nothing-of Nothing e = refl
+none-found : (o : Option Doc) → not (isSome o) ≡ true → o ≡ none
+none-found none e = refl
+none-found (some d) e = absurd (true≢false (sym e))
 
 pub distinct-keys : (ws : List Row) → distinct ws ≡ true → Distinct ws
 distinct-keys [] e = tt
 distinct-keys (none ∷ ws) e = distinct-keys ws e
 distinct-keys (some x ∷ ws) e =
-    let q = both (missing (findIn (x .key) 0 ws)) (distinct ws) e in
-    (find-nothing (x .key) 0 ws (nothing-of (findIn (x .key) 0 ws) (q .0)), distinct-keys ws (q .1))
+    let q = both (not (isSome (findRow ws (x .key)))) (distinct ws) e in
+    (none-found (findRow ws (x .key)) (q .0), distinct-keys ws (q .1))
 
 pub keys-distinct : (ws : List Row) → Distinct ws → distinct ws ≡ true
 keys-distinct [] g = refl
 keys-distinct (none ∷ ws) g = keys-distinct ws g
-keys-distinct (some x ∷ ws) g = λ i. ap missing (nothing-find (x .key) 0 ws (g .0)) i && keys-distinct ws (g .1) i
+keys-distinct (some x ∷ ws) g = λ i. not (isSome (g .0 i)) && keys-distinct ws (g .1) i
 
 -- the header
 head-back : (b : List ℕ) → Bytes b → 16 ≤ length b → headBytes (headOf b) ≡ part b 0 16

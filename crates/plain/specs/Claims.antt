@@ -10,7 +10,6 @@ use Rattle.document.specs.Documents.{Key, Doc, Entry}
 use Rattle.plain.specs.declared.Found.the-variants.{At}
 use Rattle.rows.specs.Good.{EntryGood, AllGood}
 use Rattle.rows.specs.Table.{Table, tableOf, tableBytes, fresh}
-use Rattle.plain.specs.Lookup.{placeIn}
 use Rattle.plain.specs.Damage.{sound}
 use Rattle.plain.specs.Plain.{Distinct, putRow, purgeRows}
 

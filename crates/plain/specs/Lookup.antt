@@ -1,4 +1,4 @@
--- Where a key's row is, and where a new key goes: "A new key takes the lowest free row."
+-- For the code alone: places of rows. Where a key's row is, and where a new key goes: "A new key takes the lowest free row."
 use Prim.Native.Nat.{ℕ, _+_}
 use mathlib.Core.List.{List, [], _∷_}
 use mathlib.Core.Bool.{Bool, true, false, cond}

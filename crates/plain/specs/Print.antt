@@ -1,4 +1,4 @@
--- The fingerprint of a row: its key's, 0 where it is free. Only speed hangs on it.
+-- For the code alone: the fingerprint of a row, its key's, 0 where it is free. Only speed hangs on it.
 use Prim.Native.Nat.{ℕ}
 use mathlib.Core.Option.{none, some}
 use Rattle.fingerprint.specs.Fingerprint.{fingerprint}

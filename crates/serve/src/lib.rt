@@ -77,7 +77,8 @@ fn serve_formed(
     let n = reply::put_reply(out, h.opcode, h.opaque, d, key, old);
     let done = d.done;
     change::change(b, l, key, done, octets::part(value, 0, size));
-    Served::Done(d.status, 24 + h.body as usize, n)
+    let frame = header::layout_of(h);
+    Served::Done(d.status, frame.end, n)
 }
 
 // Answers a frame whose status the reader gives: a bare header, and nothing stored.
@@ -86,7 +87,8 @@ fn refused(out: &mut [u8], h: Header, status: u8) -> Served
         × (now (out .exit) ≡ written (now (out .entry)) 0 (headerBytes (bareHeader (h .opcode) (h .opaque) status))) ⌝ }
 {
     reply::put_bare(out, h.opcode, h.opaque, status);
-    Served::Done(status, 24 + h.body as usize, 24)
+    let frame = header::layout_of(h);
+    Served::Done(status, frame.end, 24)
 }
 
 // A frame whose lengths are right: its parts are cut out, and then its fields are judged.

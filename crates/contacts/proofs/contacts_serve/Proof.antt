@@ -1,4 +1,5 @@
--- `contacts_serve` meets its contract: a walk of its MIR, by hand. All that is lent goes to `counted::serve`, each at its own lifetime for good; the frame is copied. The answer goes to `served_answer`. Assumes nothing.
+-- `contacts_serve` meets its contract: a walk of its MIR, by hand. All that is lent goes to `counted::serve`, each at its own lifetime
+-- for good; the frame is copied. The answer goes to `served_answer`. Assumes nothing.
 use mathlib.Core.Path.{_≡_, refl, ap, _∙_}
 use Prim.Native.Nat.{ℕ, _<_, _^_}
 use mathlib.Core.List.{[], _∷_, List}

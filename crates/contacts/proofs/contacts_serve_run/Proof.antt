@@ -1,4 +1,6 @@
--- `contacts_serve_run` meets its contract: a walk of its MIR, by hand. The tally's borrow is opened and the struct copied out; table, frames and reply area go to `run::serve_run` with the copy; the counts that it gives are stored whole and the borrow is closed at them. Assumes nothing.
+-- `contacts_serve_run` meets its contract: a walk of its MIR, by hand. The tally's borrow is opened and the struct copied out; table,
+-- frames and reply area go to `run::serve_run` with the copy; the counts that it gives are stored whole and the borrow is closed at
+-- them. Assumes nothing.
 use mathlib.Core.Path.{_≡_, refl, ap, _∙_}
 use Prim.Native.Nat.{ℕ, _<_, _^_}
 use mathlib.Core.List.{[], _∷_, List}

@@ -1,3 +1,4 @@
+use Rattle.serving.specs.declared.Served.the-variants.{Done}
 use Rattle.octets.specs.Parts.{Bytes}
 use Rattle.serve.proofs.Joint.{formed-by}
 use mathlib.Core.Path.{refl, _∙_}
@@ -27,11 +28,8 @@ part-requires-2 c κs = search needs
 change-requires : tie.Need-change-requires
 change-requires c κs = search needs
 
-cast-t28 : tie.Need-cast-t28
-cast-t28 c = search needs
-
-add-t29 : tie.Need-add-t29
-add-t29 c = search needs
+layout-of-requires : tie.Need-layout-of-requires
+layout-of-requires c κs = search needs
 
 same-length : tie.Need-same-length
 same-length c = search needs
@@ -52,7 +50,7 @@ returns c =
     formed-by b s (r .args .clock) (r .args .h) y z (r .pre .0 .0) (p .1 .1 .1 .1) (p .0) _ _ _ _ _ _ _ (p .1 .1 .0)
     (l .before .writes .ensures) (l .find .ensures) (a .before .before .before .part .ensures)
     (r .pre .0 .1 .0) (p .1 .0) (a .before .before .decided .ensures) _ _ _ _ _ _ (c .before .before .before .before .part2 .ensures ∙ p .1 .1 .1 .0) (r .pre .0 .1 .1)
-    (a .put-reply .ensures .0) refl (a .put-reply .ensures .1) (c .before .before .before .change .ensures)
+    (a .put-reply .ensures .0) (λ i. Done (a .before .before .decided .result .status) (c .layout-of .ensures i .end) (a .put-reply .result)) (a .put-reply .ensures .1) (c .before .before .before .change .ensures)
 
 pub serve-formed-spec : {M : Type 1} → statement M
 serve-formed-spec =
@@ -65,8 +63,7 @@ serve-formed-spec =
     put-reply-requires
     part-requires-2
     change-requires
-    cast-t28
-    add-t29
+    layout-of-requires
     same-length
     same-length-2
     returns)

@@ -1,4 +1,5 @@
--- `tally::count` meets its contract: a walk of its MIR, by hand. The borrow is opened, the struct is copied out and passed to `counted`, its result is stored whole, and the borrow is closed at it. Assumes nothing.
+-- `tally::count` meets its contract: a walk of its MIR, by hand. The borrow is opened, the struct is copied out and passed to `counted`,
+-- its result is stored whole, and the borrow is closed at it. Assumes nothing.
 use mathlib.Core.Path.{_≡_, refl}
 use Prim.Native.Nat.{ℕ}
 use mathlib.Core.List.{[], _∷_, List}

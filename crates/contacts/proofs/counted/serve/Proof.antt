@@ -1,4 +1,5 @@
--- `counted::serve` meets its contract: a walk of its MIR, by hand. The table and the reply go to `serve_one` and the tally to `count`, each at its own lifetime for good; the frame is copied. Assumes nothing.
+-- `counted::serve` meets its contract: a walk of its MIR, by hand. The table and the reply go to `serve_one` and the tally to `count`,
+-- each at its own lifetime for good; the frame is copied. Assumes nothing.
 use mathlib.Core.Path.{_≡_, refl, ap, sym, subst}
 use Prim.Native.Nat.{ℕ, _<_, _^_}
 use mathlib.Core.List.{[], _∷_, List}
