@@ -1,16 +1,16 @@
 -- What a command does once no test fails, and the whole decision.
-use Prim.Native.Nat.{ℕ, _+_, _-_, _%_, _^_, max}
+use Prim.Native.Nat.{ℕ}
 use mathlib.Core.Bool.{Bool, true, false, cond, _&&_}
 use lib.Dec.{eqb}
 use Rattle.numbers.specs.declared.Cas.{Cas}
 use Rattle.numbers.specs.declared.Numbers.{Numbers}
-use Rattle.numbers.specs.Growth.{next}
+use Rattle.numbers.specs.Growth.{next, incremented, decremented}
 use Rattle.numbers.specs.Expiry.{absolute}
 use Rattle.document.specs.declared.Metadata.{Metadata}
 use Rattle.document.specs.declared.Stored.the-variants.{Nothing, Used}
 use Rattle.document.specs.declared.Head.{Head}
 use Rattle.document.specs.Stored.{live, numbersOf}
-use Rattle.document.specs.Head.{marked}
+use Rattle.document.specs.Head.{raised}
 use Rattle.digits.specs.declared.Number.{Number}
 use Rattle.digits.specs.declared.Number.the-variants.{Value, NoNumber}
 use Rattle.commands.specs.declared.MetaKind.{MetaKind}
@@ -35,7 +35,7 @@ nothing h reply cas = record { store = Nothing; source = Empty; reply = reply; c
 
 -- the row is stored, and the mark raised to its CAS where lower; "Its reply carries the new CAS."
 abbrev pub storing : Head → Metadata → Source → Reply → Done
-storing h row source reply = record { store = Used row; source = source; reply = reply; cas = row .numbers .cas; head = marked h (max (h .mark .0) (row .numbers .cas .0)) }
+storing h row source reply = record { store = Used row; source = source; reply = reply; cas = row .numbers .cas; head = raised h (row .numbers .cas .0) }
 
 -- Get: "Reply: flags as 4 extras bytes, key for 0c/0d, value, CAS."
 abbrev pub found : Context → Bool → Done
@@ -64,7 +64,7 @@ counted c flags expiry n = storing (c .head) (record { tomb = false; numbers = p
 
 -- "Increment wraps past 2^64 - 1 to 0; decrement stops at 0."
 abbrev pub sum : Number → Counter → ℕ
-sum (Value n) k = cond (k .up) ((n + k .delta) % 2 ^ 64) (n - k .delta)
+sum (Value n) k = cond (k .up) (incremented n (k .delta)) (decremented n (k .delta))
 sum NoNumber k = 0
 
 -- Increment, Decrement. Live: "flags and expiry stay"; not live: "the initial number is stored, flags 0, expiry by the plain rule"

@@ -1,6 +1,5 @@
 // Increment and Decrement.
 ghost use mathlib.Core.Path.{_≡_};
-ghost use Prim.Native.Nat.{_-_, _+_, _%_, _^_};
 ghost use Rattle.commands.specs.Rules.{countRule, isNumber, statusBy};
 ghost use Rattle.commands.specs.Done.{sum, counted, countDone, decisionBy};
 use crate::Context;
@@ -49,27 +48,15 @@ fn count_status(c: Context, i: Instruction, k: Counter) -> u8
     })
 }
 
-fn increment(n: u64, delta: u64) -> u64
-    ensures { λ r. ⌜ r ≡ (n + delta) % 2 ^ 64 ⌝ }
-{
-    std::num::wrapping_add_u64(n, delta)
-}
-
-fn decrement(n: u64, delta: u64) -> u64
-    ensures { λ r. ⌜ r ≡ n - delta ⌝ }
-{
-    if delta <= n { n - delta } else { 0 }
-}
-
 fn sum(n: Number, k: Counter) -> u64
     ensures { λ r. ⌜ r ≡ sum n k ⌝ }
 {
     match n {
         Number::Value(v) => {
             if k.up {
-                increment(v, k.delta)
+                numbers::increment(v, k.delta)
             } else {
-                decrement(v, k.delta)
+                numbers::decrement(v, k.delta)
             }
         }
         Number::NoNumber => 0,

@@ -69,7 +69,6 @@ pub(crate) fn nothing(h: Head, reply: Reply, cas: Cas) -> Done
     }
 }
 
-// The status alone.
 // What is done where the status is 0, and nothing where it isn't. on: the status at which the quiet form sends nothing.
 pub(crate) fn with_status(c: Context, i: Instruction, on: u8, status: u8, done: Done) -> Decision
     ensures { λ r. ⌜ r ≡ withStatus c i on status done ⌝ }
@@ -96,19 +95,13 @@ pub(crate) fn storing(h: Head, row: Metadata, source: Source, reply: Reply) -> D
     ensures { λ r. ⌜ r ≡ storing h row source reply ⌝ }
 {
     let cas = row.numbers.cas;
-    let mark = numbers::larger(h.mark.0, cas.0);
+    let head = document::raised(h, cas);
     Done {
         store: Stored::Used(row),
         source,
         reply,
         cas,
-        head: Head {
-            state: h.state,
-            mode: h.mode,
-            vbucket: h.vbucket,
-            clock: h.clock,
-            mark: Cas(mark),
-        },
+        head,
     }
 }
 

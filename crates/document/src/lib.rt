@@ -1,5 +1,6 @@
 // What a store of documents is, apart from how memory holds it.
 ghost use mathlib.Core.Path.{_≡_};
+ghost use Rattle.document.specs.Head.{raised};
 ghost use Rattle.document.specs.Stored.{live, hasRow, numbersOf, accepted, gone};
 use numbers::Cas;
 use numbers::Mode;
@@ -28,6 +29,20 @@ pub struct Metadata {
 pub enum Stored {
     Nothing,
     Used(Metadata),
+}
+
+// The head with its mark raised to a CAS where it is lower.
+pub fn raised(h: Head, cas: Cas) -> Head
+    ensures { λ r. ⌜ r ≡ raised h (cas .0) ⌝ }
+{
+    let mark = numbers::larger(h.mark.0, cas.0);
+    Head {
+        state: h.state,
+        mode: h.mode,
+        vbucket: h.vbucket,
+        clock: h.clock,
+        mark: Cas(mark),
+    }
 }
 
 // Whether a key's row is a document that is not expired.

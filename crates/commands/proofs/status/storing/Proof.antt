@@ -1,11 +1,11 @@
 use Rattle.commands.proofs.status.storing.Statement.{statement}
 use Rattle.commands.proofs.status.storing.Tie as tie
 
-larger-requires : tie.Need-larger-requires
-larger-requires c κs = tt
+raised-requires : tie.Need-raised-requires
+raised-requires c κs = tt
 
 returns : tie.Need-returns
-returns c = simp (c .larger .ensures)
+returns c = simp (c .raised .ensures)
 
 pub storing-spec : {M : Type 1} → statement M
-storing-spec = tie.close (tie.spec larger-requires returns)
+storing-spec = tie.close (tie.spec raised-requires returns)
