@@ -50,7 +50,9 @@ returns c =
     formed-by b s (r .args .clock) (r .args .h) y z (r .pre .0 .0) (p .1 .1 .1 .1) (p .0) _ _ _ _ _ _ _ (p .1 .1 .0)
     (l .before .writes .ensures) (l .find .ensures) (a .before .before .before .part .ensures)
     (r .pre .0 .1 .0) (p .1 .0) (a .before .before .decided .ensures) _ _ _ _ _ _ (c .before .before .before .before .part2 .ensures ∙ p .1 .1 .1 .0) (r .pre .0 .1 .1)
-    (a .put-reply .ensures .0) (λ i. Done (a .before .before .decided .result .status) (c .layout-of .ensures i .end) (a .put-reply .result)) (a .put-reply .ensures .1) (c .before .before .before .change .ensures)
+    (a .put-reply .ensures .0)
+    (λ i. Done (a .before .before .decided .result .status) (c .layout-of .ensures i .end) (a .put-reply .result))
+    (a .put-reply .ensures .1) (c .before .before .before .change .ensures)
 
 pub serve-formed-spec : {M : Type 1} → statement M
 serve-formed-spec =
