@@ -19,28 +19,23 @@ mod setting;
 mod show;
 mod text;
 
-use requests::Asked;
-use setting::Setting;
+use commands::Context;
+use requests::Decoded;
 
-fn answer_request(line: &[u8], t: Setting) {
+fn answer_request(line: &[u8], t: Context) {
     let a = requests::read(line);
     match a {
-        Asked::Request(q) => {
+        Decoded::Request(q) => {
             let head = t.head;
-            let row = t.row;
-            let number = t.number;
             show::text(b": ");
-            show::decision(
-                head,
-                commands::decide(head, row, t.free, t.clock, number, q),
-            );
+            show::decision(head, commands::decide(t, q));
         }
-        Asked::Unknown => show::text(b": what?"),
+        Decoded::Unknown => show::text(b": what?"),
     }
 }
 
 // Answers a line, and hands on what the next is decided on.
-fn answer_line(line: &[u8], t: Setting) -> Setting {
+fn answer_line(line: &[u8], t: Context) -> Context {
     show::text(line);
     if (line.len() == 0) | (octets::byte(line, 0) == b'#') {
         return t;

@@ -1,16 +1,17 @@
 // The request that a line describes.
 use crate::text;
 use crate::text::Fields;
-use commands::Ask;
 use commands::Command;
 use commands::Counter;
+use commands::Instruction;
 use commands::Kind;
 use commands::Meta;
+use commands::MetaKind;
 use commands::Plain;
 use numbers::Cas;
 
-pub(crate) enum Asked {
-    Request(Ask),
+pub(crate) enum Decoded {
+    Request(Instruction),
     Unknown,
 }
 
@@ -79,7 +80,6 @@ fn size(opcode: u8, f: Fields) -> usize {
     }
 }
 
-// A delete's line has no flags and no expiry, which are then 0.
 fn plain(kind: Kind, f: Fields) -> Command {
     Command::Write(Plain {
         kind,
@@ -101,7 +101,7 @@ fn is_set(options: u64, bit: u64) -> bool {
     options & bit != 0
 }
 
-fn with_meta(kind: Kind, f: Fields) -> Command {
+fn with_meta(kind: MetaKind, f: Fields) -> Command {
     let numbers = text::numbers(
         text::field(f, 2),
         text::field(f, 3),
@@ -125,21 +125,21 @@ fn command(opcode: u8, f: Fields) -> Command {
         0x01 => plain(Kind::Set, f),
         0x02 => plain(Kind::Add, f),
         0x03 => plain(Kind::Replace, f),
-        0x04 => plain(Kind::Delete, f),
+        0x04 => Command::Delete,
         0x05 => counter(true, f),
         0x06 => counter(false, f),
         0x0b => Command::Version,
         0x0c => Command::Get(true),
-        0xa2 => with_meta(Kind::Set, f),
-        0xa4 => with_meta(Kind::Add, f),
-        0xa8 => with_meta(Kind::Delete, f),
+        0xa2 => with_meta(MetaKind::Set, f),
+        0xa4 => with_meta(MetaKind::Add, f),
+        0xa8 => with_meta(MetaKind::Delete, f),
         _ => Command::Noop,
     }
 }
 
-fn request(opcode: u8, quiet: bool, f: Fields) -> Ask {
+fn request(opcode: u8, quiet: bool, f: Fields) -> Instruction {
     let command = command(opcode, f);
-    Ask {
+    Instruction {
         vbucket: text::low16(text::field(f, 0)),
         cas: Cas(text::field(f, 1)),
         quiet,
@@ -148,16 +148,16 @@ fn request(opcode: u8, quiet: bool, f: Fields) -> Ask {
     }
 }
 
-fn read_as(line: &[u8], quiet: bool) -> Asked {
+fn read_as(line: &[u8], quiet: bool) -> Decoded {
     let code = opcode(text::before(line, b' '));
     let f = text::spelled(text::after(line, b' '));
     if (code != 0xff) & text::are(f, width(code)) {
-        return Asked::Request(request(code, quiet, f));
+        return Decoded::Request(request(code, quiet, f));
     }
-    Asked::Unknown
+    Decoded::Unknown
 }
 
-pub(crate) fn read(line: &[u8]) -> Asked {
+pub(crate) fn read(line: &[u8]) -> Decoded {
     if octets::same(text::before(line, b' '), b"quiet") {
         return read_as(text::after(line, b' '), true);
     }

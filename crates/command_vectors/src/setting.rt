@@ -1,29 +1,21 @@
 // What a request is decided on, and the lines that set it.
 use crate::text;
 use crate::text::Fields;
+use commands::Context;
 use digits::Number;
-use engine::Head;
-use engine::Held;
-use engine::Stored;
+use document::Head;
+use document::Metadata;
+use document::Stored;
 use numbers::Cas;
-
-pub(crate) struct Setting {
-    pub(crate) head: Head,
-    pub(crate) row: Stored,
-    pub(crate) free: bool,
-    pub(crate) clock: u32,
-    // what the row's value says
-    pub(crate) number: Number,
-}
 
 // The setting after a line, and whether the line sets something: else it is the one before.
 pub(crate) struct Changed {
-    pub(crate) setting: Setting,
+    pub(crate) setting: Context,
     pub(crate) good: bool,
 }
 
 // A fresh active table in revision mode.
-pub(crate) fn first() -> Setting {
+pub(crate) fn first() -> Context {
     let head = Head {
         state: 1,
         mode: 1,
@@ -31,7 +23,7 @@ pub(crate) fn first() -> Setting {
         clock: 0,
         mark: Cas(0),
     };
-    Setting {
+    Context {
         head,
         row: Stored::Nothing,
         free: true,
@@ -40,7 +32,7 @@ pub(crate) fn first() -> Setting {
     }
 }
 
-fn if_good(good: bool, after: Setting, before: Setting) -> Changed {
+fn if_good(good: bool, after: Context, before: Context) -> Changed {
     if good {
         return Changed {
             setting: after,
@@ -53,10 +45,10 @@ fn if_good(good: bool, after: Setting, before: Setting) -> Changed {
     }
 }
 
-fn with_head(t: Setting, head: Head) -> Setting {
+fn with_head(t: Context, head: Head) -> Context {
     let row = t.row;
     let number = t.number;
-    Setting {
+    Context {
         head,
         row,
         free: t.free,
@@ -65,9 +57,9 @@ fn with_head(t: Setting, head: Head) -> Setting {
     }
 }
 
-fn with_row(t: Setting, row: Stored, number: Number) -> Setting {
+fn with_row(t: Context, row: Stored, number: Number) -> Context {
     let head = t.head;
-    Setting {
+    Context {
         head,
         row,
         free: t.free,
@@ -76,11 +68,11 @@ fn with_row(t: Setting, row: Stored, number: Number) -> Setting {
     }
 }
 
-fn with_free(t: Setting, free: bool) -> Setting {
+fn with_free(t: Context, free: bool) -> Context {
     let head = t.head;
     let row = t.row;
     let number = t.number;
-    Setting {
+    Context {
         head,
         row,
         free,
@@ -89,11 +81,11 @@ fn with_free(t: Setting, free: bool) -> Setting {
     }
 }
 
-fn with_clock(t: Setting, clock: u32) -> Setting {
+fn with_clock(t: Context, clock: u32) -> Context {
     let head = t.head;
     let row = t.row;
     let number = t.number;
-    Setting {
+    Context {
         head,
         row,
         free: t.free,
@@ -119,7 +111,7 @@ fn document(f: Fields) -> Stored {
         text::field(f, 2),
         text::field(f, 3),
     );
-    Stored::Used(Held {
+    Stored::Used(Metadata {
         tomb: false,
         numbers,
     })
@@ -127,13 +119,13 @@ fn document(f: Fields) -> Stored {
 
 fn tombstone(f: Fields) -> Stored {
     let numbers = text::numbers(0, 0, text::field(f, 0), text::field(f, 1));
-    Stored::Used(Held {
+    Stored::Used(Metadata {
         tomb: true,
         numbers,
     })
 }
 
-fn change_row(line: &[u8], t: Setting) -> Changed {
+fn change_row(line: &[u8], t: Context) -> Changed {
     let word = text::before(line, b' ');
     let rest = text::after(line, b' ');
     if octets::same(word, b"tomb") {
@@ -160,7 +152,7 @@ fn change_row(line: &[u8], t: Setting) -> Changed {
     )
 }
 
-pub(crate) fn change(line: &[u8], t: Setting) -> Changed {
+pub(crate) fn change(line: &[u8], t: Context) -> Changed {
     let word = text::before(line, b' ');
     let rest = text::after(line, b' ');
     if octets::same(word, b"row") {

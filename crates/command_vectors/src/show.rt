@@ -2,9 +2,9 @@
 use commands::Decision;
 use commands::Reply;
 use commands::Source;
-use engine::Head;
-use engine::Held;
-use engine::Stored;
+use document::Head;
+use document::Metadata;
+use document::Stored;
 use numbers::Numbers;
 
 pub(crate) fn text(s: &[u8]) {
@@ -37,11 +37,10 @@ fn source(s: Source) {
         Source::Empty => text(b" value empty"),
         Source::Frame => text(b" value of the frame"),
         Source::Digits(n) => counted(n),
-        Source::Kept => text(b" value kept"),
     }
 }
 
-fn held(d: Held) {
+fn held(d: Metadata) {
     if d.tomb {
         text(b", stores a tombstone");
     } else {
@@ -75,7 +74,7 @@ fn reply(r: Reply) {
         Reply::Bare => text(b"bare"),
         Reply::Found(flags, keyed) => found(flags, keyed),
         Reply::Counted(n) => decimal(b"number ", n),
-        Reply::Release => text(b"release"),
+        Reply::Version => text(b"release"),
     }
 }
 

@@ -1,32 +1,21 @@
--- A command's own tests, and what it does, make its decision.
+-- A command's own status, and what it does, make its decision.
 use Prim.Native.Nat.{ℕ}
 use mathlib.Core.Path.{_≡_, sym, ap, _∙_}
-use mathlib.Core.Bool.{Bool, _&&_}
-use lib.Dec.{eqb}
-use Rattle.numbers.specs.Order.{modeOf}
-use Rattle.digits.specs.declared.Number.{Number}
-use Rattle.engine.specs.declared.Head.{Head}
-use Rattle.engine.specs.declared.Stored.{Stored}
-use Rattle.commands.specs.declared.Ask.{Ask}
+use Rattle.commands.specs.declared.Context.{Context}
+use Rattle.commands.specs.declared.Instruction.{Instruction}
 use Rattle.commands.specs.declared.Command.{Command}
-use Rattle.commands.specs.declared.Tests.{Tests}
 use Rattle.commands.specs.declared.Done.{Done}
 use Rattle.commands.specs.declared.Decision.{Decision}
-use Rattle.commands.specs.Rules.{ruleOf, testsOf, statusOf}
-use Rattle.commands.specs.Done.{doneOf, settled, decision}
+use Rattle.commands.specs.Rules.{Rule, ruleOf, statusBy}
+use Rattle.commands.specs.Done.{doneOf, withStatus, decisionBy, decision}
 
-pub decided : (h : Head) (s : Stored) (free : Bool) (clock : ℕ) (n : Number) (q : Ask) (c : Command) (x : Tests) (status : ℕ) (done : Done) (r : Decision)
-    → q .command ≡ c
-    → x ≡ testsOf h s free clock n q (ruleOf (modeOf (h .mode)) s clock c)
-    → status ≡ statusOf x
-    → done ≡ doneOf h s clock n c
-    → r ≡ settled h status (q .quiet && eqb status (ruleOf (modeOf (h .mode)) s clock c .hush)) done
-    → r ≡ decision h s free clock n q
-unfolding decision
-decided h s free clock n q c x status done r ec ex es ed er =
-    let st : status ≡ statusOf (testsOf h s free clock n q (ruleOf (modeOf (h .mode)) s clock (q .command))) =
-    es ∙ ap statusOf ex ∙ ap (λ (d : Command). statusOf (testsOf h s free clock n q (ruleOf (modeOf (h .mode)) s clock d))) (sym ec) in
-    let hu : ruleOf (modeOf (h .mode)) s clock c .hush ≡ ruleOf (modeOf (h .mode)) s clock (q .command) .hush =
-    ap (λ (d : Command). ruleOf (modeOf (h .mode)) s clock d .hush) (sym ec) in
-    let dn : done ≡ doneOf h s clock n (q .command) = ed ∙ ap (doneOf h s clock n) (sym ec) in
-    er ∙ (λ i. settled h (st i) (q .quiet && eqb (st i) (hu i)) (dn i))
+module _ (c : Context) (i : Instruction) where
+  -- the decision on a command with a row of rules, from its status and what it does
+  pub by-rule : (t : Rule) (status : ℕ) (done x : Done) (r : Decision)
+      → status ≡ statusBy c i t → done ≡ x → r ≡ withStatus c i (t .silentOn) status done → r ≡ decisionBy c i t x
+  by-rule t status done x r es ed er = er ∙ (λ j. withStatus c i (t .silentOn) (es j) (ed j))
+
+  -- the decision on a request, from that on its command
+  pub by-command : (x : Command) (r : Decision) → i .command ≡ x → r ≡ decisionBy c i (ruleOf c x) (doneOf c x) → r ≡ decision c i
+  unfolding decision
+  by-command x r ec er = er ∙ ap (λ (y : Command). decisionBy c i (ruleOf c y) (doneOf c y)) (sym ec)

@@ -3,4 +3,3 @@ pub mod Writing
 pub mod MergingLaws
 pub mod Passed
 pub mod Stores
-pub mod Examples

@@ -6,7 +6,7 @@ use mathlib.Core.Bool.{Bool, true, false, cond}
 use lib.Dec.{ltb}
 use borrow.Author.Tests.{ltb-true}
 use Rattle.commands.specs.declared.Tests.{Tests}
-use Rattle.commands.specs.Rules.{statusOf, firstFailure}
+use Rattle.commands.specs.Rules.{firstStatus, firstFailure}
 
 pub record Passed (x : Tests) : Type 0 where
   pub fault : x .fault ≡ false
@@ -22,8 +22,8 @@ clear : (b : Bool) (s r : ℕ) → ltb 0 s ≡ true → cond b s r ≡ 0 → (b 
 clear true s r p e = let l = ltb-true 0 s p in absurd (omega arith)
 clear false s r p e = (refl, e)
 
-pub passed : (x : Tests) → statusOf x ≡ 0 → Passed x
-unfolding statusOf firstFailure
+pub passed : (x : Tests) → firstStatus x ≡ 0 → Passed x
+unfolding firstStatus firstFailure
 passed x e =
     let (e1, e) = clear _ 0x04 _ refl e in
     let (e2, e) = clear _ 0x03 _ refl e in

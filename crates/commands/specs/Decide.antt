@@ -7,17 +7,18 @@ use lib.ListN.{length}
 use Rattle.octets.specs.BigEndian.{bytesOf}
 use Rattle.digits.specs.Decimal.{digits, numberOf}
 use Rattle.numbers.specs.declared.Cas.{Cas}
-use Rattle.engine.specs.Documents.{Key, Doc}
-use Rattle.engine.specs.Stored.{storedOf}
-use Rattle.engine.specs.declared.Stored.{Stored}
-use Rattle.engine.specs.declared.Stored.the-variants.{Nothing, Used}
-use Rattle.engine.specs.declared.Head.{Head}
+use Rattle.document.specs.Documents.{Key, Doc, docValue}
+use Rattle.document.specs.Stored.{storedOf}
+use Rattle.document.specs.declared.Stored.{Stored}
+use Rattle.document.specs.declared.Stored.the-variants.{Nothing, Used}
+use Rattle.document.specs.declared.Head.{Head}
 use Rattle.commands.specs.declared.Command.{Command}
-use Rattle.commands.specs.declared.Ask.{Ask}
+use Rattle.commands.specs.declared.Context.{Context}
+use Rattle.commands.specs.declared.Instruction.{Instruction}
 use Rattle.commands.specs.declared.Source.{Source}
-use Rattle.commands.specs.declared.Source.the-variants.{Empty, Frame, Digits, Kept}
+use Rattle.commands.specs.declared.Source.the-variants.{Empty, Frame, Digits}
 use Rattle.commands.specs.declared.Reply.{Reply}
-use Rattle.commands.specs.declared.Reply.the-variants.{Bare, Found, Counted, Release}
+use Rattle.commands.specs.declared.Reply.the-variants.{Bare, Found, Counted, Version as VersionReply}
 use Rattle.commands.specs.declared.Decision.{Decision}
 use Rattle.commands.specs.Done.{decision}
 
@@ -44,54 +45,53 @@ pub record Answer : Type 0 where
   pub value : List ℕ
   pub cas : ℕ
 
-abbrev pub valueOf : Option Doc → List ℕ
-valueOf none = []
-valueOf (some d) = d .value
+abbrev pub instructionOf : Request → Instruction
+instructionOf a = record { vbucket = a .vbucket; cas = a .cas; quiet = a .quiet; size = length (a .value); command = a .command }
 
-abbrev pub askOf : Request → Ask
-askOf a = record { vbucket = a .vbucket; cas = a .cas; quiet = a .quiet; size = length (a .value); command = a .command }
-
--- ---- the bytes of a decision: those of the frame, and those that were stored
-abbrev pub bytesFrom : Source → List ℕ → List ℕ → List ℕ
-bytesFrom Empty frame old = []
-bytesFrom Frame frame old = frame
-bytesFrom (Digits n) frame old = digits n
-bytesFrom Kept frame old = old
+-- ---- the bytes of a decision: those of the frame, and the stored ones in a reply
+abbrev pub bytesFrom : Source → List ℕ → List ℕ
+bytesFrom Empty frame = []
+bytesFrom Frame frame = frame
+bytesFrom (Digits n) frame = digits n
 
 abbrev pub docFrom : Stored → List ℕ → Option Doc
 docFrom Nothing value = none
 docFrom (Used r) value = some (record { tomb = r .tomb; value = value; numbers = r .numbers })
 
-abbrev pub extrasOf : Reply → List ℕ
-extrasOf Bare = []
-extrasOf (Found flags keyed) = bytesOf 4 flags
-extrasOf (Counted n) = []
-extrasOf Release = []
+abbrev pub replyExtras : Reply → List ℕ
+replyExtras Bare = []
+replyExtras (Found flags keyed) = bytesOf 4 flags
+replyExtras (Counted n) = []
+replyExtras VersionReply = []
 
-abbrev pub keyOf : Reply → Key → List ℕ
-keyOf Bare key = []
-keyOf (Found flags keyed) key = cond keyed key []
-keyOf (Counted n) key = []
-keyOf Release key = []
+abbrev pub replyKey : Reply → Key → List ℕ
+replyKey Bare key = []
+replyKey (Found flags keyed) key = cond keyed key []
+replyKey (Counted n) key = []
+replyKey VersionReply key = []
 
-abbrev pub replyOf : Reply → List ℕ → List ℕ
-replyOf Bare old = []
-replyOf (Found flags keyed) old = old
-replyOf (Counted n) old = bytesOf 8 n
-replyOf Release old = 52 ∷ 46 ∷ 48 ∷ 46 ∷ 48 ∷ []
+abbrev pub replyValue : Reply → List ℕ → List ℕ
+replyValue Bare old = []
+replyValue (Found flags keyed) old = old
+replyValue (Counted n) old = bytesOf 8 n
+replyValue VersionReply old = 52 ∷ 46 ∷ 48 ∷ 46 ∷ 48 ∷ []
 
-abbrev pub effectOf : Request → List ℕ → Decision → Effect
-effectOf a old x = record { status = x .status; store = docFrom (x .done .store) (bytesFrom (x .done .source) (a .value) old); head = x .done .head }
+abbrev pub effectOf : Request → Decision → Effect
+effectOf a x = record { status = x .status; store = docFrom (x .done .store) (bytesFrom (x .done .source) (a .value)); head = x .done .head }
 
 abbrev pub answerOf : Request → List ℕ → Decision → Answer
 answerOf a old x = record {
-  effect = effectOf a old x;
+  effect = effectOf a x;
   silent = x .silent;
-  extras = extrasOf (x .done .reply);
-  key = keyOf (x .done .reply) (a .key);
-  value = replyOf (x .done .reply) old;
+  extras = replyExtras (x .done .reply);
+  key = replyKey (x .done .reply) (a .key);
+  value = replyValue (x .done .reply) old;
   cas = x .done .cas .0;
 }
 
+-- what a decision sees of a table's head, the key's row, whether a row is free and the clock
+abbrev pub contextOf : Head → Option Doc → Bool → ℕ → Context
+contextOf h row free clock = record { head = h; row = storedOf row; free = free; clock = clock; number = numberOf (docValue row) }
+
 unfoldable pub decide : Head → Option Doc → Bool → ℕ → Request → Answer
-decide h row anyFree clock a = answerOf a (valueOf row) (decision h (storedOf row) anyFree clock (numberOf (valueOf row)) (askOf a))
+decide h row free clock a = answerOf a (docValue row) (decision (contextOf h row free clock) (instructionOf a))

@@ -1,88 +1,117 @@
--- What a command does once no check fails.
-use Prim.Native.Nat.{ℕ, _+_, _-_, _%_, _^_, max}
-use mathlib.Core.Bool.{Bool, false, cond, _&&_}
+-- What a command does once no test fails, and the whole decision.
+use Prim.Native.Nat.{ℕ}
+use mathlib.Core.Bool.{Bool, true, false, cond, _&&_}
 use lib.Dec.{eqb}
 use Rattle.numbers.specs.declared.Cas.{Cas}
 use Rattle.numbers.specs.declared.Numbers.{Numbers}
-use Rattle.engine.specs.declared.Held.{Held}
-use Rattle.engine.specs.declared.Stored.{Stored}
-use Rattle.engine.specs.declared.Stored.the-variants.{Nothing, Used}
-use Rattle.engine.specs.Stored.{live, numbersOf}
-use Rattle.numbers.specs.Growth.{next}
+use Rattle.numbers.specs.Growth.{next, incremented, decremented}
 use Rattle.numbers.specs.Expiry.{absolute}
-use Rattle.engine.specs.Head.{marked}
-use Rattle.numbers.specs.Order.{modeOf}
+use Rattle.document.specs.declared.Metadata.{Metadata}
+use Rattle.document.specs.declared.Stored.the-variants.{Nothing, Used}
+use Rattle.document.specs.declared.Head.{Head}
+use Rattle.document.specs.Stored.{live, numbersOf}
+use Rattle.document.specs.Head.{raised}
 use Rattle.digits.specs.declared.Number.{Number}
 use Rattle.digits.specs.declared.Number.the-variants.{Value, NoNumber}
-use Rattle.engine.specs.declared.Head.{Head}
+use Rattle.commands.specs.declared.MetaKind.{MetaKind}
+use Rattle.commands.specs.declared.MetaKind.the-variants.{Set as SetMeta, Add as AddMeta, Delete as DeleteMeta}
 use Rattle.commands.specs.declared.Plain.{Plain}
 use Rattle.commands.specs.declared.Counter.{Counter}
 use Rattle.commands.specs.declared.Meta.{Meta}
 use Rattle.commands.specs.declared.Command.{Command}
-use Rattle.commands.specs.declared.Command.the-variants.{Get, Write, Count, Noop, Version, WithMeta}
-use Rattle.commands.specs.declared.Ask.{Ask}
+use Rattle.commands.specs.declared.Command.the-variants.{Get, Write, Delete, Count, Noop, Version, WithMeta}
+use Rattle.commands.specs.declared.Context.{Context}
+use Rattle.commands.specs.declared.Instruction.{Instruction}
 use Rattle.commands.specs.declared.Source.{Source}
-use Rattle.commands.specs.declared.Source.the-variants.{Empty, Digits}
+use Rattle.commands.specs.declared.Source.the-variants.{Empty, Frame, Digits}
 use Rattle.commands.specs.declared.Reply.{Reply}
-use Rattle.commands.specs.declared.Reply.the-variants.{Bare, Found, Counted, Release}
+use Rattle.commands.specs.declared.Reply.the-variants.{Bare, Found, Counted, Version as VersionReply}
 use Rattle.commands.specs.declared.Done.{Done}
 use Rattle.commands.specs.declared.Decision.{Decision}
-use Rattle.commands.specs.Rules.{isDelete, sourceOf, ruleOf, testsOf, statusOf}
+use Rattle.commands.specs.Rules.{Rule, ruleOf, statusBy}
 
 abbrev pub nothing : Head → Reply → Cas → Done
 nothing h reply cas = record { store = Nothing; source = Empty; reply = reply; cas = cas; head = h }
 
--- the row is stored, and the mark raised to its CAS
-abbrev pub kept : Head → Held → Source → Reply → Done
-kept h row source reply = record { store = Used row; source = source; reply = reply; cas = row .numbers .cas; head = marked h (max (h .mark .0) (row .numbers .cas .0)) }
+-- the row is stored, and the mark raised to its CAS where lower; "Its reply carries the new CAS."
+abbrev pub storing : Head → Metadata → Source → Reply → Done
+storing h row source reply = record { store = Used row; source = source; reply = reply; cas = row .numbers .cas; head = raised h (row .numbers .cas .0) }
 
-abbrev pub found : Head → Stored → Bool → Done
-found h s keyed = nothing h (Found (numbersOf s .flags) keyed) (numbersOf s .cas)
+-- Get: "Reply: flags as 4 extras bytes, key for 0c/0d, value, CAS."
+abbrev pub found : Context → Bool → Done
+found c keyed = nothing (c .head) (Found (numbersOf (c .row) .flags) keyed) (numbersOf (c .row) .cas)
 
--- the next revision, the next CAS
-abbrev pub plainNumbers : Head → Stored → ℕ → ℕ → Numbers
-plainNumbers h s flags expiry = record { flags = flags; expiry = expiry; revision = record { 0 = next (numbersOf s .revision .0) }; cas = record { 0 = next (h .mark .0) } }
+-- "Each plain write stores CAS mark + 1 and raises the mark to it; its revision is the key's row's plus 1, expired rows and tombstones included, or 1 without a row."
+abbrev pub plainNumbers : Context → ℕ → ℕ → Numbers
+plainNumbers c flags expiry = record {
+  flags = flags;
+  expiry = expiry;
+  revision = record { 0 = next (numbersOf (c .row) .revision .0) };
+  cas = record { 0 = next (c .head .mark .0) };
+}
 
-abbrev pub writeDone : Head → Stored → ℕ → Plain → Done
-writeDone h s clock p = kept h (record { tomb = isDelete (p .kind); numbers = plainNumbers h s (p .flags) (absolute (p .expiry) clock) }) (sourceOf (p .kind)) Bare
+-- Set, Add, Replace: the frame's flags and value, "Plain expiry: 0 never; 1 to 2,592,000 is added to the clock, [..]; above, absolute."
+abbrev pub writeDone : Context → Plain → Done
+writeDone c p = storing (c .head) (record { tomb = false; numbers = plainNumbers c (p .flags) (absolute (p .expiry) (c .clock)) }) Frame Bare
 
-abbrev pub counted : Head → Stored → ℕ → ℕ → ℕ → Done
-counted h s flags expiry n = kept h (record { tomb = false; numbers = plainNumbers h s flags expiry }) (Digits n) (Counted n)
+-- Delete: "Leaves a tombstone."; "A tombstone has no value, flags 0, expiry 0."
+abbrev pub deleteDone : Context → Done
+deleteDone c = storing (c .head) (record { tomb = true; numbers = plainNumbers c 0 0 }) Empty Bare
 
--- an increment wraps, a decrement stops at 0
+-- "Stored as decimal without leading zeros"; "Reply value: 8 bytes."
+abbrev pub counted : Context → ℕ → ℕ → ℕ → Done
+counted c flags expiry n = storing (c .head) (record { tomb = false; numbers = plainNumbers c flags expiry }) (Digits n) (Counted n)
+
+-- "Increment wraps past 2^64 - 1 to 0; decrement stops at 0."
 abbrev pub sum : Number → Counter → ℕ
-sum (Value n) k = cond (k .up) ((n + k .delta) % 2 ^ 64) (n - k .delta)
+sum (Value n) k = cond (k .up) (incremented n (k .delta)) (decremented n (k .delta))
 sum NoNumber k = 0
 
-abbrev pub countDone : Head → Stored → ℕ → Number → Counter → Done
-countDone h s clock n k = cond (live s clock) (counted h s (numbersOf s .flags) (numbersOf s .expiry) (sum n k)) (counted h s 0 (absolute (k .expiry) clock) (k .initial))
+-- Increment, Decrement. Live: "flags and expiry stay"; not live: "the initial number is stored, flags 0, expiry by the plain rule"
+abbrev pub countDone : Context → Counter → Done
+countDone c k =
+    cond (live (c .row) (c .clock))
+    (counted c (numbersOf (c .row) .flags) (numbersOf (c .row) .expiry) (sum (c .number) k))
+    (counted c 0 (absolute (k .expiry) (c .clock)) (k .initial))
 
--- as given, under option 0x04 with the next CAS
+-- "Stored CAS is the given one, or mark + 1 under option 0x04"; "Expiry is always absolute."
 abbrev pub metaNumbers : Head → Meta → Numbers
-metaNumbers h w = cond (w .regenerate) (record { flags = w .numbers .flags; expiry = w .numbers .expiry; revision = w .numbers .revision; cas = record { 0 = next (h .mark .0) } }) (w .numbers)
+metaNumbers h w =
+    cond (w .regenerate)
+    (record { flags = w .numbers .flags; expiry = w .numbers .expiry; revision = w .numbers .revision; cas = record { 0 = next (h .mark .0) } })
+    (w .numbers)
 
-abbrev pub metaDone : Head → Meta → Done
-metaDone h w = kept h (record { tomb = isDelete (w .kind); numbers = metaNumbers h w }) (sourceOf (w .kind)) Bare
+-- "Delete of a key without a row stores a tombstone."; "A tombstone has no value"
+abbrev pub isDelete : MetaKind → Bool
+isDelete SetMeta = false
+isDelete AddMeta = false
+isDelete DeleteMeta = true
 
-unfoldable pub doneOf : Head → Stored → ℕ → Number → Command → Done
-doneOf h s clock n (Get keyed) = found h s keyed
-doneOf h s clock n (Write p) = writeDone h s clock p
-doneOf h s clock n (Count k) = countDone h s clock n k
-doneOf h s clock n Noop = nothing h Bare (record { 0 = 0 })
-doneOf h s clock n Version = nothing h Release (record { 0 = 0 })
-doneOf h s clock n (WithMeta w) = metaDone h w
+-- Set, Add and Delete with meta: "the mark is raised to it where lower. The reply carries the stored CAS."
+abbrev pub metaDone : Context → Meta → Bool → Done
+metaDone c w tomb = storing (c .head) (record { tomb = tomb; numbers = metaNumbers (c .head) w }) (cond tomb Empty Frame) Bare
 
--- what is done where the status is 0, nothing where it isn't
-abbrev pub settled : Head → ℕ → Bool → Done → Decision
-settled h status silent done = record { status = status; silent = silent; done = cond (eqb status 0) done (nothing h Bare (record { 0 = 0 })) }
+-- Noop, Version: "Version's value is the five bytes `4.0.0`. Reply CAS 0."
+unfoldable pub doneOf : Context → Command → Done
+doneOf c (Get keyed) = found c keyed
+doneOf c (Write p) = writeDone c p
+doneOf c Delete = deleteDone c
+doneOf c (Count k) = countDone c k
+doneOf c Noop = nothing (c .head) Bare (record { 0 = 0 })
+doneOf c Version = nothing (c .head) VersionReply (record { 0 = 0 })
+doneOf c (WithMeta w) = metaDone c w (isDelete (w .kind))
 
--- all of it where no check fails, else the status alone: "A non-zero status changes no table byte."
-unfoldable pub decision : Head → Stored → Bool → ℕ → Number → Ask → Decision
-decision h s free clock n q =
-    let t = ruleOf (modeOf (h .mode)) s clock (q .command) in
-    let status = statusOf (testsOf h s free clock n q t) in
-    record {
-      status = status;
-      silent = q .quiet && eqb status (t .hush);
-      done = cond (eqb status 0) (doneOf h s clock n (q .command)) (nothing h Bare (record { 0 = 0 }));
-    }
+-- all of it where the status is 0, else the status alone, "CAS 0": "A non-zero status changes no table byte." The quiet form sends nothing on one status.
+abbrev pub withStatus : Context → Instruction → ℕ → ℕ → Done → Decision
+withStatus c i silentOn status done = record {
+  status = status;
+  silent = i .quiet && eqb status silentOn;
+  done = cond (eqb status 0) done (nothing (c .head) Bare (record { 0 = 0 }));
+}
+
+-- the decision on a command with this row that does this
+abbrev pub decisionBy : Context → Instruction → Rule → Done → Decision
+decisionBy c i t done = withStatus c i (t .silentOn) (statusBy c i t) done
+
+unfoldable pub decision : Context → Instruction → Decision
+decision c i = decisionBy c i (ruleOf c (i .command)) (doneOf c (i .command))

@@ -3,4 +3,4 @@ pub mod Done
 pub mod Decide
 pub mod Merging
 pub mod Claims
-pub mod Examples
+pub mod Writes

@@ -5,55 +5,26 @@ use mathlib.Core.List.{List, [], _∷_}
 use lib.Dec.{ltb, eqb}
 use Rattle.numbers.specs.declared.Mode.{Mode}
 use Rattle.numbers.specs.declared.Mode.the-variants.{ByRevision, LastWrite}
-use Rattle.engine.specs.declared.Stored.{Stored}
-use Rattle.engine.specs.Stored.{accepted, live, hasRow, numbersOf}
+use Rattle.numbers.specs.Order.{modeOf}
 use Rattle.numbers.specs.Expiry.{passes}
+use Rattle.document.specs.declared.Head.{Head}
+use Rattle.document.specs.Stored.{accepted, live, hasRow, numbersOf}
 use Rattle.digits.specs.declared.Number.{Number}
 use Rattle.digits.specs.declared.Number.the-variants.{Value, NoNumber}
-use Rattle.engine.specs.declared.Head.{Head}
 use Rattle.commands.specs.declared.Kind.{Kind}
-use Rattle.commands.specs.declared.Kind.the-variants.{Set, Add, Replace, Delete}
+use Rattle.commands.specs.declared.Kind.the-variants.{Set, Add, Replace}
+use Rattle.commands.specs.declared.MetaKind.{MetaKind}
+use Rattle.commands.specs.declared.MetaKind.the-variants.{Set as SetMeta, Add as AddMeta, Delete as DeleteMeta}
+use Rattle.commands.specs.declared.Counter.{Counter}
+use Rattle.commands.specs.declared.Plain.{Plain}
 use Rattle.commands.specs.declared.Meta.{Meta}
 use Rattle.commands.specs.declared.Command.{Command}
-use Rattle.commands.specs.declared.Command.the-variants.{Get, Write, Count, Noop, Version, WithMeta}
-use Rattle.commands.specs.declared.Ask.{Ask}
+use Rattle.commands.specs.declared.Command.the-variants.{Get, Write, Delete, Count, Noop, Version, WithMeta}
+use Rattle.commands.specs.declared.Context.{Context}
+use Rattle.commands.specs.declared.Instruction.{Instruction}
 use Rattle.commands.specs.declared.Tests.{Tests}
-use Rattle.commands.specs.declared.Source.{Source}
-use Rattle.commands.specs.declared.Source.the-variants.{Empty, Frame}
 
-abbrev pub isDelete : Kind → Bool
-isDelete Set = false
-isDelete Add = false
-isDelete Replace = false
-isDelete Delete = true
-
-abbrev pub isAdd : Kind → Bool
-isAdd Set = false
-isAdd Add = true
-isAdd Replace = false
-isAdd Delete = false
-
-abbrev pub mustLive : Kind → Bool
-mustLive Set = false
-mustLive Add = false
-mustLive Replace = true
-mustLive Delete = true
-
-abbrev pub sourceOf : Kind → Source
-sourceOf Set = Frame
-sourceOf Add = Frame
-sourceOf Replace = Frame
-sourceOf Delete = Empty
-
-abbrev pub isLast : Mode → Bool
-isLast ByRevision = false
-isLast LastWrite = true
-
-abbrev pub isNumber : Number → Bool
-isNumber (Value n) = true
-isNumber NoNumber = false
-
--- how a command stands to each test: its row in the table of rules
+-- ---- how a command stands to each test: its row in the table of rules
 pub record Rule : Type 0 where
   -- breaks a rule of status 0x04 that needs mode or clock
   pub fault : Bool
@@ -77,11 +48,11 @@ pub record Rule : Type 0 where
   pub revises : Bool
   pub writes : Bool
   -- the status at which the quiet form sends nothing
-  pub hush : ℕ
+  pub silentOn : ℕ
 
 -- Get, GetQ, GetK, GetKQ: "Not live: 0x01"; "The quiet two send nothing on 0x01. Header CAS ignored."
-abbrev pub readRule : Rule
-readRule = record {
+abbrev pub getRule : Rule
+getRule = record {
   fault = false;
   anywhere = false;
   standby = false;
@@ -93,12 +64,12 @@ readRule = record {
   marks = false;
   revises = false;
   writes = false;
-  hush = 1;
+  silentOn = 1;
 }
 
--- Noop, Version: they skip 0x07, and have no other test
-abbrev pub freeRule : Rule
-freeRule = record {
+-- Noop, Version: they skip 0x07, and have no test of their own: "nothing after the header, whose CAS is ignored"
+abbrev pub noopRule : Rule
+noopRule = record {
   fault = false;
   anywhere = true;
   standby = false;
@@ -110,10 +81,10 @@ freeRule = record {
   marks = false;
   revises = false;
   writes = false;
-  hush = 0;
+  silentOn = 0;
 }
 
--- Set, Add, Replace, Delete, Increment, Decrement. "Header CAS not 0: not live 0x01, different 0x02"; "Quiet writes send nothing on status 0. Each plain write stores CAS mark + 1 [..]; its revision is the key's row's plus 1"
+-- all plain writes. "Header CAS not 0: not live 0x01, different 0x02"; "Quiet writes send nothing on status 0. Each plain write stores CAS mark + 1 [..]; its revision is the key's row's plus 1"
 abbrev pub plainRule : Bool → Bool → Bool → Bool → Rule
 plainRule fault needs fresh counts = record {
   fault = fault;
@@ -127,44 +98,98 @@ plainRule fault needs fresh counts = record {
   marks = true;
   revises = true;
   writes = true;
-  hush = 0;
+  silentOn = 0;
 }
 
--- Set, Add and Delete with meta. "option 0x02 missing in last-write-wins or set in revision mode"; "Without options 0x01 and 0x08, a key with any row, expired or tombstone included, is compared; the write must be greater, else 0x02."
-abbrev pub metaRule : Mode → Stored → Meta → Rule
-metaRule m s w = record {
-  fault = not (Bool·beq (w .last) (isLast m));
+-- "Add on live: 0x02."
+abbrev pub isAdd : Kind → Bool
+isAdd Set = false
+isAdd Add = true
+isAdd Replace = false
+
+-- "Replace on not live: 0x01."
+abbrev pub isReplace : Kind → Bool
+isReplace Set = false
+isReplace Add = false
+isReplace Replace = true
+
+-- Set, Add, Replace. Expiry: "1 to 2,592,000 is added to the clock, 0x04 if that passes 2^32 - 1"
+abbrev pub writeRule : Context → Plain → Rule
+writeRule c p = plainRule (passes (p .expiry) (c .clock)) (isReplace (p .kind)) (isAdd (p .kind)) false
+
+-- Delete: "Not live 0x01; header CAS as above."
+abbrev pub deleteRule : Rule
+deleteRule = plainRule false true false false
+
+-- Increment, Decrement: "Not live: expiry 0xffffffff gives 0x01"; "Live: the value must be 1 to 20 decimal digits of a number under 2^64, else 0x06."
+-- "The 0x04 is tested even where the expiry goes unused."
+abbrev pub countRule : Context → Counter → Rule
+countRule c k = plainRule (passes (k .expiry) (c .clock)) (eqb (k .expiry) 0xffffffff) false true
+
+-- "option 0x02 missing in last-write-wins or set in revision mode"
+abbrev pub isLast : Mode → Bool
+isLast ByRevision = false
+isLast LastWrite = true
+
+-- "Add on live: 0x02."
+abbrev pub isAddMeta : MetaKind → Bool
+isAddMeta SetMeta = false
+isAddMeta AddMeta = true
+isAddMeta DeleteMeta = false
+
+-- Set, Add and Delete with meta. "with-meta with option 0x01 also passes in states 2 and 3"; "Header CAS not 0: not live 0x01, different 0x02."
+-- "Without options 0x01 and 0x08, a key with any row, expired or tombstone included, is compared; the write must be greater, else 0x02."
+abbrev pub metaRule : Context → Meta → Bool → Rule
+metaRule c w fresh = record {
+  fault = not (Bool·beq (w .last) (isLast (modeOf (c .head .mode))));
   anywhere = false;
   standby = w .force;
   needs = false;
-  fresh = isAdd (w .kind);
+  fresh = fresh;
   guarded = true;
-  beaten = not (w .force || (w .skip || accepted m s (w .numbers)));
+  beaten = not (w .force || (w .skip || accepted (modeOf (c .head .mode)) (c .row) (w .numbers)));
   counts = false;
   marks = w .regenerate;
   revises = false;
   writes = true;
-  hush = 0;
+  silentOn = 0;
 }
 
-unfoldable pub ruleOf : Mode → Stored → ℕ → Command → Rule
-ruleOf m s clock (Get keyed) = readRule
-ruleOf m s clock (Write p) = plainRule (passes (p .expiry) clock) (mustLive (p .kind)) (isAdd (p .kind)) false
-ruleOf m s clock (Count k) = plainRule (passes (k .expiry) clock) (eqb (k .expiry) 0xffffffff) false true
-ruleOf m s clock Noop = freeRule
-ruleOf m s clock Version = freeRule
-ruleOf m s clock (WithMeta w) = metaRule m s w
+unfoldable pub ruleOf : Context → Command → Rule
+ruleOf c (Get keyed) = getRule
+ruleOf c (Write p) = writeRule c p
+ruleOf c Delete = deleteRule
+ruleOf c (Count k) = countRule c k
+ruleOf c Noop = noopRule
+ruleOf c Version = noopRule
+ruleOf c (WithMeta w) = metaRule c w (isAddMeta (w .kind))
 
--- whether a command writes, as its row says
-abbrev pub writesOf : Command → Bool
-writesOf (Get keyed) = false
-writesOf (Write p) = true
-writesOf (Count k) = true
-writesOf Noop = false
-writesOf Version = false
-writesOf (WithMeta w) = true
+-- ---- the tests
+-- the request is for this table, in its state; standby: replica and pending tables take it too
+abbrev pub isHere : Head → ℕ → Bool → Bool
+isHere h vbucket standby = eqb vbucket (h .vbucket) && (eqb (h .state) 1 || (standby && (eqb (h .state) 2 || eqb (h .state) 3)))
 
--- ---- the checks
+abbrev pub guard : Instruction → Rule → Bool
+guard i t = t .guarded && not (eqb (i .cas .0) 0)
+
+-- "the value must be 1 to 20 decimal digits of a number under 2^64"
+abbrev pub isNumber : Number → Bool
+isNumber (Value n) = true
+isNumber NoNumber = false
+
+unfoldable pub testsOf : Context → Instruction → Rule → Tests
+testsOf c i t = record {
+  fault = t .fault;
+  long = ltb 1024 (i .size);
+  elsewhere = not (t .anywhere || isHere (c .head) (i .vbucket) (t .standby));
+  missing = (t .needs || guard i t) && not (live (c .row) (c .clock));
+  conflict = t .beaten || ((t .fresh && live (c .row) (c .clock)) || (guard i t && not (eqb (i .cas .0) (numbersOf (c .row) .cas .0))));
+  number = t .counts && (live (c .row) (c .clock) && not (isNumber (c .number)));
+  spent = (t .revises && eqb (numbersOf (c .row) .revision .0) 0xffffffffffffffff) || (t .marks && eqb (c .head .mark .0) 0xffffffffffffffff);
+  full = t .writes && not (hasRow (c .row) || c .free);
+}
+
+-- ---- "Statuses, first that applies"
 pub record Check : Type 0 where
   pub fails : Bool
   pub status : ℕ
@@ -178,27 +203,8 @@ unfoldable pub firstFailure : List Check → ℕ
 firstFailure [] = 0
 firstFailure (c ∷ cs) = cond (c .fails) (c .status) (firstFailure cs)
 
--- the request is for this table, in its state
-abbrev pub taken : Head → ℕ → Rule → Bool
-taken h vbucket t = t .anywhere || (eqb vbucket (h .vbucket) && (eqb (h .state) 1 || (t .standby && (eqb (h .state) 2 || eqb (h .state) 3))))
-
-abbrev pub guard : Ask → Rule → Bool
-guard q t = t .guarded && not (eqb (q .cas .0) 0)
-
-unfoldable pub testsOf : Head → Stored → Bool → ℕ → Number → Ask → Rule → Tests
-testsOf h s free clock n q t = record {
-  fault = t .fault;
-  long = ltb 1024 (q .size);
-  elsewhere = not (taken h (q .vbucket) t);
-  missing = (t .needs || guard q t) && not (live s clock);
-  conflict = (guard q t && not (eqb (q .cas .0) (numbersOf s .cas .0))) || ((t .fresh && live s clock) || t .beaten);
-  number = t .counts && (live s clock && not (isNumber n));
-  spent = (t .marks && eqb (h .mark .0) 0xffffffffffffffff) || (t .revises && eqb (numbersOf s .revision .0) 0xffffffffffffffff);
-  full = t .writes && not (hasRow s || free);
-}
-
-unfoldable pub statusOf : Tests → ℕ
-statusOf x = firstFailure (
+unfoldable pub firstStatus : Tests → ℕ
+firstStatus x = firstFailure (
     x .fault ⇒ 0x04
     ∷ x .long ⇒ 0x03
     ∷ x .elsewhere ⇒ 0x07
@@ -208,3 +214,7 @@ statusOf x = firstFailure (
     ∷ x .spent ⇒ 0x84
     ∷ x .full ⇒ 0x82
     ∷ [])
+
+-- the status that a command with this row has
+abbrev pub statusBy : Context → Instruction → Rule → ℕ
+statusBy c i t = firstStatus (testsOf c i t)

@@ -1,14 +1,21 @@
 // What a request does, decided by value from the table's head, the row of the request's key and whether a row is free.
 // Bytes stand apart: a decision says where a value comes from, and serving puts it in.
-mod effects;
-mod judging;
+//
+// A module for each family of commands: get, service (Noop and Version), mutate (Set, Add, Replace and Delete),
+// arithmetic (Increment and Decrement) and with_meta. status has what they share.
+mod arithmetic;
+mod get;
+mod mutate;
+mod service;
+mod status;
+mod with_meta;
 
 ghost use mathlib.Core.Path.{_≡_};
-ghost use Rattle.commands.specs.Rules.{writesOf};
-ghost use Rattle.commands.specs.Done.{settled, decision};
+ghost use Rattle.commands.specs.Writes.{isMutation};
+ghost use Rattle.commands.specs.Done.{decision};
 use digits::Number;
-use engine::Head;
-use engine::Stored;
+use document::Head;
+use document::Stored;
 use numbers::Cas;
 use numbers::Numbers;
 
@@ -16,10 +23,9 @@ pub enum Kind {
     Set,
     Add,
     Replace,
-    Delete,
 }
 
-// Set, Add, Replace and Delete; a Delete has flags and expiry 0.
+// Set, Add and Replace.
 pub struct Plain {
     pub kind: Kind,
     pub flags: u32,
@@ -34,9 +40,15 @@ pub struct Counter {
     pub expiry: u32,
 }
 
+pub enum MetaKind {
+    Set,
+    Add,
+    Delete,
+}
+
 // A with-meta write and its options: force 0x01, last 0x02, regenerate 0x04, skip 0x08.
 pub struct Meta {
-    pub kind: Kind,
+    pub kind: MetaKind,
     pub numbers: Numbers,
     pub force: bool,
     pub last: bool,
@@ -48,6 +60,7 @@ pub enum Command {
     // whether the reply carries the key
     Get(bool),
     Write(Plain),
+    Delete,
     Count(Counter),
     Noop,
     Version,
@@ -55,13 +68,23 @@ pub enum Command {
 }
 
 // A request whose form is right, its key and value aside.
-pub struct Ask {
+pub struct Instruction {
     pub vbucket: u16,
     pub cas: Cas,
     pub quiet: bool,
     // the value's bytes, extended meta not counted
     pub size: usize,
     pub command: Command,
+}
+
+// What a decision sees beside the request: the table's head, the key's row, whether a row is free, the clock, and the number
+// that the stored value says.
+pub struct Context {
+    pub head: Head,
+    pub row: Stored,
+    pub free: bool,
+    pub clock: u32,
+    pub number: Number,
 }
 
 // What each status asks, in 01's order: 0x04, 0x03, 0x07, 0x01, 0x02, 0x06, 0x84, 0x82.
@@ -81,7 +104,6 @@ pub enum Source {
     Empty,
     Frame,
     Digits(u64),
-    Kept,
 }
 
 // What a reply carries beside its CAS.
@@ -90,7 +112,7 @@ pub enum Reply {
     // flags and the stored value, and the key where it is true
     Found(u32, bool),
     Counted(u64),
-    Release,
+    Version,
 }
 
 pub struct Done {
@@ -110,11 +132,12 @@ pub struct Decision {
 
 // Whether a command writes.
 pub fn writes(c: Command) -> bool
-    ensures { λ r. ⌜ r ≡ writesOf c ⌝ }
+    ensures { λ r. ⌜ r ≡ isMutation c ⌝ }
 {
     match c {
         Command::Get(_) => false,
         Command::Write(_) => true,
+        Command::Delete => true,
         Command::Count(_) => true,
         Command::Noop => false,
         Command::Version => false,
@@ -122,65 +145,17 @@ pub fn writes(c: Command) -> bool
     }
 }
 
-// What is done where the status is 0, and nothing where it isn't.
-fn settled(h: Head, status: u8, silent: bool, done: Done) -> Decision
-    ensures { λ r. ⌜ r ≡ settled h status silent done ⌝ }
+pub fn decide(c: Context, i: Instruction) -> Decision
+    ensures { λ r. ⌜ r ≡ decision c i ⌝ }
 {
-    if status == 0 {
-        return Decision {
-            status,
-            silent,
-            done,
-        };
-    }
-    let done = effects::nothing(h, Reply::Bare, Cas(0));
-    Decision {
-        status,
-        silent,
-        done,
-    }
-}
-
-// free: whether a row is free; n: the number that the stored value says.
-pub fn decide(h: Head, s: Stored, free: bool, clock: u32, n: Number, q: Ask) -> Decision
-    ensures { λ r. ⌜ r ≡ decision h s free clock n q ⌝ }
-{
-    let c = q.command;
-    match c {
-        Command::Get(keyed) => {
-            let status = judging::status_of(judging::read_tests(h, s, free, clock, n, q));
-            let silent = q.quiet & (status == 1);
-            settled(h, status, silent, effects::found(h, s, keyed))
-        }
-        Command::Write(p) => {
-            let status = judging::status_of(judging::write_tests(h, s, free, clock, n, q, p));
-            let silent = q.quiet & (status == 0);
-            settled(h, status, silent, effects::write_done(h, s, clock, p))
-        }
-        Command::Count(k) => {
-            let status = judging::status_of(judging::count_tests(h, s, free, clock, n, q, k));
-            let silent = q.quiet & (status == 0);
-            settled(h, status, silent, effects::count_done(h, s, clock, n, k))
-        }
-        Command::Noop => {
-            let status = judging::status_of(judging::free_tests(h, s, free, clock, n, q));
-            let silent = q.quiet & (status == 0);
-            settled(h, status, silent, effects::nothing(h, Reply::Bare, Cas(0)))
-        }
-        Command::Version => {
-            let status = judging::status_of(judging::free_tests(h, s, free, clock, n, q));
-            let silent = q.quiet & (status == 0);
-            settled(
-                h,
-                status,
-                silent,
-                effects::nothing(h, Reply::Release, Cas(0)),
-            )
-        }
-        Command::WithMeta(w) => {
-            let status = judging::status_of(judging::meta_tests(h, s, free, clock, n, q, w));
-            let silent = q.quiet & (status == 0);
-            settled(h, status, silent, effects::meta_done(h, w))
-        }
+    let command = i.command;
+    match command {
+        Command::Get(keyed) => get::get(c, i, keyed),
+        Command::Write(p) => mutate::write(c, i, p),
+        Command::Delete => mutate::delete(c, i),
+        Command::Count(k) => arithmetic::count(c, i, k),
+        Command::Noop => service::noop(c, i),
+        Command::Version => service::version(c, i),
+        Command::WithMeta(w) => with_meta::with_meta(c, i, w),
     }
 }

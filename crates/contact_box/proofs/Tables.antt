@@ -5,8 +5,8 @@ use mathlib.Core.Path.{_≡_, _∙_}
 use mathlib.Core.List.{List}
 use borrow.Author.Tests.{le-leb, eq-eqb}
 use lib.ListN.{length}
-use Rattle.table.specs.Damage.{sizeOk}
-use Rattle.table.specs.Table.{tableBytes, fresh}
+use Rattle.rows.specs.RowRules.{sizeOk}
+use Rattle.rows.specs.Table.{tableBytes, fresh}
 use Rattle.owner.specs.Owner.{sizeOf, makeOk, made}
 use Rattle.contact_box.specs.Arguments.{Makes}
 

@@ -12,7 +12,7 @@ use Rattle.header.specs.Header.{headerOf}
 use Rattle.request.specs.declared.Gate.{Gate}
 use Rattle.request.specs.declared.Gate.the-variants.{Stop, Whole}
 use Rattle.request.specs.Reading.{gateOf}
-use Rattle.table.specs.Damage.{sound}
+use Rattle.plain.specs.Damage.{sound}
 use Rattle.serving.specs.declared.Served.{Served}
 use Rattle.serving.specs.declared.Served.the-variants.{Refused, Done}
 use Rattle.serving.specs.Serve.{gateAll, answerBy, served}

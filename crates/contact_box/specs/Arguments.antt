@@ -1,7 +1,7 @@
 -- What the arguments may ask for.
 use Prim.Native.Nat.{ℕ, _≤_}
-use Rattle.contact_box.specs.declared.arguments.Asked.{Asked}
-use Rattle.contact_box.specs.declared.arguments.Asked.the-variants.{Table, Wrong}
+use Rattle.contact_box.specs.declared.arguments.Parsed.{Parsed}
+use Rattle.contact_box.specs.declared.arguments.Parsed.the-variants.{Table, Wrong}
 
 -- there is a table of so many rows in such a mode
 pub record Makes (rows mode : ℕ) : Type 0 where
@@ -10,6 +10,6 @@ pub record Makes (rows mode : ℕ) : Type 0 where
   pub first : 1 ≤ mode
   pub last : mode ≤ 2
 
-abbrev pub Allowed : Asked → Type 0
+abbrev pub Allowed : Parsed → Type 0
 Allowed (Table rows vbucket mode) = Makes rows mode
 Allowed (Wrong f) = Unit {0}

@@ -16,7 +16,7 @@ pub(crate) enum Fault {
     Mode,
 }
 
-pub(crate) enum Asked {
+pub(crate) enum Parsed {
     Table { rows: usize, vbucket: u16, mode: u8 },
     Wrong(Fault),
 }
@@ -43,40 +43,40 @@ fn mode_at(i: usize) -> u8
     0
 }
 
-fn asked_of(rows: Number, vbucket: Number, mode: u8) -> Asked
+fn asked_of(rows: Number, vbucket: Number, mode: u8) -> Parsed
     requires { ⌜ mode ≤ 2 ⌝ }
     ensures { λ r. ⌜ Allowed r ⌝ }
 {
     let Number::Value(r) = rows else {
-        return Asked::Wrong(Fault::Rows);
+        return Parsed::Wrong(Fault::Rows);
     };
     if r < 1 {
-        return Asked::Wrong(Fault::Rows);
+        return Parsed::Wrong(Fault::Rows);
     }
     if 256 < r {
-        return Asked::Wrong(Fault::Rows);
+        return Parsed::Wrong(Fault::Rows);
     }
     let Number::Value(v) = vbucket else {
-        return Asked::Wrong(Fault::Vbucket);
+        return Parsed::Wrong(Fault::Vbucket);
     };
     if 65535 < v {
-        return Asked::Wrong(Fault::Vbucket);
+        return Parsed::Wrong(Fault::Vbucket);
     }
     if mode < 1 {
-        return Asked::Wrong(Fault::Mode);
+        return Parsed::Wrong(Fault::Mode);
     }
-    Asked::Table {
+    Parsed::Table {
         rows: r as usize,
         vbucket: v as u16,
         mode,
     }
 }
 
-pub(crate) fn read() -> Asked
+pub(crate) fn read() -> Parsed
     ensures { λ r. ⌜ Allowed r ⌝ }
 {
     if os::arg_count() != 4 {
-        return Asked::Wrong(Fault::Count);
+        return Parsed::Wrong(Fault::Count);
     }
     asked_of(number_at(1), number_at(2), mode_at(3))
 }

@@ -17,10 +17,10 @@ mod session;
 
 ghost use mathlib.Core.Path.{_≡_};
 ghost use lib.ListN.{length};
-ghost use Rattle.table.specs.Table.{tableBytes, fresh};
+ghost use Rattle.rows.specs.Table.{tableBytes, fresh};
 ghost use Rattle.owner.specs.Owner.{sizeOf};
 ghost use Rattle.contact_box.specs.Arguments.{Makes};
-use arguments::Asked;
+use arguments::Parsed;
 
 const ACTIVE: u8 = 1;
 
@@ -59,11 +59,11 @@ fn serve(rows: usize, vbucket: u16, mode: u8)
 
 fn main() {
     match arguments::read() {
-        Asked::Table {
+        Parsed::Table {
             rows,
             vbucket,
             mode,
         } => serve(rows, vbucket, mode),
-        Asked::Wrong(why) => arguments::complain(why),
+        Parsed::Wrong(why) => arguments::complain(why),
     }
 }

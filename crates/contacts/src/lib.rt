@@ -1,15 +1,16 @@
 // The calls for C and Rust: numbers and byte slices in, a struct of numbers out, each with the contract of the call that
 // it passes on. include/contacts.h documents them.
+mod counted;
+
 ghost use mathlib.Core.Path.{_≡_};
 ghost use lib.ListN.{length};
-ghost use Rattle.table.specs.Damage.{sound};
+ghost use Rattle.plain.specs.Damage.{sound};
 ghost use Rattle.owner.specs.Owner.{sizeOf, makeOutcome, made, readOf, purgeOf, purgedBytes};
 ghost use Rattle.request.specs.Reading.{reading};
 ghost use Rattle.request.specs.Writing.{writing, frameBytes, outputOf};
-ghost use Rattle.serving.specs.Serve.{served, servedTable, servedReply};
-ghost use Rattle.tally.specs.Counts.{countedOf};
 ghost use Rattle.run.specs.Run.{begun, runEnd, ranOf};
-ghost use Rattle.contacts.specs.Answers.{servedAnswer, ranAnswer, documentAnswer, purgedAnswer, requestAnswer, fieldsFor, writtenAnswer};
+ghost use Rattle.contacts.specs.Contacts.{ServesOne};
+ghost use Rattle.answers.specs.Answers.{ranAnswer, documentAnswer, purgedAnswer, requestAnswer, fieldsFor, writtenAnswer};
 use answers::DocumentAnswer;
 use answers::PurgedAnswer;
 use answers::RanAnswer;
@@ -19,8 +20,6 @@ use answers::WrittenAnswer;
 use numbers::Cas;
 use request::Fields;
 use tally::Tally;
-
-pub mod answers;
 
 // The bytes that a table of so many rows needs, 0 where no table has so many.
 #[no_mangle]
@@ -43,7 +42,7 @@ pub extern "C" fn contacts_make(b: &mut [u8], rows: usize, state: u8, mode: u8, 
 pub extern "C" fn contacts_sound(b: &[u8]) -> bool
     ensures { λ r. ⌜ r ≡ sound (now (b .entry)) ⌝ }
 {
-    table::damage::is_sound(b)
+    table::is_sound(b)
 }
 
 // Serves the request at the start of the received bytes, and counts it.
@@ -55,12 +54,9 @@ pub extern "C" fn contacts_serve(
     out: &mut [u8],
     t: &mut Tally,
 ) -> ServedAnswer
-    ensures { λ r. ⌜ (r ≡ servedAnswer (served (now (b .entry)) clock (now (s .entry)) (length (now (out .entry)))))
-        × ((now (b .exit) ≡ servedTable (now (b .entry)) clock (now (s .entry)) (length (now (out .entry))))
-        × ((now (out .exit) ≡ servedReply (now (b .entry)) clock (now (s .entry)) (now (out .entry)))
-        × (now (t .exit) ≡ countedOf (now (t .entry)) (served (now (b .entry)) clock (now (s .entry)) (length (now (out .entry))))))) ⌝ }
+    ensures { λ r. ⌜ ServesOne (now (b .entry)) clock (now (s .entry)) (now (out .entry)) (now (t .entry)) r (now (b .exit)) (now (out .exit)) (now (t .exit)) ⌝ }
 {
-    answers::served_answer(store::serve(b, clock, s, out, t))
+    answers::served_answer(counted::serve(b, clock, s, out, t))
 }
 
 // Serves the frames of a run one after another, each reply after those before it, until a call is refused.

@@ -162,7 +162,7 @@ fn put_purged(line: &mut [u8], at: usize, clock: u32) -> usize {
     let mut reply = [0u8; frames::ROOM];
     let held = set_contact(&mut boat, &mut reply);
     match owner::purge(&mut boat, clock, held) {
-        Purged::Spoiled => tell::put_outcome(line, at, 5),
+        Purged::Damaged => tell::put_outcome(line, at, 5),
         Purged::Freed(n) => {
             let end = tell::put(line, at, b"rows freed: ");
             tell::put_number(line, end, n as u64)

@@ -2,8 +2,8 @@
 use crate::frames;
 use crate::shore;
 use crate::tell;
+use engine::Place;
 use serving::Served;
-use table::Found;
 use tally::Tally;
 
 // Shore's writes, '1' to '6'.
@@ -69,13 +69,16 @@ fn row(boat: &[u8], i: usize) -> &[u8] {
 
 // Whether a row is free, or is byte for byte the other boat's row of its key.
 fn is_on(r: &[u8], other: &[u8]) -> bool {
-    let slot = table::row::slot(r);
+    let slot = rows::row::slot(r);
     if slot.kind == 0 {
         return true;
     }
-    match table::lookup::find(other, octets::part(r, 32, slot.keylen as usize)) {
-        Found::At(i) => octets::same(r, row(other, i)),
-        Found::Nothing => false,
+    let l = table::find(other, octets::part(r, 32, slot.keylen as usize), false);
+    let place = l.place;
+    match place {
+        Place::Over(i) => octets::same(r, row(other, i)),
+        Place::Into(_) => false,
+        Place::Full => false,
     }
 }
 

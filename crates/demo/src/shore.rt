@@ -2,11 +2,12 @@
 use crate::frames;
 use crate::frames::Call;
 use crate::tell;
+use document::Metadata;
+use document::Stored;
 use numbers::Cas;
 use numbers::Numbers;
 use numbers::Revision;
 use serving::Served;
-use table::Found;
 
 const CLOCK_COLUMN: usize = 2;
 
@@ -125,21 +126,22 @@ pub(crate) fn get(boat: &mut [u8], clock: u32, key: &[u8]) {
     tell::line(&line, end);
 }
 
-fn put_row(line: &mut [u8], boat: &[u8], i: usize) -> usize {
-    let slot = table::store::slot_at(boat, i);
-    let numbers = slot.numbers;
-    if slot.kind == 2 {
+fn put_row(line: &mut [u8], m: Metadata, value: &[u8]) -> usize {
+    let numbers = m.numbers;
+    if m.tomb {
         tell::put(line, VALUE_COLUMN, b"deleted");
         return put_numbers(line, numbers);
     }
-    tell::put(line, VALUE_COLUMN, table::store::value(boat, i));
+    tell::put(line, VALUE_COLUMN, value);
     put_numbers(line, numbers)
 }
 
 fn put_held(line: &mut [u8], boat: &[u8], key: &[u8]) -> usize {
-    match table::lookup::find(boat, key) {
-        Found::At(i) => put_row(line, boat, i),
-        Found::Nothing => tell::put(line, VALUE_COLUMN, b"nothing"),
+    let l = table::find(boat, key, false);
+    let stored = l.stored;
+    match stored {
+        Stored::Used(m) => put_row(line, m, octets::part(boat, l.at, l.len)),
+        Stored::Nothing => tell::put(line, VALUE_COLUMN, b"nothing"),
     }
 }
 

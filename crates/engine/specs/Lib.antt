@@ -1,4 +1,2 @@
-pub mod Documents
-pub mod Stored
-pub mod Head
 pub mod Engine
+pub mod Alike

@@ -1,78 +1,18 @@
-// What a store of documents is, apart from how memory holds it. An engine and its laws are in specs/Engine.antt.
-ghost use mathlib.Core.Path.{_≡_};
-ghost use Rattle.engine.specs.Stored.{live, hasRow, numbersOf, accepted};
-use numbers::Cas;
-use numbers::Mode;
-use numbers::Numbers;
-use numbers::Revision;
+// What an engine is: rows that are searched by key, written and purged, and the laws that any engine meets, in specs/Engine.antt.
+use document::Head;
 
-// A table's head.
-pub struct Head {
-    // 1 active, 2 replica, 3 pending, 4 dead
-    pub state: u8,
-    // 1 revision, 2 last-write-wins
-    pub mode: u8,
-    pub vbucket: u16,
-    // kept 0
-    pub clock: u32,
-    // the mark: no used row has a CAS above it
-    pub mark: Cas,
+// Where a document for a key is stored.
+pub enum Place {
+    // over the key's row
+    Over(usize),
+    // into a new row
+    Into(usize),
+    // there is no room
+    Full,
 }
 
-// What a used row holds for its key, the value aside.
-pub struct Held {
-    pub tomb: bool,
-    pub numbers: Numbers,
-}
-
-pub enum Stored {
-    Nothing,
-    Used(Held),
-}
-
-// Whether a key's row is a document that is not expired.
-pub fn live(s: Stored, clock: u32) -> bool
-    ensures { λ r. ⌜ r ≡ live s clock ⌝ }
-{
-    match s {
-        Stored::Nothing => false,
-        Stored::Used(d) => !d.tomb & !numbers::expired(d.numbers.expiry, clock),
-    }
-}
-
-pub fn has_row(s: Stored) -> bool
-    ensures { λ r. ⌜ r ≡ hasRow s ⌝ }
-{
-    match s {
-        Stored::Nothing => false,
-        Stored::Used(_) => true,
-    }
-}
-
-// The numbers of a key's row, all 0 without one.
-pub fn numbers_of(s: Stored) -> Numbers
-    ensures { λ r. ⌜ r ≡ numbersOf s ⌝ }
-{
-    match s {
-        Stored::Nothing => Numbers {
-            flags: 0,
-            expiry: 0,
-            revision: Revision(0),
-            cas: Cas(0),
-        },
-        Stored::Used(d) => d.numbers,
-    }
-}
-
-// Whether a with-meta write of these numbers wins over a key's row.
-pub fn accepted(m: Mode, s: Stored, n: Numbers) -> bool
-    ensures { λ r. ⌜ r ≡ accepted m s n ⌝ }
-{
-    match s {
-        Stored::Nothing => true,
-        Stored::Used(d) => {
-            let e = d.numbers;
-            numbers::greater(m, n, e)
-        }
-    }
+// The head of a table that is not damaged.
+pub enum Checked {
+    Damaged,
+    Sound(Head),
 }

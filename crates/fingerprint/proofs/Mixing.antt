@@ -13,7 +13,7 @@ use borrow.Author.Tests.{le-leb, lt-leb, lt-ltb, le-ltb}
 use Rattle.octets.specs.Parts.{part}
 use Rattle.octets.specs.BigEndian.{num}
 use Rattle.octets.specs.Words.{wordAt}
-use Rattle.fingerprint.specs.Fingerprint.{turned, mixed, pair, mixedOver, mixedAll, folded, fingerprint, among}
+use Rattle.fingerprint.specs.Fingerprint.{turned, mixed, pair, mixedOver, mixedAll, folded, fingerprint, printAmong}
 
 fits : (m q : ℕ) → m < 2 ^ 59 → q < 32 → m * 32 + q < 2 ^ 64
 fits m q h k = omega arith
@@ -50,10 +50,10 @@ pub last-step : (key : List ℕ) (at p : ℕ) → length key - 16 ≤ at → lef
 unfolding mixedOver
 last-step key at p h = let e : (length key - 16 - at + 15) / 16 ≡ 0 = omega arith in ap (λ (n : ℕ). mixedOver n p (drop at key)) e
 
-pub among-next : (p : ℕ) (qs : List ℕ) (i : ℕ) (found : Bool) → i < length qs → (found || among p (drop i qs)) ≡ ((found || eqb (getD qs i 0) p) || among p (drop (i + 1) qs))
-unfolding among
-among-next p qs i found h = rw (add-one, drop-cons qs i 0) (sym (or-assoc found (eqb (getD qs i 0) p) (among p (drop (suc i) qs))))
+pub among-next : (p : ℕ) (qs : List ℕ) (i : ℕ) (found : Bool) → i < length qs → (found || printAmong p (drop i qs)) ≡ ((found || eqb (getD qs i 0) p) || printAmong p (drop (i + 1) qs))
+unfolding printAmong
+among-next p qs i found h = rw (add-one, drop-cons qs i 0) (sym (or-assoc found (eqb (getD qs i 0) p) (printAmong p (drop (suc i) qs))))
 
-pub among-end : (p : ℕ) (qs : List ℕ) (i : ℕ) (found : Bool) → length qs ≤ i → (found || among p (drop i qs)) ≡ found
-unfolding among
+pub among-end : (p : ℕ) (qs : List ℕ) (i : ℕ) (found : Bool) → length qs ≤ i → (found || printAmong p (drop i qs)) ≡ found
+unfolding printAmong
 among-end p qs i found h = rw (drop-of-length-le qs h) (or-false found)

@@ -1,4 +1,4 @@
--- A number that equal keys share. It says nothing of the table: that equal keys have equal fingerprints holds of any function of the key, and this one is quick and seldom agrees on different keys.
+-- For the code alone: a number that equal keys share. It says nothing of the table: that equal keys have equal fingerprints holds of any function of the key, and this one is quick and seldom agrees on different keys.
 use Prim.Native.Nat.{ℕ, zero, suc, _+_, _-_, _*_, _/_, _%_, _^_}
 use mathlib.Core.List.{List, [], _∷_}
 use mathlib.Core.Bool.{Bool, false, _||_, cond}
@@ -46,6 +46,6 @@ fingerprint key = folded (cond (leb (length key) 8) (num key 0 8) (cond (ltb (le
 unfoldable pub bucketOf : ℕ → ℕ
 bucketOf p = p * 2654435761 / 2 ^ 22 % 1024
 
-unfoldable pub among : ℕ → List ℕ → Bool
-among p [] = false
-among p (q ∷ qs) = eqb q p || among p qs
+unfoldable pub printAmong : ℕ → List ℕ → Bool
+printAmong p [] = false
+printAmong p (q ∷ qs) = eqb q p || printAmong p qs

@@ -1,6 +1,6 @@
 // Fingerprints: a number that equal keys share, so that two keys are compared only where their fingerprints agree.
 ghost use mathlib.Core.Path.{_≡_};
-ghost use Rattle.fingerprint.specs.Fingerprint.{turned, mixed, pair, folded, fingerprint, bucketOf, among};
+ghost use Rattle.fingerprint.specs.Fingerprint.{turned, mixed, pair, folded, fingerprint, bucketOf, printAmong};
 
 // The bits of p turned by five.
 fn turned(p: u64) -> u64
@@ -60,7 +60,7 @@ pub fn bucket(p: u32) -> usize
 
 // Whether p is one of these. Nothing ends the loop early, so that it vectorises.
 pub fn among(p: u32, prints: &[u32]) -> bool
-    ensures { λ r. ⌜ r ≡ among p (now (prints .entry)) ⌝ }
+    ensures { λ r. ⌜ r ≡ printAmong p (now (prints .entry)) ⌝ }
 {
     let mut found = false;
     let mut i: usize = 0;

@@ -9,7 +9,7 @@ use Rattle.octets.specs.BigEndian.{beFrom, be, num, bytesOf}
 use Rattle.octets.proofs.Lists.{glue}
 use Rattle.octets.proofs.Numbers.{be-bytes, num-back}
 use Rattle.header.specs.declared.Header.{Header}
-use Rattle.header.specs.Header.{headerOf, headerBytes, frontBytes, middleBytes, backBytes, Fits}
+use Rattle.header.specs.Header.{headerOf, headerBytes, frontBytes, middleBytes, backBytes, HeaderFits}
 
 pub length-header : (h : Header) → length (headerBytes h) ≡ 24
 unfolding headerBytes frontBytes middleBytes backBytes bytesOf
@@ -20,7 +20,7 @@ pub after-header : (h : Header) (rest : List ℕ) → drop 24 (headerBytes h ++ 
 unfolding headerBytes frontBytes middleBytes backBytes bytesOf
 after-header h rest = refl
 
-pub header-back : (h : Header) (rest : List ℕ) → Fits h → headerOf (headerBytes h ++ rest) ≡ h
+pub header-back : (h : Header) (rest : List ℕ) → HeaderFits h → headerOf (headerBytes h ++ rest) ≡ h
 unfolding headerOf headerBytes frontBytes middleBytes backBytes bytesOf be beFrom
 header-back h rest k =
     λ i. record {

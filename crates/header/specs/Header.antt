@@ -33,7 +33,7 @@ unfolding frontBytes middleBytes backBytes
 headerBytes h = frontBytes h ++ (middleBytes h ++ backBytes h)
 
 -- every field fits its place, as it does in every value of the declared type
-pub record Fits (h : Header) : Type 0 where
+pub record HeaderFits (h : Header) : Type 0 where
   pub magic : h .magic < 256
   pub opcode : h .opcode < 256
   pub keylen : h .keylen < 65536

@@ -4,6 +4,7 @@ ghost use Prim.Native.Nat.{_≤_};
 ghost use lib.ListN.{length};
 ghost use Rattle.octets.specs.Parts.{pasted, written};
 ghost use Rattle.header.specs.Header.{headerOf, frontBytes, middleBytes, backBytes, headerBytes};
+ghost use Rattle.header.specs.Layout.{layoutOf};
 use numbers::Cas;
 
 pub struct Header {
@@ -18,6 +19,26 @@ pub struct Header {
     pub body: u32,
     pub opaque: u32,
     pub cas: Cas,
+}
+
+// Where the parts of a frame stand, counted from its start.
+pub struct Layout {
+    pub extras: usize,
+    pub key: usize,
+    pub value: usize,
+    pub end: usize,
+}
+
+pub fn layout_of(h: Header) -> Layout
+    ensures { λ r. ⌜ r ≡ layoutOf h ⌝ }
+{
+    let key = 24 + h.extlen as usize;
+    Layout {
+        extras: 24,
+        key,
+        value: key + h.keylen as usize,
+        end: 24 + h.body as usize,
+    }
 }
 
 // The header at the start of s; what isn't there reads as empty.

@@ -7,15 +7,15 @@ use lib.Dec.{ltb}
 use borrow.Author.Tests.{lt-ltb}
 use Rattle.octets.specs.Compare.{same}
 use Rattle.octets.proofs.Choices.{cases}
-use Rattle.engine.specs.Head.{marked}
-use Rattle.engine.specs.Documents.{Key, Doc, Entry}
+use Rattle.document.specs.Head.{marked}
+use Rattle.document.specs.Documents.{Key, Doc, Entry}
 use Rattle.engine.specs.Engine.{Engine, Laws, Room}
-use Rattle.engine.specs.Stored.{storedOf, hasRow}
-use Rattle.table.proofs.PlainLaws.{options}
-use Rattle.commands.specs.Merging.{Call, Merging, meta, docOf, writeOf}
+use Rattle.document.specs.Stored.{storedOf, hasRow}
+use Rattle.octets.proofs.Options.{options}
+use Rattle.commands.specs.Merging.{RequestAt, MergingRequest, meta, carriedDoc, writeOf}
 use Rattle.commands.proofs.MergingLaws.{merging-decided}
 use Rattle.merge.specs.Writes.{Greatest, for, isWritten}
-use Rattle.merge.specs.Merge.{Table, docIn, effectOn, tableOn, tableAfter, statusesOf, writes, candidates, All, mode, Premises, Merged, Demand3}
+use Rattle.merge.specs.Merge.{State, docIn, effectOn, tableOn, tableAfter, statusesOf, writesOf, candidatesOn, All, mode, MergePremises, MergedState, MergeTheorem}
 use Rattle.merge.proofs.Greatest.{clash, wins, best, best-greatest}
 use Rattle.merge.proofs.Run.{writtenAll, raisedAll, statuses, Ready, room-one, ready-rest, ready-end, find-all, statuses-verdicts, mark-stored, mark-last}
 
@@ -29,7 +29,7 @@ for-none k (w ∷ ws) h = cases (same (w .key) k) (λ s. clash refl (rw s at h))
 
 module _ (E : Engine) (L : Laws E) where
   -- the table after merging writes
-  abbrev after : Table E → List Entry → Table E
+  abbrev after : State E → List Entry → State E
   after t ws = record {
     head = marked (t .head) (raisedAll E (mode E t) (t .head .mark .0) (t .rows) ws);
     rows = writtenAll E (mode E t) (t .rows) ws;
@@ -39,46 +39,46 @@ module _ (E : Engine) (L : Laws E) where
   roomy r k h = options (E .find r k) (λ n. rw (n, lt-ltb 0 (E .free r) (h n))) (λ e s. rw s)
 
   -- one call is one merging write
-  on-call : (t : Table E) (c : Call) → t .head .state ≡ 1 → Merging (mode E t) (t .head .vbucket) (meta c) c → Room E (t .rows) (c .request .key)
-      → (effectOn E t c .status ≡ cond (wins (mode E t) (docIn E t (c .request .key)) (docOf c)) 0 0x02) × (tableOn E t c ≡ after t (writeOf c ∷ []))
+  on-call : (t : State E) (c : RequestAt) → t .head .state ≡ 1 → MergingRequest (mode E t) (t .head .vbucket) (meta c) c → Room E (t .rows) (c .request .key)
+      → (effectOn E t c .status ≡ cond (wins (mode E t) (docIn E t (c .request .key)) (carriedDoc c)) 0 0x02) × (tableOn E t c ≡ after t (writeOf c ∷ []))
   unfolding effectOn tableOn
   on-call t c active p room =
       rw (merging-decided (t .head) (docIn E t (c .request .key)) (ltb 0 (E .free (t .rows))) (meta c) c active p (roomy (t .rows) (c .request .key) room))
-      (cases (wins (mode E t) (docIn E t (c .request .key)) (docOf c)) (λ a. rw a (refl, refl)) (λ a. rw a (refl, refl)))
+      (cases (wins (mode E t) (docIn E t (c .request .key)) (carriedDoc c)) (λ a. rw a (refl, refl)) (λ a. rw a (refl, refl)))
 
-  on-calls : (t : Table E) (cs : List Call) → Ready E (t .head .mark .0) (t .rows) (writes cs) → t .head .state ≡ 1
-      → All (λ c. Merging (mode E t) (t .head .vbucket) (meta c) c) cs
-      → (tableAfter E t cs ≡ after t (writes cs)) × (statusesOf E t cs ≡ statuses E (mode E t) (t .rows) (writes cs))
+  on-calls : (t : State E) (cs : List RequestAt) → Ready E (t .head .mark .0) (t .rows) (writesOf cs) → t .head .state ≡ 1
+      → All (λ c. MergingRequest (mode E t) (t .head .vbucket) (meta c) c) cs
+      → (tableAfter E t cs ≡ after t (writesOf cs)) × (statusesOf E t cs ≡ statuses E (mode E t) (t .rows) (writesOf cs))
   on-calls t [] h active p = (refl, refl)
   on-calls t (c ∷ cs) h active p =
-      let e = on-call t c active (p .0) (room-one E L (mode E t) (t .head .mark .0) (t .rows) (writeOf c) (writes cs) h) in
-      let ih = on-calls (after t (writeOf c ∷ [])) cs (ready-rest E L (mode E t) (t .head .mark .0) (t .rows) (writeOf c) (writes cs) h) active (p .1) in
+      let e = on-call t c active (p .0) (room-one E L (mode E t) (t .head .mark .0) (t .rows) (writeOf c) (writesOf cs) h) in
+      let ih = on-calls (after t (writeOf c ∷ [])) cs (ready-rest E L (mode E t) (t .head .mark .0) (t .rows) (writeOf c) (writesOf cs) h) active (p .1) in
       (rw (e .1) (ih .0), rw (e .0, e .1, ih .1))
 
-  module _ (t : Table E) (cs : List Call) (p : Premises E t cs) where
-    ready : Ready E (t .head .mark .0) (t .rows) (writes cs)
+  module _ (t : State E) (cs : List RequestAt) (p : MergePremises E t cs) where
+    ready : Ready E (t .head .mark .0) (t .rows) (writesOf cs)
     ready = record { good = p .sound .good; below = p .sound .below; room = p .room }
 
-    run : (tableAfter E t cs ≡ after t (writes cs)) × (statusesOf E t cs ≡ statuses E (mode E t) (t .rows) (writes cs))
+    run : (tableAfter E t cs ≡ after t (writesOf cs)) × (statusesOf E t cs ≡ statuses E (mode E t) (t .rows) (writesOf cs))
     run = on-calls t cs ready (p .active) (p .merging)
 
-    ends : (k : Key) → docIn E (tableAfter E t cs) k ≡ best (mode E t) (docIn E t k) (for k (writes cs))
-    ends k = rw (run .0) (find-all E L (mode E t) (t .head .mark .0) (t .rows) (writes cs) ready k)
+    ends : (k : Key) → docIn E (tableAfter E t cs) k ≡ best (mode E t) (docIn E t k) (for k (writesOf cs))
+    ends k = rw (run .0) (find-all E L (mode E t) (t .head .mark .0) (t .rows) (writesOf cs) ready k)
 
-    winner : (k : Key) → isWritten k (writes cs) ≡ true → (d : Doc) × (docIn E (tableAfter E t cs) k ≡ some d) × Greatest (mode E t) d (candidates E t cs k)
+    winner : (k : Key) → isWritten k (writesOf cs) ≡ true → (d : Doc) × (docIn E (tableAfter E t cs) k ≡ some d) × Greatest (mode E t) d (candidatesOn E t cs k)
     winner k w =
-        let (d, rest, e) = for-some k (writes cs) w in
+        let (d, rest, e) = for-some k (writesOf cs) w in
         rw (ends k, e) (best-greatest (mode E t) (docIn E t k) d rest (rw e at (p .unique k)))
 
-    merged : Merged E t cs
+    merged : MergedState E t cs
     merged = record {
       winner = winner;
-      others = λ k h. ends k ∙ rw (for-none k (writes cs) h);
-      statuses = run .1 ∙ statuses-verdicts E L (mode E t) (t .head .mark .0) (docIn E t) [] (t .rows) (writes cs) ready (λ k. refl);
-      mark = rw (run .0, run .1, mark-stored E L (mode E t) (t .head .mark .0) (t .rows) (writes cs));
-      mark-last = λ e. rw (run .0, e) (mark-last E L (t .head .mark .0) (t .rows) (writes cs) ready);
-      sound = rw (run .0) (let end = ready-end E L (mode E t) (t .head .mark .0) (t .rows) (writes cs) ready in record { good = end .good; below = end .below });
+      others = λ k h. ends k ∙ rw (for-none k (writesOf cs) h);
+      statuses = run .1 ∙ statuses-verdicts E L (mode E t) (t .head .mark .0) (docIn E t) [] (t .rows) (writesOf cs) ready (λ k. refl);
+      mark = rw (run .0, run .1, mark-stored E L (mode E t) (t .head .mark .0) (t .rows) (writesOf cs));
+      mark-last = λ e. rw (run .0, e) (mark-last E L (t .head .mark .0) (t .rows) (writesOf cs) ready);
+      sound = rw (run .0) (let end = ready-end E L (mode E t) (t .head .mark .0) (t .rows) (writesOf cs) ready in record { good = end .good; below = end .below });
     }
 
-pub demand-3 : Demand3
+pub demand-3 : MergeTheorem
 demand-3 E L t cs p = merged E L t cs p

@@ -11,11 +11,11 @@ use Rattle.octets.proofs.Tests.{same-true}
 use Rattle.numbers.specs.declared.Mode.{Mode}
 use Rattle.numbers.specs.declared.Mode.the-variants.{LastWrite}
 use Rattle.numbers.proofs.OrderLaws.{not-later}
-use Rattle.engine.specs.Documents.{Key, Doc, Entry}
+use Rattle.document.specs.Documents.{Key, Doc, Entry}
 use Rattle.engine.specs.Engine.{Engine, Laws, Room, isSome}
-use Rattle.engine.specs.Stored.{accepted}
-use Rattle.table.proofs.PlainLaws.{options}
-use Rattle.merge.specs.Writes.{above, held, for, newKeys, largest, beatsAll, verdicts, stored}
+use Rattle.document.specs.Stored.{accepted}
+use Rattle.octets.proofs.Options.{options}
+use Rattle.merge.specs.Writes.{greaterDoc, optionList, for, newKeys, largestCas, beatsAll, verdicts, applied}
 use Rattle.merge.proofs.Greatest.{wins, merged, best, best-append, merged-some, wins-all}
 
 for-append : (k : Key) (xs ys : List Entry) → for k (xs ++ ys) ≡ for k xs ++ for k ys
@@ -123,14 +123,14 @@ module _ (E : Engine) (L : Laws E) (m : Mode) where
       → ((k : Key) → E .find r k ≡ best m (start k) (for k earlier)) → statuses E m r ws ≡ verdicts m start earlier ws
   statuses-verdicts n start earlier r [] h before = refl
   statuses-verdicts n start earlier r (w ∷ ws) h before =
-      let first : wins m (E .find r (w .key)) (w .doc) ≡ beatsAll m (w .doc) (held (start (w .key)) ++ for (w .key) earlier) =
+      let first : wins m (E .find r (w .key)) (w .doc) ≡ beatsAll m (w .doc) (optionList (start (w .key)) ++ for (w .key) earlier) =
       rw (before (w .key)) (wins-all m (start (w .key)) (for (w .key) earlier) (w .doc)) in
       let rest = statuses-verdicts (raised E m n r w) start (earlier ++ w ∷ []) (written E m r w) ws (ready-rest n r w ws h)
       (λ k. find-written r w (h .good) (room-one n r w ws h) k
       ∙ rw (for-append k earlier (w ∷ []), best-append, before k) (cases (same (w .key) k) (λ s. rw s) (λ s. rw s))) in
       cc
 
-  pub mark-stored : (n : ℕ) (r : E .Rows) (ws : List Entry) → raisedAll E m n r ws ≡ largest n (stored (statuses E m r ws) ws)
+  pub mark-stored : (n : ℕ) (r : E .Rows) (ws : List Entry) → raisedAll E m n r ws ≡ largestCas n (applied (statuses E m r ws) ws)
   mark-stored n r [] = refl
   mark-stored n r (w ∷ ws) =
       cases (wins m (E .find r (w .key)) (w .doc))
@@ -144,9 +144,9 @@ module _ (E : Engine) (L : Laws E) where
   raised-last n r w b =
       options (E .find r (w .key))
       (λ q. rw q)
-      (λ d q. rw q (cases (above LastWrite (w .doc) d) (λ t. rw t) (λ f. rw f (omega (arith, not-later (w .doc .numbers) (d .numbers) f, b (w .key) d q)))))
+      (λ d q. rw q (cases (greaterDoc LastWrite (w .doc) d) (λ t. rw t) (λ f. rw f (omega (arith, not-later (w .doc .numbers) (d .numbers) f, b (w .key) d q)))))
 
-  pub mark-last : (n : ℕ) (r : E .Rows) (ws : List Entry) → Ready E n r ws → raisedAll E LastWrite n r ws ≡ largest n ws
+  pub mark-last : (n : ℕ) (r : E .Rows) (ws : List Entry) → Ready E n r ws → raisedAll E LastWrite n r ws ≡ largestCas n ws
   mark-last n r [] h = refl
   mark-last n r (w ∷ ws) h =
       mark-last (raised E LastWrite n r w) (written E LastWrite r w) ws (ready-rest E L LastWrite n r w ws h) ∙ rw (raised-last n r w (h .below))

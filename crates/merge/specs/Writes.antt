@@ -9,11 +9,11 @@ use lib.Dec.{eqb}
 use Rattle.octets.specs.Compare.{same}
 use Rattle.numbers.specs.declared.Mode.{Mode}
 use Rattle.numbers.specs.Order.{greater}
-use Rattle.engine.specs.Documents.{Key, Doc, Entry}
+use Rattle.document.specs.Documents.{Key, Doc, Entry}
 
 -- a document is greater than another in the published order
-abbrev pub above : Mode → Doc → Doc → Bool
-above m a b = greater m (a .numbers) (b .numbers)
+abbrev pub greaterDoc : Mode → Doc → Doc → Bool
+greaterDoc m a b = greater m (a .numbers) (b .numbers)
 
 -- membership, in plain words: equal to one of them
 infix 20 _∈_
@@ -24,12 +24,12 @@ d ∈ (e ∷ es) = (d ≡ e) ⊎ (d ∈ es)
 -- "the greatest is the one that every other is smaller than or the same as"
 pub record Greatest (m : Mode) (d : Doc) (ds : List Doc) : Type 0 where
   pub among : d ∈ ds
-  pub top : (e : Doc) → e ∈ ds → (above m d e ≡ true) ⊎ (e ≡ d)
+  pub top : (e : Doc) → e ∈ ds → (greaterDoc m d e ≡ true) ⊎ (e ≡ d)
 
 -- the document that a key holds, if any, as a list
-abbrev pub held : Option Doc → List Doc
-held none = []
-held (some e) = e ∷ []
+abbrev pub optionList : Option Doc → List Doc
+optionList none = []
+optionList (some e) = e ∷ []
 
 -- the documents written for a key
 abbrev pub for : Key → List Entry → List Doc
@@ -47,22 +47,22 @@ newKeys known [] = 0
 newKeys known (w ∷ ws) = cond (known (w .key)) (newKeys known ws) (suc (newKeys (λ k. same (w .key) k || known k) ws))
 
 -- the largest of a number and the writes' CAS numbers
-abbrev pub largest : ℕ → List Entry → ℕ
-largest n [] = n
-largest n (w ∷ ws) = largest (max n (w .doc .numbers .cas .0)) ws
+abbrev pub largestCas : ℕ → List Entry → ℕ
+largestCas n [] = n
+largestCas n (w ∷ ws) = largestCas (max n (w .doc .numbers .cas .0)) ws
 
 abbrev pub beatsAll : Mode → Doc → List Doc → Bool
 beatsAll m w [] = true
-beatsAll m w (e ∷ es) = above m w e && beatsAll m w es
+beatsAll m w (e ∷ es) = greaterDoc m w e && beatsAll m w es
 
 -- "A call's status is 0 exactly if its write is greater than the key's stored one at the start, if any, and than all earlier writes for the key in the list; otherwise 0x02."
 abbrev pub verdicts : Mode → (Key → Option Doc) → List Entry → List Entry → List ℕ
 verdicts m start earlier [] = []
 verdicts m start earlier (w ∷ ws) =
-    cond (beatsAll m (w .doc) (held (start (w .key)) ++ for (w .key) earlier)) 0 0x02 ∷ verdicts m start (earlier ++ w ∷ []) ws
+    cond (beatsAll m (w .doc) (optionList (start (w .key)) ++ for (w .key) earlier)) 0 0x02 ∷ verdicts m start (earlier ++ w ∷ []) ws
 
 -- the writes with status 0
-abbrev pub stored : List ℕ → List Entry → List Entry
-stored [] ws = []
-stored (s ∷ ss) [] = []
-stored (s ∷ ss) (w ∷ ws) = cond (eqb s 0) (w ∷ stored ss ws) (stored ss ws)
+abbrev pub applied : List ℕ → List Entry → List Entry
+applied [] ws = []
+applied (s ∷ ss) [] = []
+applied (s ∷ ss) (w ∷ ws) = cond (eqb s 0) (w ∷ applied ss ws) (applied ss ws)

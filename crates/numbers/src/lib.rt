@@ -4,7 +4,7 @@ ghost use mathlib.Core.Path.{_≡_};
 ghost use Prim.Native.Nat.{max};
 ghost use Rattle.numbers.specs.Order.{modeOf, above, lead, second, greater};
 ghost use Rattle.numbers.specs.Expiry.{expired, passes, absolute};
-ghost use Rattle.numbers.specs.Growth.{next};
+ghost use Rattle.numbers.specs.Growth.{next, incremented, decremented};
 
 pub struct Cas(pub u64);
 
@@ -110,4 +110,18 @@ pub fn larger(a: u64, b: u64) -> u64
     ensures { λ r. ⌜ r ≡ max a b ⌝ }
 {
     if a < b { b } else { a }
+}
+
+// A counter's number and a delta more; past 2^64 - 1 it begins at 0 again.
+pub fn increment(n: u64, delta: u64) -> u64
+    ensures { λ r. ⌜ r ≡ incremented n delta ⌝ }
+{
+    std::num::wrapping_add_u64(n, delta)
+}
+
+// A delta less, and no less than 0.
+pub fn decrement(n: u64, delta: u64) -> u64
+    ensures { λ r. ⌜ r ≡ decremented n delta ⌝ }
+{
+    if delta <= n { n - delta } else { 0 }
 }

@@ -3,3 +3,4 @@ pub mod Lists
 pub mod Numbers
 pub mod Tests
 pub mod Words
+pub mod Options

@@ -84,7 +84,12 @@ module _ (s : List ℕ) (at : ℕ) where
   unfolding pasted
   pasted-on xs ys h =
       let l : length (take at s ++ xs) ≡ at + length xs = simp (length-append, length-take) (omega arith) in
-      rw (← append-assoc (take at s) xs (drop (at + length xs) s), take-at (take at s ++ xs) (drop (at + length xs) s) (at + length xs) l, drop-past (take at s ++ xs) (drop (at + length xs) s) (at + length xs) (length ys) l)
+      rw (
+        ← append-assoc (take at s) xs (drop (at + length xs) s),
+        take-at (take at s ++ xs) (drop (at + length xs) s) (at + length xs) l,
+        drop-past
+            (take at s ++ xs) (drop (at + length xs) s) (at + length xs) (length ys) l,
+      )
       (simp (append-assoc, length-append, drop-drop, add-assoc))
 
   pub pasted-self : (n : ℕ) → at + n ≤ length s → s ≡ pasted s at (part s at n)

@@ -1,4 +1,4 @@
--- Eight bytes as one number, the first byte the lowest, as the machine loads them. Only speed hangs on it.
+-- For the code alone: eight bytes as one number, the first byte the lowest, as the machine loads them. Only speed hangs on it.
 use Prim.Native.Nat.{ℕ, _+_, _*_}
 use mathlib.Core.List.{List, [], _∷_}
 use mathlib.Core.Bool.{cond}

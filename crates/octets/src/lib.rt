@@ -1,13 +1,23 @@
 // Bytes in lent memory: parts of a slice, big-endian numbers, writing, comparing. Every public function is total:
 // a part that isn't there reads as empty, and a write that doesn't fit changes nothing.
 ghost use mathlib.Core.Path.{_≡_};
-ghost use Prim.Native.Nat.{ℕ, _+_, _^_, _≤_, _<_};
+ghost use Prim.Native.Nat.{ℕ, _+_, _-_, _^_, _≤_, _<_};
 ghost use lib.ListN.{length, drop, replicate};
 ghost use lib.Dec.{leb};
 ghost use Rattle.octets.specs.Parts.{part, pasted, written};
 ghost use Rattle.octets.specs.BigEndian.{num, bytesOf};
 ghost use Rattle.octets.specs.Words.{little, wordAt};
 ghost use Rattle.octets.specs.Compare.{zeros, same};
+
+// a - b, or 0 where b is larger.
+pub fn minus(a: usize, b: usize) -> usize
+    ensures { λ r. ⌜ r ≡ a - b ⌝ }
+{
+    if a < b {
+        return 0;
+    }
+    a - b
+}
 
 // The bytes from a place on.
 pub fn rest(s: &[u8], at: usize) -> &[u8]

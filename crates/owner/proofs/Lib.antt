@@ -1,4 +1,3 @@
 pub mod Making
-pub mod Purging
 pub mod Reading
 pub mod Tells

@@ -8,40 +8,31 @@ use lib.Dec.{leb, eqb}
 use lib.ListN.{length, replicate, length-append, length-replicate, drop-of-length-le}
 use borrow.Author.Tests.{leb-true, eqb-true}
 use Rattle.octets.specs.Parts.{pasted, written}
-use Rattle.octets.specs.BigEndian.{bytesOf}
 use Rattle.octets.proofs.Choices.{both}
-use Rattle.octets.proofs.Lists.{then, then-two, written-fits, length-written}
-use Rattle.octets.proofs.Numbers.{length-bytes}
-use Rattle.table.specs.Table.{tableBytes, fresh}
-use Rattle.table.specs.Damage.{sizeOk}
-use Rattle.table.proofs.ChangeLaws.{fresh-bytes}
+use Rattle.octets.proofs.Lists.{then, written-fits}
+use Rattle.rows.specs.Table.{headBytes, tableBytes, fresh}
+use Rattle.rows.proofs.Writes.{head-length}
+use Rattle.rows.specs.RowRules.{sizeOk}
+use Rattle.plain.proofs.ChangeLaws.{fresh-bytes}
 use Rattle.owner.specs.Owner.{makeOk, makeOutcome, made}
 
 pasted-all : (s xs : List ℕ) → length xs ≡ length s → pasted s 0 xs ≡ xs
 unfolding pasted
 pasted-all s xs e = ap (λ (t : List ℕ). xs ++ t) (drop-of-length-le s {i = 0 + length xs} (omega arith)) ∙ append-nil xs
 
--- the four writes of a fresh table
-pub fresh-put : (s0 s1 s2 s3 s4 : List ℕ) (n state mode vbucket : ℕ) → length s0 ≡ 16 + n * 1312
-    → s1 ≡ written s0 0 (bytesOf 1 state) → s2 ≡ written s1 1 (bytesOf 1 mode) → s3 ≡ written s2 2 (bytesOf 2 vbucket) → s4 ≡ written s3 4 (replicate (12 + n * 1312) 0)
-    → s4 ≡ tableBytes (fresh n state mode vbucket)
-fresh-put s0 s1 s2 s3 s4 n state mode vbucket l p q r t =
-    let a = bytesOf 1 state in
-    let b = bytesOf 1 mode in
-    let v = bytesOf 2 vbucket in
-    let z = replicate {A = ℕ} (12 + n * 1312) 0 in
-    let la : length a ≡ 1 = length-bytes 1 state in
-    let lb : length b ≡ 1 = length-bytes 1 mode in
-    let lv : length v ≡ 2 = length-bytes 2 vbucket in
-    let lz : length z ≡ 12 + n * 1312 = length-replicate (12 + n * 1312) 0 in
-    let lvz : length (v ++ z) ≡ length v + length z = length-append v z in
-    let lbvz : length (b ++ (v ++ z)) ≡ length b + length (v ++ z) = length-append b (v ++ z) in
-    let all : length (a ++ (b ++ (v ++ z))) ≡ length s0 = rw length-append (omega arith) in
-    let m : length s2 ≡ length s0 = ap length q ∙ length-written s1 1 b ∙ ap length p ∙ length-written s0 0 a in
-    let f : s4 ≡ written s2 2 (v ++ z) = then s2 s3 s4 2 4 v z r t (omega arith) (omega arith) in
-    then-two s0 s1 s2 s4 0 1 2 a b (v ++ z) p q f (omega arith) (omega arith) (omega arith)
-    ∙ written-fits s0 0 (a ++ (b ++ (v ++ z))) (omega arith)
-    ∙ pasted-all s0 (a ++ (b ++ (v ++ z))) all
+-- the two writes of a fresh table
+pub fresh-put : (s0 s1 s2 : List ℕ) (n state mode vbucket : ℕ) → length s0 ≡ 16 + n * 1312
+    → s1 ≡ written s0 0 (headBytes (fresh n state mode vbucket .head)) → s2 ≡ written s1 16 (replicate (n * 1312) 0)
+    → s2 ≡ tableBytes (fresh n state mode vbucket)
+fresh-put s0 s1 s2 n state mode vbucket l p q =
+    let a = headBytes (fresh n state mode vbucket .head) in
+    let z = replicate {A = ℕ} (n * 1312) 0 in
+    let la : length a ≡ 16 = head-length (fresh n state mode vbucket .head) in
+    let lz : length z ≡ n * 1312 = length-replicate (n * 1312) 0 in
+    let all : length (a ++ z) ≡ length s0 = length-append a z ∙ omega arith in
+    then s0 s1 s2 0 16 a z p q (omega arith) (omega arith)
+    ∙ written-fits s0 0 (a ++ z) (omega arith)
+    ∙ pasted-all s0 (a ++ z) all
     ∙ sym (fresh-bytes n state mode vbucket)
 
 module _ (b : List ℕ) (n state mode vbucket : ℕ) where

@@ -7,11 +7,11 @@ use mathlib.Core.Logic.{_⊎_}
 use mathlib.Core.Option.{Option, none, some}
 use lib.ListN.{length}
 use Rattle.octets.specs.Parts.{Bytes, part}
-use Rattle.engine.specs.Documents.{Key, Doc}
-use Rattle.engine.specs.Stored.{storedOf, live}
-use Rattle.table.specs.Table.{tableOf}
-use Rattle.table.specs.Damage.{sound}
-use Rattle.table.specs.Plain.{findRow}
+use Rattle.document.specs.Documents.{Key, Doc}
+use Rattle.document.specs.Stored.{storedOf, live}
+use Rattle.rows.specs.Table.{tableOf}
+use Rattle.plain.specs.Damage.{sound}
+use Rattle.rows.specs.Find.{findRow}
 use Rattle.owner.specs.declared.Document.the-variants.{Missing, Live}
 use Rattle.owner.specs.Owner.{readOf, purgedBytes, made, makeOutcome}
 

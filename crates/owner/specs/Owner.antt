@@ -1,39 +1,38 @@
 -- The owner's calls, on any memory: make a fresh table, read a document, purge. "Both answer 5 on a damaged table and change nothing."
 use Prim.Native.Nat.{ℕ, _+_, _*_}
 use mathlib.Core.List.{List}
-use mathlib.Core.Bool.{Bool, cond, _&&_, _||_}
+use mathlib.Core.Bool.{Bool, cond, _&&_}
+use mathlib.Core.Option.{Option, none, some}
 use lib.ListN.{length}
 use lib.Dec.{leb}
-use Rattle.numbers.specs.Expiry.{expired}
-use Rattle.engine.specs.Documents.{Doc}
-use Rattle.engine.specs.Stored.{heldOf, live}
-use Rattle.engine.specs.declared.Stored.the-variants.{Used}
-use Rattle.table.specs.declared.Found.{Found}
-use Rattle.table.specs.declared.Found.the-variants.{At, Nothing}
-use Rattle.table.specs.Row.{slotOf, docOf}
-use Rattle.table.specs.Table.{tableOf, tableBytes, fresh}
-use Rattle.table.specs.Lookup.{findIn}
-use Rattle.table.specs.Damage.{sizeOk, sound}
-use Rattle.table.specs.Store.{rowAt, valueAt}
-use Rattle.table.specs.Purge.{purgedTable, goneCount}
+use Rattle.document.specs.Documents.{Key, Doc}
+use Rattle.document.specs.Stored.{metadataOf, live, goneDoc}
+use Rattle.document.specs.declared.Stored.the-variants.{Used}
+use Rattle.rows.specs.Row.{Row}
+use Rattle.rows.specs.Table.{tableOf, tableBytes, fresh}
+use Rattle.rows.specs.RowRules.{sizeOk}
+use Rattle.rows.specs.Find.{findRow, valuePlace}
+use Rattle.plain.specs.Damage.{sound}
+use Rattle.plain.specs.Plain.{plain}
+use Rattle.plain.specs.Purge.{goneCount}
 use Rattle.owner.specs.declared.Document.{Document}
 use Rattle.owner.specs.declared.Document.the-variants.{Damaged, Missing, Live}
 use Rattle.owner.specs.declared.Purged.{Purged}
-use Rattle.owner.specs.declared.Purged.the-variants.{Spoiled, Freed}
+use Rattle.owner.specs.declared.Purged.the-variants.{Damaged as NotPurged, Freed}
 
 -- 01's numbers for the answers: outcome 5 on a damaged table, status 0x01 where there is no live document
-abbrev pub outcomeOf : Document → ℕ
-outcomeOf Damaged = 5
-outcomeOf Missing = 0
-outcomeOf (Live n at len) = 0
+abbrev pub readOutcome : Document → ℕ
+readOutcome Damaged = 5
+readOutcome Missing = 0
+readOutcome (Live n at len) = 0
 
-abbrev pub statusOf : Document → ℕ
-statusOf Damaged = 0
-statusOf Missing = 0x01
-statusOf (Live n at len) = 0
+abbrev pub readStatus : Document → ℕ
+readStatus Damaged = 0
+readStatus Missing = 0x01
+readStatus (Live n at len) = 0
 
 abbrev pub purgeOutcome : Purged → ℕ
-purgeOutcome Spoiled = 5
+purgeOutcome NotPurged = 5
 purgeOutcome (Freed n) = 0
 
 -- the bytes that a table of n rows needs, 0 where no table has so many
@@ -53,25 +52,16 @@ unfolding makeOk
 made b n state mode vbucket = cond (makeOk (length b) n state mode) (tableBytes (fresh n state mode vbucket)) b
 
 -- "the live document's four numbers and where its value stands in the table memory, or status 0x01 exactly if there is none"
-unfoldable pub shownAt : List ℕ → ℕ → ℕ → Document
-shownAt b clock i = cond (live (Used (heldOf (docOf (rowAt b i)))) clock) (Live (slotOf (rowAt b i) .numbers) (valueAt b i) (slotOf (rowAt b i) .vallen)) Missing
+abbrev pub shown : List Row → ℕ → Key → Option Doc → Document
+shown rows clock key none = Missing
+shown rows clock key (some d) = cond (live (Used (metadataOf d)) clock) (Live (d .numbers) (valuePlace rows key 16) (length (d .value))) Missing
 
-abbrev pub shown : List ℕ → ℕ → Found → Document
-shown b clock (At i) = shownAt b clock i
-shown b clock Nothing = Missing
-
-unfoldable pub readOf : List ℕ → ℕ → List ℕ → Document
-unfolding shownAt
-readOf b clock key = cond (sound b) (shown b clock (findIn key 0 (tableOf b .rows))) Damaged
+unfoldable pub readOf : List ℕ → ℕ → Key → Document
+readOf b clock key = cond (sound b) (shown (tableOf b .rows) clock key (findRow (tableOf b .rows) key)) Damaged
 
 -- "It frees exactly the tombstones and expired documents with CAS at or below the bound, reports how many, and leaves the mark."
-unfoldable pub goneDoc : ℕ → ℕ → Doc → Bool
-goneDoc clock bound d = (d .tomb || expired (d .numbers .expiry) clock) && leb (d .numbers .cas .0) bound
-
 unfoldable pub purgeOf : List ℕ → ℕ → ℕ → Purged
-unfolding goneDoc
-purgeOf b clock bound = cond (sound b) (Freed (goneCount (goneDoc clock bound) (tableOf b .rows))) Spoiled
+purgeOf b clock bound = cond (sound b) (Freed (goneCount (goneDoc clock bound) (tableOf b .rows))) NotPurged
 
 unfoldable pub purgedBytes : List ℕ → ℕ → ℕ → List ℕ
-unfolding goneDoc
-purgedBytes b clock bound = cond (sound b) (tableBytes (purgedTable (goneDoc clock bound) (tableOf b))) b
+purgedBytes b clock bound = cond (sound b) (tableBytes (record { head = tableOf b .head; rows = plain .purge (tableOf b .rows) (goneDoc clock bound) })) b

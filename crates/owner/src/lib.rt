@@ -1,18 +1,17 @@
 // The owner's calls on a table in lent memory: make a fresh one, read a document, purge.
 ghost use mathlib.Core.Path.{_≡_};
-ghost use mathlib.Core.List.{_++_};
 ghost use Prim.Native.Nat.{_+_, _*_, _≤_};
-ghost use lib.ListN.{length, take, drop};
-ghost use Rattle.engine.specs.Stored.{heldOf};
-ghost use Rattle.table.specs.Row.{docOf, rowOf};
-ghost use Rattle.table.specs.Table.{tableBytes, fresh};
-ghost use Rattle.table.specs.Purge.{purgeBytes, purgeCount, purgeRow, gone};
-ghost use Rattle.owner.specs.Owner.{sizeOf, makeOk, makeOutcome, made, shownAt, shown, readOf, goneDoc, purgeOf, purgedBytes};
-ghost use Rattle.octets.specs.Parts.{part, pasted};
-use engine::Stored;
+ghost use lib.ListN.{length};
+ghost use Rattle.rows.specs.Table.{tableBytes, fresh};
+ghost use Rattle.owner.specs.Owner.{sizeOf, makeOk, makeOutcome, made, readOf, purgeOf, purgedBytes};
+ghost use Rattle.owner.specs.Shown.{shownBy};
+use document::Head;
+use engine::Checked;
 use numbers::Cas;
 use numbers::Numbers;
-use table::Found;
+use rows::HEADER;
+use rows::ROW;
+use table::Lookup;
 
 // Outcome 5, status 0x01, or the live document's four numbers and where its value stands: a place and a length.
 pub enum Document {
@@ -23,7 +22,7 @@ pub enum Document {
 
 // Outcome 5, or how many rows were freed.
 pub enum Purged {
-    Spoiled,
+    Damaged,
     Freed(usize),
 }
 
@@ -37,13 +36,13 @@ pub fn size(rows: usize) -> usize
     if 256 < rows {
         return 0;
     }
-    16 + rows * 1312
+    HEADER + rows * ROW
 }
 
 fn make_ok(len: usize, rows: usize, state: u8, mode: u8) -> bool
     ensures { λ r. ⌜ r ≡ makeOk len rows state mode ⌝ }
 {
-    let size = table::damage::size_ok(len, rows);
+    let size = rows::damage::size_ok(len, rows);
     size & (((1 <= state) & (state <= 4)) & ((1 <= mode) & (mode <= 2)))
 }
 
@@ -51,10 +50,15 @@ fn put_fresh(s: &mut [u8], rows: usize, state: u8, mode: u8, vbucket: u16)
     requires { ⌜ (length (now s) ≡ 16 + rows * 1312) × (rows ≤ 256) ⌝ }
     ensures { λ _. ⌜ now (s .exit) ≡ tableBytes (fresh rows state mode vbucket) ⌝ }
 {
-    octets::put_be(s, 0, 1, state as u64);
-    octets::put_be(s, 1, 1, mode as u64);
-    octets::put_be(s, 2, 2, vbucket as u64);
-    octets::put_zeros(s, 4, 12 + rows * 1312);
+    let h = Head {
+        state,
+        mode,
+        vbucket,
+        clock: 0,
+        mark: Cas(0),
+    };
+    rows::put_head(s, h);
+    octets::put_zeros(s, HEADER, rows * ROW);
 }
 
 // Makes a fresh table: 0, or 5 where it is refused and the memory is unchanged.
@@ -68,80 +72,33 @@ pub fn make(s: &mut [u8], rows: usize, state: u8, mode: u8, vbucket: u16) -> u8
     0
 }
 
-fn shown_at(s: &[u8], clock: u32, i: usize) -> Document
-    ensures { λ r. ⌜ r ≡ shownAt (now (s .entry)) clock i ⌝ }
+fn shown(l: Lookup, clock: u32) -> Document
+    ensures { λ r. ⌜ r ≡ shownBy clock l ⌝ }
 {
-    if !engine::live(Stored::Used(table::store::held_at(s, i)), clock) {
+    let stored = l.stored;
+    if !document::live(stored, clock) {
         return Document::Missing;
     }
-    let h = table::store::slot_at(s, i);
-    let numbers = h.numbers;
-    Document::Live(numbers, table::store::value_at(s, i), h.vallen as usize)
-}
-
-fn shown(s: &[u8], clock: u32, f: Found) -> Document
-    ensures { λ r. ⌜ r ≡ shown (now (s .entry)) clock f ⌝ }
-{
-    match f {
-        Found::At(i) => shown_at(s, clock, i),
-        Found::Nothing => Document::Missing,
-    }
+    let numbers = document::numbers_of(stored);
+    Document::Live(numbers, l.at, l.len)
 }
 
 // Reads a key's live document. Nothing changes.
 pub fn read(s: &[u8], clock: u32, key: &[u8]) -> Document
     ensures { λ r. ⌜ r ≡ readOf (now (s .entry)) clock (now (key .entry)) ⌝ }
 {
-    if !table::damage::is_sound(s) {
-        return Document::Damaged;
+    match table::checked(s) {
+        Checked::Damaged => Document::Damaged,
+        Checked::Sound(_) => shown(table::find(s, key, false), clock),
     }
-    shown(s, clock, table::lookup::find(s, key))
-}
-
-// Whether a purge frees a row.
-fn row_gone(r: &[u8], clock: u32, bound: u64) -> bool
-    ensures { λ b. ⌜ b ≡ gone (goneDoc clock bound) (rowOf (now (r .entry))) ⌝ }
-{
-    let h = table::row::slot(r);
-    let over = (h.kind == 2) | numbers::expired(h.numbers.expiry, clock);
-    (h.kind != 0) & (over & (h.numbers.cas.0 <= bound))
-}
-
-// Frees the row at a place where the purge is to free it, and says whether it did.
-fn purge_row(s: &mut [u8], at: usize, clock: u32, bound: u64) -> bool
-    requires { ⌜ at + 1312 ≤ length (now s) ⌝ }
-    ensures { λ r. ⌜ (r ≡ gone (goneDoc clock bound) (rowOf (part (now (s .entry)) at 1312))) × (now (s .exit) ≡ pasted (now (s .entry)) at (purgeRow (goneDoc clock bound) (part (now (s .entry)) at 1312))) ⌝ }
-{
-    if row_gone(octets::part(s, at, 1312), clock, bound) {
-        octets::put_zeros(s, at, 1312);
-        return true;
-    }
-    false
-}
-
-fn purge_rows(s: &mut [u8], n: usize, clock: u32, bound: u64) -> usize
-    requires { ⌜ (n ≤ 256) × (length (now s) ≡ 16 + n * 1312) ⌝ }
-    ensures { λ r. ⌜ (r ≡ purgeCount (goneDoc clock bound) n (drop 16 (now (s .entry)))) × (now (s .exit) ≡ take 16 (now (s .entry)) ++ purgeBytes (goneDoc clock bound) n (drop 16 (now (s .entry)))) ⌝ }
-{
-    let mut at: usize = 16;
-    let mut left = n;
-    let mut count: usize = 0;
-    while 0 < left {
-        if purge_row(s, at, clock, bound) {
-            count += 1;
-        }
-        at += 1312;
-        left -= 1;
-    }
-    count
 }
 
 // Frees the tombstones and expired documents with CAS at or below the bound, and says how many.
 pub fn purge(s: &mut [u8], clock: u32, bound: Cas) -> Purged
     ensures { λ r. ⌜ (r ≡ purgeOf (now (s .entry)) clock (bound .0)) × (now (s .exit) ≡ purgedBytes (now (s .entry)) clock (bound .0)) ⌝ }
 {
-    if !table::damage::is_sound(s) {
-        return Purged::Spoiled;
+    match table::checked(s) {
+        Checked::Damaged => Purged::Damaged,
+        Checked::Sound(_) => Purged::Freed(table::purge(s, clock, bound)),
     }
-    Purged::Freed(purge_rows(s, table::rows_in(s.len()), clock, bound.0))
 }

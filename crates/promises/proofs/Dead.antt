@@ -6,25 +6,23 @@ use lib.Dec.{eqb, ltb}
 use Rattle.digits.specs.declared.Number.{Number}
 use Rattle.digits.specs.Decimal.{numberOf}
 use Rattle.numbers.specs.declared.Numbers.{Numbers}
-use Rattle.numbers.specs.declared.Mode.{Mode}
 use Rattle.numbers.specs.Expiry.{expired}
-use Rattle.numbers.specs.Order.{modeOf}
-use Rattle.engine.specs.declared.Head.{Head}
-use Rattle.engine.specs.declared.Stored.{Stored}
-use Rattle.engine.specs.declared.Stored.the-variants.{Used, Nothing}
-use Rattle.engine.specs.Stored.{storedOf, live, accepted}
-use Rattle.commands.specs.declared.Ask.{Ask}
+use Rattle.document.specs.declared.Head.{Head}
+use Rattle.document.specs.declared.Stored.{Stored}
+use Rattle.document.specs.declared.Stored.the-variants.{Used, Nothing}
+use Rattle.document.specs.Stored.{live, accepted}
+use Rattle.commands.specs.declared.Context.{Context}
+use Rattle.commands.specs.declared.Instruction.{Instruction}
 use Rattle.commands.specs.declared.Done.{Done}
-use Rattle.commands.specs.Rules.{Rule}
 use Rattle.commands.specs.declared.Command.{Command}
-use Rattle.commands.specs.declared.Command.the-variants.{Get, Write, Count, Noop, Version, WithMeta}
-use Rattle.commands.specs.Rules.{ruleOf, testsOf, statusOf}
+use Rattle.commands.specs.declared.Command.the-variants.{Get, Write, Delete, Count, Noop, Version, WithMeta}
+use Rattle.commands.specs.Rules.{Rule, ruleOf, testsOf, statusBy}
 use Rattle.commands.specs.Done.{decision, doneOf}
-use Rattle.commands.specs.Decide.{decide, askOf, valueOf}
-use Rattle.asks.specs.Asks.{requestOf}
-use Rattle.table.specs.Plain.{freeRows}
+use Rattle.commands.specs.Decide.{contextOf, decide, instructionOf}
+use Rattle.decode.specs.Decode.{requestOf}
+use Rattle.rows.specs.Find.{freeRows}
 use Rattle.serving.specs.Serve.{decisionOn, answerOn}
-use Rattle.promises.proofs.Formed.{by-cond}
+use Rattle.serving.proofs.Formed.{by-cond}
 use Rattle.promises.specs.Expiry.{ExpiredIsDead, ExpiredServed, GetKeeps}
 
 -- a row with these numbers, a tombstone or not
@@ -37,65 +35,65 @@ module _ (r : Numbers) (clock : ℕ) (past : expired (r .expiry) clock ≡ true)
   dead true = refl
   dead false = rw past
 
-  same-rule : (m : Mode) (c : Command) → ruleOf m (row false r) clock c ≡ ruleOf m (row true r) clock c
-  unfolding ruleOf accepted
-  same-rule m (Get k) = refl
-  same-rule m (Write p) = refl
-  same-rule m (Count k) = refl
-  same-rule m Noop = refl
-  same-rule m Version = refl
-  same-rule m (WithMeta w) = refl
+  module _ (h : Head) (free : Bool) (n : Number) where
+    seen : Bool → Context
+    seen tomb = record { head = h; row = row tomb r; free = free; clock = clock; number = n }
 
-  same-tests : (h : Head) (free : Bool) (n : Number) (q : Ask) (t : Rule)
-      → testsOf h (row false r) free clock n q t ≡ testsOf h (row true r) free clock n q t
-  unfolding testsOf
-  same-tests h free n q t = rw (dead false, dead true)
+    same-rule : (x : Command) → ruleOf (seen false) x ≡ ruleOf (seen true) x
+    unfolding seen ruleOf accepted
+    same-rule (Get k) = refl
+    same-rule (Write p) = refl
+    same-rule Delete = refl
+    same-rule (Count k) = refl
+    same-rule Noop = refl
+    same-rule Version = refl
+    same-rule (WithMeta w) = refl
 
-  same-done : (h : Head) (n : Number) (c : Command) → doneOf h (row false r) clock n c ≡ doneOf h (row true r) clock n c
-  unfolding doneOf
-  same-done h n (Get k) = refl
-  same-done h n (Write p) = refl
-  same-done h n (Count k) = rw (dead false, dead true)
-  same-done h n Noop = refl
-  same-done h n Version = refl
-  same-done h n (WithMeta w) = refl
+    same-tests : (i : Instruction) (t : Rule) → testsOf (seen false) i t ≡ testsOf (seen true) i t
+    unfolding seen testsOf
+    same-tests i t = rw (dead false, dead true)
 
-  same-decision : (h : Head) (free : Bool) (n : Number) (q : Ask) → decision h (row false r) free clock n q ≡ decision h (row true r) free clock n q
-  unfolding decision
-  same-decision h free n q =
-      rw (
-        same-rule (modeOf (h .mode)) (q .command),
-        same-tests h free n q (ruleOf (modeOf (h .mode)) (row true r) clock (q .command)),
-        same-done h n (q .command),
-      )
+    same-done : (x : Command) → doneOf (seen false) x ≡ doneOf (seen true) x
+    unfolding seen doneOf
+    same-done (Get k) = refl
+    same-done (Write p) = refl
+    same-done Delete = refl
+    same-done (Count k) = rw (dead false, dead true)
+    same-done Noop = refl
+    same-done Version = refl
+    same-done (WithMeta w) = refl
+
+    same-decision : (i : Instruction) → decision (seen false) i ≡ decision (seen true) i
+    unfolding decision seen
+    same-decision i = rw (same-rule (i .command), same-tests i (ruleOf (seen true) (i .command)), same-done (i .command))
 
 pub expired-is-dead : ExpiredIsDead
-unfolding decide
-expired-is-dead h d free clock q held past = rw (held, same-decision (d .numbers) clock past h free (numberOf (d .value)) (askOf q))
+unfolding decide seen
+expired-is-dead h d free clock q held past = rw (held, same-decision (d .numbers) clock past h free (numberOf (d .value)) (instructionOf q))
 
 pub expired-served : ExpiredServed
-unfolding decisionOn answerOn
+unfolding decisionOn answerOn seen
 expired-served t u clock s h d heads frees found buried-there held past =
-    let same = same-decision (d .numbers) clock past (u .head) (ltb 0 (freeRows (u .rows))) (numberOf (d .value)) (askOf (requestOf s h)) in
+    let same = same-decision (d .numbers) clock past (u .head) (ltb 0 (freeRows (u .rows))) (numberOf (d .value)) (instructionOf (requestOf s h)) in
     (rw (heads, frees, found, buried-there, held, same), rw (heads, frees, found, buried-there, held, same))
 
 -- of a Get, found or not, nothing is stored
-module _ (h : Head) where
+module _ (c : Context) where
   abbrev Kept : Done → Type 0
-  Kept x = (x .store ≡ Nothing) × (x .head ≡ h)
+  Kept x = (x .store ≡ Nothing) × (x .head ≡ c .head)
 
-  got : (s : Stored) (clock : ℕ) (n : Number) (keyed : Bool) → Kept (doneOf h s clock n (Get keyed))
+  got : (keyed : Bool) → Kept (doneOf c (Get keyed))
   unfolding doneOf
-  got s clock n keyed = (refl, refl)
+  got keyed = (refl, refl)
 
-  get-kept : (s : Stored) (free : Bool) (clock : ℕ) (n : Number) (q : Ask) (keyed : Bool) → q .command ≡ Get keyed → Kept (decision h s free clock n q .done)
+  get-kept : (i : Instruction) (keyed : Bool) → i .command ≡ Get keyed → Kept (decision c i .done)
   unfolding decision
-  get-kept s free clock n q keyed e =
-      by-cond Kept (eqb (statusOf (testsOf h s free clock n q (ruleOf (modeOf (h .mode)) s clock (q .command)))) 0) _ _
-      (λ t. subst (λ (c : Command). Kept (doneOf h s clock n c)) (sym e) (got s clock n keyed)) (λ t. (refl, refl))
+  get-kept i keyed e =
+      by-cond Kept (eqb (statusBy c i (ruleOf c (i .command))) 0) _ _
+      (λ t. subst (λ (x : Command). Kept (doneOf c x)) (sym e) (got keyed)) (λ t. (refl, refl))
 
 pub get-keeps : GetKeeps
 unfolding decide
 get-keeps h row free clock q keyed e =
-    let k = get-kept h (storedOf row) free clock (numberOf (valueOf row)) (askOf q) keyed e in
+    let k = get-kept (contextOf h row free clock) (instructionOf q) keyed e in
     (rw (k .0) refl, k .1)

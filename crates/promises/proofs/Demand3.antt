@@ -9,64 +9,67 @@ use Rattle.octets.specs.Parts.{Bytes}
 use Rattle.octets.specs.Compare.{same}
 use Rattle.octets.proofs.Choices.{cases}
 use Rattle.numbers.specs.declared.Mode.{Mode}
-use Rattle.engine.specs.Documents.{Key, Doc}
+use Rattle.document.specs.Documents.{Key, Doc}
 use Rattle.header.specs.Header.{headerOf}
 use Rattle.request.specs.declared.Gate.the-variants.{Whole}
 use Rattle.request.specs.Reading.{gateOf, frameStatus, keySpan, bytesIn}
+use Rattle.request.proofs.Gated.{whole-frame}
 use Rattle.commands.specs.Decide.{Effect, decide}
-use Rattle.asks.specs.Asks.{requestOf}
-use Rattle.table.specs.Row.{Row}
-use Rattle.table.specs.Table.{Table, tableOf, tableBytes}
-use Rattle.table.specs.Claims.{AllGood, Good}
-use Rattle.table.specs.Plain.{findRow, plain}
-use Rattle.table.proofs.PlainLaws.{none-some, plain-laws}
-use Rattle.table.proofs.TableLaws.{sound-good, good-sound}
+use Rattle.decode.specs.Decode.{requestOf}
+use Rattle.rows.specs.Row.{Row}
+use Rattle.rows.specs.Table.{Table, tableOf, tableBytes}
+use Rattle.plain.specs.Claims.{Good}
+use Rattle.rows.specs.Good.{AllGood}
+use Rattle.plain.specs.Plain.{plain}
+use Rattle.rows.specs.Find.{findRow}
+use Rattle.plain.proofs.PlainLaws.{plain-laws}
+use Rattle.octets.proofs.Options.{none-some}
+use Rattle.plain.proofs.TableLaws.{sound-good, good-sound}
 use Rattle.merge.specs.Merge.{All, changed, effectOn, tableOn, tableAfter, statusesOf}
 use Rattle.merge.specs.Merge as abstract
 use Rattle.merge.proofs.Demand3 as abstractly
-use Rattle.serving.specs.Serve.{served, servedTable, gateAll, decisionOn, answerOn}
-use Rattle.promises.proofs.Step.{step-good}
-use Rattle.promises.specs.Calls.{Call, servedBy, tableBy, bytesAfter, answers, statusOf}
-use Rattle.promises.specs.Step.{stepTable, StepGood}
-use Rattle.promises.specs.Merge.{Merging, modeAt, docAt, writes, Premises, Merged, Demand3}
+use Rattle.serving.specs.Serve.{served, servedTable, gateAll, decisionOn, answerOn, frameChange, frameTable}
+use Rattle.serving.proofs.Change.{change-good}
+use Rattle.promises.specs.Calls.{Call, servedBy, tableServed, bytesAfter, answers, statusIn}
+use Rattle.promises.specs.Merge.{MergingCall, modeAt, docAt, writes, Premises, Merged, Demand3}
 use Rattle.promises.proofs.MergingCall.{asked, all-asked}
 
 -- a table, as an engine's
-abbrev viewed : Table → abstract.Table plain
+abbrev viewed : Table → abstract.State plain
 viewed t = record { head = t .head; rows = t .rows }
 
 -- a call that is served, and whose frame keeps the reader's rules
-record Serves (c : Call) : Type 0 where
+record Passes (c : Call) : Type 0 where
   bytes : Bytes (c .received)
   room : 1302 ≤ length (c .reply)
   whole : gateOf (c .received) ≡ Whole (headerOf (c .received))
   form : frameStatus (c .received) (headerOf (c .received)) ≡ 0
 
-all-serve : (m : Mode) (v : ℕ) (cs : List Call) → All (Merging m v) cs → All Serves cs
-all-serve m v [] p = tt
-all-serve m v (c ∷ cs) p = (record { bytes = p .0 .bytes; room = p .0 .room; whole = p .0 .whole; form = p .0 .form }, all-serve m v cs (p .1))
+all-pass : (m : Mode) (v : ℕ) (cs : List Call) → All (MergingCall m v) cs → All Passes cs
+all-pass m v [] p = tt
+all-pass m v (c ∷ cs) p = (record { bytes = p .0 .bytes; room = p .0 .room; whole = p .0 .whole; form = p .0 .form }, all-pass m v cs (p .1))
 
 -- ---- one call
 abbrev stepped : Table → Call → Table
-stepped t c = stepTable t (c .clock) (c .received) (headerOf (c .received))
+stepped t c = frameChange t (c .clock) (c .received) (headerOf (c .received))
 
 abbrev steppedAll : Table → List Call → Table
 steppedAll t [] = t
 steppedAll t (c ∷ cs) = steppedAll (stepped t c) cs
 
-effect-same : (t : Table) (c : Call) → Serves c → answerOn t (c .clock) (c .received) (headerOf (c .received)) .effect ≡ effectOn plain (viewed t) (asked c)
+effect-same : (t : Table) (c : Call) → Passes c → answerOn t (c .clock) (c .received) (headerOf (c .received)) .effect ≡ effectOn plain (viewed t) (asked c)
 unfolding answerOn decisionOn effectOn decide requestOf
 effect-same t c w = rw (w .form)
 
-step-same : (t : Table) (c : Call) → Serves c → viewed (stepped t c) ≡ tableOn plain (viewed t) (asked c)
+step-same : (t : Table) (c : Call) → Passes c → viewed (stepped t c) ≡ tableOn plain (viewed t) (asked c)
 unfolding tableOn requestOf
 step-same t c w = ap (changed plain (viewed t) (bytesIn (c .received) (keySpan (headerOf (c .received))))) (effect-same t c w)
 
-gate-go : (t : Table) (c : Call) → Good t → Serves c → gateAll (tableBytes t) (length (c .reply)) (c .received) ≡ Whole (headerOf (c .received))
+gate-go : (t : Table) (c : Call) → Good t → Passes c → gateAll (tableBytes t) (length (c .reply)) (c .received) ≡ Whole (headerOf (c .received))
 unfolding gateAll
 gate-go t c g w = rw (good-sound t g .0, le-ltb (length (c .reply)) 1302 (w .room)) (w .whole)
 
-status-same : (t : Table) (c : Call) → Good t → Serves c → statusOf (servedBy (tableBytes t) c) ≡ effectOn plain (viewed t) (asked c) .status
+status-same : (t : Table) (c : Call) → Good t → Passes c → statusIn (servedBy (tableBytes t) c) ≡ effectOn plain (viewed t) (asked c) .status
 unfolding served
 status-same t c g w = rw (gate-go t c g w, good-sound t g .1) (ap (λ (x : Effect). x .status) (effect-same t c w))
 
@@ -75,32 +78,33 @@ record Lifted (t : Table) (cs : List Call) : Type 0 where
   good : Good (steppedAll t cs)
   bytes : bytesAfter (tableBytes t) cs ≡ tableBytes (steppedAll t cs)
   table : viewed (steppedAll t cs) ≡ tableAfter plain (viewed t) (map asked cs)
-  statuses : map statusOf (answers (tableBytes t) cs) ≡ statusesOf plain (viewed t) (map asked cs)
+  statuses : map statusIn (answers (tableBytes t) cs) ≡ statusesOf plain (viewed t) (map asked cs)
 
-module _ (step : StepGood) where
-  table-same : (t : Table) (c : Call) → Good t → Serves c → tableBy (tableBytes t) c ≡ tableBytes (stepped t c)
-  unfolding servedTable
-  table-same t c g w = rw (gate-go t c g w) (step t (c .clock) (c .received) (headerOf (c .received)) g (w .bytes) (w .whole) .bytes)
+table-same : (t : Table) (c : Call) → Good t → Passes c → tableServed (tableBytes t) c ≡ tableBytes (stepped t c)
+unfolding servedTable frameTable
+table-same t c g w = rw (gate-go t c g w) (ap (λ (x : Table). tableBytes (stepped x c)) (good-sound t g .1))
 
-  lifted : (t : Table) (cs : List Call) → Good t → All Serves cs → Lifted t cs
-  lifted t [] g w = record { good = g; bytes = refl; table = refl; statuses = refl }
-  lifted t (c ∷ cs) g w =
-      let r = lifted (stepped t c) cs (step t (c .clock) (c .received) (headerOf (c .received)) g (w .0 .bytes) (w .0 .whole) .good) (w .1) in
-      let e = table-same t c g (w .0) in
-      let v = step-same t c (w .0) in
-      record {
-        good = r .good;
-        bytes = ap (λ (x : List ℕ). bytesAfter x cs) e ∙ r .bytes;
-        table = r .table ∙ ap (λ (x : abstract.Table plain). tableAfter plain x (map asked cs)) v;
-        statuses =
-            ap (λ (x : List ℕ). statusOf (servedBy (tableBytes t) c) ∷ map statusOf (answers x cs)) e
-            ∙ ap (λ (n : ℕ). n ∷ map statusOf (answers (tableBytes (stepped t c)) cs)) (status-same t c g (w .0))
-            ∙ ap (λ (l : List ℕ). effectOn plain (viewed t) (asked c) .status ∷ l) (r .statuses)
-            ∙ ap (λ (x : abstract.Table plain). effectOn plain (viewed t) (asked c) .status ∷ statusesOf plain x (map asked cs)) v;
-      }
+lifted : (t : Table) (cs : List Call) → Good t → All Passes cs → Lifted t cs
+lifted t [] g w = record { good = g; bytes = refl; table = refl; statuses = refl }
+lifted t (c ∷ cs) g w =
+    let h = headerOf (c .received) in
+    let good = change-good t (c .clock) (c .received) h g (w .0 .bytes) (whole-frame (c .received) h (w .0 .whole) .inside) in
+    let r = lifted (stepped t c) cs good (w .1) in
+    let e = table-same t c g (w .0) in
+    let v = step-same t c (w .0) in
+    record {
+      good = r .good;
+      bytes = ap (λ (x : List ℕ). bytesAfter x cs) e ∙ r .bytes;
+      table = r .table ∙ ap (λ (x : abstract.State plain). tableAfter plain x (map asked cs)) v;
+      statuses =
+          ap (λ (x : List ℕ). statusIn (servedBy (tableBytes t) c) ∷ map statusIn (answers x cs)) e
+          ∙ ap (λ (n : ℕ). n ∷ map statusIn (answers (tableBytes (stepped t c)) cs)) (status-same t c g (w .0))
+          ∙ ap (λ (l : List ℕ). effectOn plain (viewed t) (asked c) .status ∷ l) (r .statuses)
+          ∙ ap (λ (x : abstract.State plain). effectOn plain (viewed t) (asked c) .status ∷ statusesOf plain x (map asked cs)) v;
+    }
 
 -- ---- the premises and the promises
-writes-same : (cs : List Call) → abstract.writes (map asked cs) ≡ writes cs
+writes-same : (cs : List Call) → abstract.writesOf (map asked cs) ≡ writes cs
 writes-same [] = refl
 writes-same (c ∷ cs) = rw (writes-same cs)
 
@@ -112,14 +116,14 @@ found-below mark (some x ∷ rows) k d g e =
     (λ s. let e′ = rw s at e in let z : x .doc ≡ d = cc in rw (← z) (g .0 .cas-most))
     (λ s. found-below mark rows k d (g .1) (rw s at e))
 
-module _ (step : StepGood) (b : List ℕ) (cs : List Call) (p : Premises b cs) where
+module _ (b : List ℕ) (cs : List Call) (p : Premises b cs) where
   good : Good (tableOf b)
   good = sound-good b (p .bytes) (p .undamaged) .1
 
   back : tableBytes (tableOf b) ≡ b
   back = sound-good b (p .bytes) (p .undamaged) .0
 
-  premises : abstract.Premises plain (viewed (tableOf b)) (map asked cs)
+  premises : abstract.MergePremises plain (viewed (tableOf b)) (map asked cs)
   premises = record {
     sound = record { good = good .keys; below = λ k d e. found-below (tableOf b .head .mark .0) (tableOf b .rows) k d (good .rows) e };
     active = p .active;
@@ -128,11 +132,11 @@ module _ (step : StepGood) (b : List ℕ) (cs : List Call) (p : Premises b cs) w
     unique = λ k. rw (writes-same cs) (p .unique k);
   }
 
-  merged : abstract.Merged plain (viewed (tableOf b)) (map asked cs)
+  merged : abstract.MergedState plain (viewed (tableOf b)) (map asked cs)
   merged = abstractly.demand-3 plain plain-laws (viewed (tableOf b)) (map asked cs) premises
 
   run : Lifted (tableOf b) cs
-  run = lifted step (tableOf b) cs good (all-serve (modeAt b) (tableOf b .head .vbucket) cs (p .merging))
+  run = lifted (tableOf b) cs good (all-pass (modeAt b) (tableOf b .head .vbucket) cs (p .merging))
 
   ends : bytesAfter b cs ≡ tableBytes (steppedAll (tableOf b) cs)
   ends = ap (λ (x : List ℕ). bytesAfter x cs) (sym back) ∙ run .bytes
@@ -140,11 +144,11 @@ module _ (step : StepGood) (b : List ℕ) (cs : List Call) (p : Premises b cs) w
   after : viewed (tableOf (bytesAfter b cs)) ≡ tableAfter plain (viewed (tableOf b)) (map asked cs)
   after = ap viewed (ap tableOf ends ∙ good-sound (steppedAll (tableOf b) cs) (run .good) .1) ∙ run .table
 
-  codes : map statusOf (answers b cs) ≡ statusesOf plain (viewed (tableOf b)) (map asked cs)
-  codes = ap (λ (x : List ℕ). map statusOf (answers x cs)) (sym back) ∙ run .statuses
+  codes : map statusIn (answers b cs) ≡ statusesOf plain (viewed (tableOf b)) (map asked cs)
+  codes = ap (λ (x : List ℕ). map statusIn (answers x cs)) (sym back) ∙ run .statuses
 
   docs : (k : Key) → docAt (bytesAfter b cs) k ≡ abstract.docIn plain (tableAfter plain (viewed (tableOf b)) (map asked cs)) k
-  docs k = ap (λ (x : abstract.Table plain). abstract.docIn plain x k) after
+  docs k = ap (λ (x : abstract.State plain). abstract.docIn plain x k) after
 
   on-bytes : Merged b cs
   on-bytes = record {
@@ -153,14 +157,11 @@ module _ (step : StepGood) (b : List ℕ) (cs : List Call) (p : Premises b cs) w
         (d, docs k ∙ e, rw (writes-same cs) at g);
     others = λ k w. docs k ∙ merged .others k (rw (writes-same cs) w);
     statuses = codes ∙ rw (writes-same cs) at (merged .statuses);
-    mark = ap (λ (x : abstract.Table plain). x .head) after ∙ (rw (codes, ← writes-same cs) (merged .mark));
-    mark-last = λ e. ap (λ (x : abstract.Table plain). x .head .mark .0) after ∙ (rw (writes-same cs) at (merged .mark-last e));
+    mark = ap (λ (x : abstract.State plain). x .head) after ∙ (rw (codes, ← writes-same cs) (merged .mark));
+    mark-last = λ e. ap (λ (x : abstract.State plain). x .head .mark .0) after ∙ (rw (writes-same cs) at (merged .mark-last e));
     undamaged = rw ends (good-sound (steppedAll (tableOf b) cs) (run .good) .0);
   }
 
-demand-3 : StepGood → Demand3
-demand-3 step b cs p = on-bytes step b cs p
-
 -- demand 3 of document 01
 pub merge-on-bytes : Demand3
-merge-on-bytes = demand-3 step-good
+merge-on-bytes b cs p = on-bytes b cs p

@@ -6,24 +6,30 @@ use Rattle.octets.specs.Compare.{zeros, same}
 use Rattle.digits.specs.Decimal.{digits, digitsIn, numberOf, numberFrom, allDigits, isDigit, valueFrom}
 use Rattle.numbers.specs.Order.{greater, above, lead, second}
 use Rattle.numbers.specs.Expiry.{expired, passes, absolute}
-use Rattle.engine.specs.Stored.{accepted, live}
-use Rattle.shape.specs.Shapes.{commands, bare, unbuilt, lookUp, among, shapeOf}
+use Rattle.document.specs.Stored.{accepted, live}
+use Rattle.shape.specs.Shapes.{commands, unbuilt, lookUp, among, shapeOf}
 use Rattle.header.specs.Header.{headerOf, frontBytes, middleBytes, backBytes, headerBytes}
-use Rattle.rules.specs.WithMeta.{numbersOf, optionsOf, sectionOf, withMeta}
+use Rattle.rules.specs.WithMeta.{carriedNumbers, optionsOf, sectionOf, withMeta}
 use Rattle.rules.specs.Section.{fieldOk, fieldSize, walk, fieldsOk, sectionOk}
 use Rattle.rules.specs.Rules.{formOk, numbersOk, bodyOk, withMetaOk, metaSize, fieldRulesOk, judged, status}
 use Rattle.request.specs.Reading.{gateOf, extrasSpan, keySpan, valueSpan, frameStatus}
-use Rattle.commands.specs.Rules.{ruleOf, testsOf, statusOf, firstFailure}
+use Rattle.commands.specs.Rules.{ruleOf, testsOf, firstStatus, firstFailure}
 use Rattle.commands.specs.Done.{decision, doneOf}
-use Rattle.asks.specs.Asks.{plainOf, counterOf, metaOf, plainCommand, commandOf, valueOf, requestOf}
-use Rattle.table.specs.Row.{slotOf, sizeBytes, shortBytes, longBytes, slotBytes, docOf, keyOf, rowOf, slotFor, usedBytes, rowBytes}
-use Rattle.table.specs.Table.{headOf, tableOf, headBytes, tableBytes}
-use Rattle.table.specs.Damage.{sizeOk, headOk, usedOk, rowSound, sound}
-use Rattle.table.specs.Store.{stored}
+use Rattle.decode.specs.Decode.{plainOf, counterOf, metaCommand, commandOf, bareValue, requestOf}
+use Rattle.rows.specs.Row.{slotOf, sizeBytes, shortBytes, longBytes, slotBytes, docOf, keyOf, rowOf, slotFor, usedBytes, rowBytes}
+use Rattle.rows.specs.Table.{headOf, tableOf, headBytes, tableBytes}
+use Rattle.plain.specs.Damage.{sound}
+use Rattle.rows.specs.RowRules.{sizeOk, headOk, usedOk, rowSound}
 use Rattle.serving.specs.Reply.{replyHeader, replyBytes}
 use Rattle.serving.specs.Serve.{gateAll, decisionOn, answerOn, frameTable, frameReply, served, servedTable, servedReply}
 use Rattle.promises.specs.Judged.{Judged}
 
 pub judged-examples : Judged
-unfolding pasted written beFrom be bytesOf zeros same digits digitsIn numberOf numberFrom allDigits isDigit valueFrom greater above lead second expired passes absolute accepted live commands bare unbuilt lookUp among shapeOf headerOf frontBytes middleBytes backBytes headerBytes numbersOf optionsOf sectionOf withMeta fieldOk fieldSize walk fieldsOk sectionOk formOk numbersOk bodyOk withMetaOk metaSize fieldRulesOk judged status gateOf extrasSpan keySpan valueSpan frameStatus ruleOf testsOf statusOf firstFailure decision doneOf plainOf counterOf metaOf plainCommand commandOf valueOf requestOf slotOf sizeBytes shortBytes longBytes slotBytes docOf keyOf rowOf slotFor usedBytes rowBytes headOf tableOf headBytes tableBytes sizeOk headOk usedOk rowSound sound stored replyHeader replyBytes gateAll decisionOn answerOn frameTable frameReply served servedTable servedReply
+unfolding pasted written beFrom be bytesOf zeros same digits digitsIn numberOf numberFrom allDigits isDigit valueFrom greater above lead second
+    expired passes absolute accepted live commands unbuilt lookUp among shapeOf headerOf frontBytes middleBytes backBytes headerBytes carriedNumbers
+    optionsOf sectionOf withMeta fieldOk fieldSize walk fieldsOk sectionOk formOk numbersOk bodyOk withMetaOk metaSize fieldRulesOk judged status
+    gateOf extrasSpan keySpan valueSpan frameStatus ruleOf testsOf firstStatus firstFailure decision doneOf plainOf counterOf metaCommand commandOf
+    bareValue requestOf slotOf sizeBytes shortBytes longBytes slotBytes docOf keyOf rowOf slotFor usedBytes rowBytes headOf tableOf headBytes
+    tableBytes sizeOk headOk usedOk rowSound sound replyHeader replyBytes gateAll decisionOn answerOn frameTable frameReply served servedTable
+    servedReply
 judged-examples = refl

@@ -1,6 +1,3 @@
-pub mod Formed
-pub mod Kept
-pub mod Step
 pub mod Sound
 pub mod MergingCall
 pub mod Demand3
@@ -8,3 +5,4 @@ pub mod Keeps
 pub mod Dead
 pub mod Judged
 pub mod Worked
+pub mod Candidates

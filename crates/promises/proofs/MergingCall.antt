@@ -1,7 +1,7 @@
 -- A merging call on bytes is a merging call on abstract tables.
 use Prim.Native.Nat.{ℕ, _+_, _-_, _≤_}
 use mathlib.Core.Path.{_≡_, refl}
-use mathlib.Core.Bool.{true, false, not, _||_}
+use mathlib.Core.Bool.{true, false, not}
 use mathlib.Core.Logic.{⊎-elim}
 use mathlib.Core.List.{List, [], _∷_, map}
 use native.Mathlib.Omega.{arith}
@@ -13,7 +13,7 @@ use Rattle.octets.proofs.Lists.{part-length, part-most}
 use Rattle.numbers.specs.declared.Mode.{Mode}
 use Rattle.numbers.specs.declared.Mode.the-variants.{ByRevision, LastWrite}
 use Rattle.shape.specs.declared.Shape.{Shape}
-use Rattle.shape.specs.Shapes.{shapeOf}
+use Rattle.shape.specs.Shapes.{among, shapeOf}
 use Rattle.header.specs.declared.Header.{Header}
 use Rattle.header.specs.Header.{headerOf}
 use Rattle.rules.specs.declared.WithMeta.{WithMeta}
@@ -22,43 +22,45 @@ use Rattle.rules.specs.Rules.{formOk, fieldRulesOk, metaSize, judged, status}
 use Rattle.rules.proofs.RuleLaws.{parts-inside}
 use Rattle.request.proofs.Gated.{whole-frame}
 use Rattle.request.specs.Reading.{frameStatus, extrasSpan, valueSpan, bytesIn}
-use Rattle.commands.specs.declared.Kind.{Kind}
-use Rattle.commands.specs.declared.Kind.the-variants.{Set, Delete}
+use Rattle.commands.specs.declared.MetaKind.{MetaKind}
+use Rattle.commands.specs.declared.MetaKind.the-variants.{Set, Delete}
 use Rattle.commands.specs.declared.Command.{Command}
 use Rattle.commands.specs.declared.Command.the-variants.{WithMeta as Metas}
 use Rattle.commands.specs.Rules.{isLast}
-use Rattle.commands.specs.Merging.{SetOrDelete, meta, metaOf}
+use Rattle.commands.specs.Merging.{SetOrDelete, meta, metaIn}
 use Rattle.commands.specs.Merging as abstract
-use Rattle.asks.specs.Asks.{either, commandOf, valueOf, requestOf}
-use Rattle.asks.specs.Asks as asks
+use Rattle.decode.specs.Decode.{commandOf, bareValue, requestOf}
+use Rattle.decode.specs.Decode as decoding
 use Rattle.merge.specs.Merge.{All}
 use Rattle.promises.specs.Calls.{Call}
-use Rattle.promises.specs.Merge.{optionsFor, Merging}
+use Rattle.promises.specs.Merge.{optionsFor, MergingCall}
+use Rattle.serving.proofs.Formed.{no}
 
 -- what a call asks for
-abbrev pub asked : Call → abstract.Call
+abbrev pub asked : Call → abstract.RequestAt
 asked c = record { clock = c .clock; request = requestOf (c .received) (headerOf (c .received)) }
 
 -- ---- the command
-kind-of : (op : ℕ) (extras : List ℕ) → (either op 0xa2 0xa3 || either op 0xa8 0xa9) ≡ true
-    → (k : Kind) × SetOrDelete k × (commandOf op extras ≡ asks.metaOf k (withMeta extras))
-unfolding commandOf
+kind-of : (op : ℕ) (extras : List ℕ) → among op (0xa2 ∷ 0xa3 ∷ 0xa8 ∷ 0xa9 ∷ []) ≡ true
+    → (k : MetaKind) × SetOrDelete k × (commandOf (shapeOf op .operation) extras ≡ decoding.metaCommand k (withMeta extras))
+unfolding among commandOf shapeOf
 kind-of op extras e =
-    ⊎-elim
-    (λ s. ⊎-elim (λ z. rw (eqb-true op 0xa2 z) (Set, tt, refl)) (λ z. rw (eqb-true op 0xa3 z) (Set, tt, refl)) (one-of (eqb op 0xa2) (eqb op 0xa3) s))
-    (λ s. ⊎-elim (λ z. rw (eqb-true op 0xa8 z) (Delete, tt, refl)) (λ z. rw (eqb-true op 0xa9 z) (Delete, tt, refl)) (one-of (eqb op 0xa8) (eqb op 0xa9) s))
-    (one-of (either op 0xa2 0xa3) (either op 0xa8 0xa9) e)
+    ⊎-elim (λ z. rw (eqb-true op 0xa2 z) (Set, tt, refl))
+    (λ e₁. ⊎-elim (λ z. rw (eqb-true op 0xa3 z) (Set, tt, refl))
+    (λ e₂. ⊎-elim (λ z. rw (eqb-true op 0xa8 z) (Delete, tt, refl))
+    (λ e₃. ⊎-elim (λ z. rw (eqb-true op 0xa9 z) (Delete, tt, refl)) (λ z. no z)
+    (one-of (eqb op 0xa9) _ e₃)) (one-of (eqb op 0xa8) _ e₂)) (one-of (eqb op 0xa3) _ e₁)) (one-of (eqb op 0xa2) _ e)
 
 record Metaed (m : Mode) (x : Command) : Type 0 where
-  with-meta : x ≡ Metas (metaOf x)
-  kind : SetOrDelete (metaOf x .kind)
-  last : metaOf x .last ≡ isLast m
-  force : metaOf x .force ≡ false
-  regenerate : metaOf x .regenerate ≡ false
-  skip : metaOf x .skip ≡ false
+  with-meta : x ≡ Metas (metaIn x)
+  kind : SetOrDelete (metaIn x .kind)
+  last : metaIn x .last ≡ isLast m
+  force : metaIn x .force ≡ false
+  regenerate : metaIn x .regenerate ≡ false
+  skip : metaIn x .skip ≡ false
 
-metaed : (m : Mode) (x : Command) (k : Kind) (w : WithMeta) → SetOrDelete k → x ≡ asks.metaOf k w → w .options ≡ optionsFor m → Metaed m x
-unfolding asks.metaOf
+metaed : (m : Mode) (x : Command) (k : MetaKind) (w : WithMeta) → SetOrDelete k → x ≡ decoding.metaCommand k w → w .options ≡ optionsFor m → Metaed m x
+unfolding decoding.metaCommand
 metaed ByRevision x k w d e o = rw e (record { with-meta = refl; kind = d; last = rw o; force = rw o; regenerate = rw o; skip = rw o })
 metaed LastWrite x k w d e o = rw e (record { with-meta = refl; kind = d; last = rw o; force = rw o; regenerate = rw o; skip = rw o })
 
@@ -72,8 +74,8 @@ judged-short s h extras value e =
     (λ u e₂. cond-elim (not (fieldRulesOk s extras value)) _ _ _ e₂ (λ v z. absurd (omega arith))
     (λ v e₃. cond-elim (ltb 1024 (length value - metaSize s extras)) _ _ _ e₃ (λ w z. absurd (omega arith)) (λ w z. ltb-false _ _ w))))
 
-value-short : (s : List ℕ) (h : Header) → 24 + h .body ≤ length s → frameStatus s h ≡ 0 → length (valueOf s h) ≤ 1024
-unfolding valueOf frameStatus valueSpan status
+value-short : (s : List ℕ) (h : Header) → 24 + h .body ≤ length s → frameStatus s h ≡ 0 → length (bareValue s h) ≤ 1024
+unfolding bareValue frameStatus valueSpan status
 value-short s h w e =
     let i = parts-inside h (bytesIn s (extrasSpan h)) (bytesIn s (valueSpan h)) e in
     let n = h .body - (h .extlen + h .keylen) in
@@ -84,13 +86,13 @@ value-short s h w e =
     omega arith
 
 -- ---- the call
-merging-asked : (m : Mode) (v : ℕ) (c : Call) → Merging m v c → abstract.Merging m v (meta (asked c)) (asked c)
+merging-asked : (m : Mode) (v : ℕ) (c : Call) → MergingCall m v c → abstract.MergingRequest m v (meta (asked c)) (asked c)
 unfolding requestOf
 merging-asked m v c p =
     let s = c .received in
     let h = headerOf s in
     let (k, d, e) = kind-of (h .opcode) (bytesIn s (extrasSpan h)) (p .opcode) in
-    let x = metaed m (commandOf (h .opcode) (bytesIn s (extrasSpan h))) k (withMeta (bytesIn s (extrasSpan h))) d e (p .options) in
+    let x = metaed m (commandOf (shapeOf (h .opcode) .operation) (bytesIn s (extrasSpan h))) k (withMeta (bytesIn s (extrasSpan h))) d e (p .options) in
     record {
       with-meta = x .with-meta;
       kind = x .kind;
@@ -103,6 +105,6 @@ merging-asked m v c p =
       skip = x .skip;
     }
 
-pub all-asked : (m : Mode) (v : ℕ) (cs : List Call) → All (Merging m v) cs → All (λ c. abstract.Merging m v (meta c) c) (map asked cs)
+pub all-asked : (m : Mode) (v : ℕ) (cs : List Call) → All (MergingCall m v) cs → All (λ c. abstract.MergingRequest m v (meta c) c) (map asked cs)
 all-asked m v [] p = tt
 all-asked m v (c ∷ cs) p = (merging-asked m v c (p .0), all-asked m v cs (p .1))

@@ -1,6 +1,6 @@
 -- The table stays sound under serving, whatever the bytes, the clock and the room.
 use Prim.Native.Nat.{ℕ}
-use mathlib.Core.Path.{_≡_, refl, sym, ap, _∙_}
+use mathlib.Core.Path.{_≡_, refl}
 use mathlib.Core.Bool.{true, cond, not}
 use mathlib.Core.List.{List}
 use lib.Dec.{ltb}
@@ -9,24 +9,22 @@ use Rattle.header.specs.declared.Header.{Header}
 use Rattle.request.specs.declared.Gate.{Gate}
 use Rattle.request.specs.declared.Gate.the-variants.{Stop, Whole}
 use Rattle.request.specs.Reading.{gateOf}
-use Rattle.table.specs.Table.{tableOf}
-use Rattle.table.specs.Damage.{sound}
-use Rattle.table.proofs.TableLaws.{sound-good, good-sound}
-use Rattle.serving.specs.Serve.{gateAll, frameTable, tableBy, servedTable}
-use Rattle.promises.specs.Step.{stepTable}
+use Rattle.request.proofs.Gated.{whole-frame}
+use Rattle.rows.specs.Table.{tableOf}
+use Rattle.plain.specs.Damage.{sound}
+use Rattle.plain.proofs.TableLaws.{sound-good, good-sound}
+use Rattle.serving.specs.Serve.{gateAll, frameChange, frameTable, tableBy, servedTable}
 use Rattle.promises.specs.Table.{StaysSound}
-use Rattle.promises.proofs.Formed.{by-cond}
-use Rattle.promises.proofs.Step.{step-good}
+use Rattle.serving.proofs.Formed.{by-cond}
+use Rattle.serving.proofs.Change.{change-good}
 
 module _ (b : List ℕ) (clock : ℕ) (s : List ℕ) (y : Bytes b) (z : Bytes s) (e : sound b ≡ true) where
   abbrev Stays : Gate → Type 0
   Stays g = sound (tableBy b clock s g) ≡ true
 
   whole : (h : Header) → gateOf s ≡ Whole h → sound (frameTable b clock s h) ≡ true
-  whole h w =
-      let p = sound-good b y e in
-      let q = step-good (tableOf b) clock s h (p .1) z w in
-      ap (λ (x : List ℕ). sound (frameTable x clock s h)) (sym (p .0)) ∙ ap sound (q .bytes) ∙ good-sound (stepTable (tableOf b) clock s h) (q .good) .0
+  unfolding frameTable
+  whole h w = good-sound (frameChange (tableOf b) clock s h) (change-good (tableOf b) clock s h (sound-good b y e .1) z (whole-frame s h w .inside)) .0
 
   gated : (g : Gate) → gateOf s ≡ g → Stays g
   gated (Stop n need) w = e

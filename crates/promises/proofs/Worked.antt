@@ -15,10 +15,10 @@ use Rattle.octets.proofs.Lists.{bytes-cons}
 use Rattle.numbers.specs.declared.Mode.{Mode}
 use Rattle.numbers.specs.declared.Numbers.{Numbers}
 use Rattle.numbers.specs.Order.{greater}
-use Rattle.engine.specs.Documents.{Key, Doc}
+use Rattle.document.specs.Documents.{Key, Doc}
 use Rattle.engine.specs.Engine.{isSome}
-use Rattle.engine.specs.Stored.{accepted}
-use Rattle.shape.specs.Shapes.{shapeOf}
+use Rattle.document.specs.Stored.{accepted}
+use Rattle.shape.specs.Shapes.{among, shapeOf}
 use Rattle.header.specs.Header.{headerOf}
 use Rattle.rules.specs.WithMeta.{withMeta}
 use Rattle.rules.specs.Section.{sectionOk}
@@ -26,20 +26,20 @@ use Rattle.rules.specs.Rules.{status}
 use Rattle.request.specs.declared.Gate.{Gate}
 use Rattle.request.specs.declared.Gate.the-variants.{Whole}
 use Rattle.request.specs.Reading.{gateOf, extrasSpan, keySpan, frameStatus, bytesIn}
-use Rattle.commands.specs.Rules.{ruleOf, testsOf, statusOf, firstFailure}
+use Rattle.commands.specs.Rules.{ruleOf, testsOf, firstStatus, firstFailure}
 use Rattle.commands.specs.Done.{decision, doneOf}
-use Rattle.asks.specs.Asks.{either, requestOf}
-use Rattle.table.specs.Row.{slotOf, rowOf, rowBytes}
-use Rattle.table.specs.Table.{tableOf, tableBytes}
-use Rattle.table.specs.Plain.{freeRows}
-use Rattle.table.specs.Damage.{sizeOk, headOk, usedOk, rowSound, sound}
-use Rattle.table.specs.Store.{stored}
+use Rattle.decode.specs.Decode.{requestOf}
+use Rattle.rows.specs.Row.{slotOf, rowOf, rowBytes}
+use Rattle.rows.specs.Table.{tableOf, tableBytes}
+use Rattle.rows.specs.Find.{freeRows}
+use Rattle.plain.specs.Damage.{sound}
+use Rattle.rows.specs.RowRules.{sizeOk, headOk, usedOk, rowSound}
 use Rattle.serving.specs.Serve.{gateAll, decisionOn, answerOn, frameTable, served, servedTable}
-use Rattle.merge.proofs.Candidates.{Holds, found-all, for-all, candidates-all}
+use Rattle.promises.proofs.Candidates.{Holds, found-all, for-all, candidates-all}
 use Rattle.merge.specs.Writes.{_∈_, for, newKeys}
 use Rattle.merge.specs.Merge.{All}
 use Rattle.promises.specs.Calls.{Call}
-use Rattle.promises.specs.Merge.{Merging, Premises, candidates, docAt, writes, optionsFor, modeAt}
+use Rattle.promises.specs.Merge.{MergingCall, Premises, candidates, docAt, writes, optionsFor, modeAt}
 use Rattle.promises.specs.Worked.{table, calls, Worked}
 use Rattle.promises.proofs.Demand3.{merge-on-bytes}
 
@@ -69,7 +69,7 @@ facts c =
       bytes = below (c .received);
       room = leb 1302 (length (c .reply));
       gate = gateOf (c .received);
-      opcode = either (h .opcode) 0xa2 0xa3 || either (h .opcode) 0xa8 0xa9;
+      opcode = among (h .opcode) (0xa2 ∷ 0xa3 ∷ 0xa8 ∷ 0xa9 ∷ []);
       form = frameStatus (c .received) h;
       options = withMeta (bytesIn (c .received) (extrasSpan h)) .options;
       vbucket = h .vbucket;
@@ -79,7 +79,7 @@ facts c =
 abbrev right : Mode → ℕ → Call → Facts
 right m v c = record { bytes = true; room = true; gate = Whole (headerOf (c .received)); opcode = true; form = 0; options = optionsFor m; vbucket = v; cas = 0 }
 
-right-merging : (m : Mode) (v : ℕ) (c : Call) → facts c ≡ right m v c → Merging m v c
+right-merging : (m : Mode) (v : ℕ) (c : Call) → facts c ≡ right m v c → MergingCall m v c
 right-merging m v c e = record {
   bytes = below-bytes (c .received) (ap (λ (x : Facts). x .bytes) e);
   room = leb-true 1302 (length (c .reply)) (ap (λ (x : Facts). x .room) e);
@@ -91,7 +91,7 @@ right-merging m v c e = record {
   header-cas = ap (λ (x : Facts). x .cas) e;
 }
 
-all-merging : (m : Mode) (v : ℕ) (cs : List Call) → map facts cs ≡ map (right m v) cs → All (Merging m v) cs
+all-merging : (m : Mode) (v : ℕ) (cs : List Call) → map facts cs ≡ map (right m v) cs → All (MergingCall m v) cs
 all-merging m v [] e = tt
 all-merging m v (c ∷ cs) e =
     let p : facts c ≡ right m v c = cc in
@@ -139,7 +139,7 @@ module _ (b : List ℕ) (cs : List Call) where
 
 -- ---- computed from bytes to bytes
 worked-computed : Computed (table 1) (calls 1) × Computed (table 2) (calls 2)
-unfolding be bytesOf zeros same shapeOf headerOf withMeta sectionOk status gateOf keySpan frameStatus requestOf slotOf rowOf rowBytes tableOf tableBytes sizeOk headOk usedOk rowSound sound
+unfolding be bytesOf zeros same among shapeOf headerOf withMeta sectionOk status gateOf keySpan frameStatus requestOf slotOf rowOf rowBytes tableOf tableBytes sizeOk headOk usedOk rowSound sound
 worked-computed = (
   record { bytes = refl; undamaged = refl; active = refl; merging = refl; room = refl; rows = search; sent = search },
   record { bytes = refl; undamaged = refl; active = refl; merging = refl; room = refl; rows = search; sent = search },
@@ -152,7 +152,9 @@ pub last-write-premises : Premises (table 2) (calls 2)
 last-write-premises = premises (table 2) (calls 2) (worked-computed .1)
 
 pub worked : Worked
-unfolding written be bytesOf zeros same greater accepted shapeOf headerOf withMeta sectionOk status gateOf keySpan frameStatus ruleOf testsOf statusOf firstFailure decision doneOf requestOf slotOf rowOf rowBytes tableOf tableBytes sizeOk headOk usedOk rowSound sound stored gateAll decisionOn answerOn frameTable served servedTable
+unfolding written be bytesOf zeros same greater accepted shapeOf headerOf withMeta sectionOk status gateOf keySpan frameStatus ruleOf testsOf
+    firstStatus firstFailure decision doneOf requestOf slotOf rowOf rowBytes tableOf tableBytes sizeOk headOk usedOk rowSound sound gateAll decisionOn
+    answerOn frameTable served servedTable
 worked = record {
   by-revision = record {
     premises = by-revision-premises;

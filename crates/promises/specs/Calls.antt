@@ -15,18 +15,18 @@ pub record Call : Type 0 where
 abbrev pub servedBy : List ℕ → Call → Served
 servedBy b c = served b (c .clock) (c .received) (length (c .reply))
 
-abbrev pub tableBy : List ℕ → Call → List ℕ
-tableBy b c = servedTable b (c .clock) (c .received) (length (c .reply))
+abbrev pub tableServed : List ℕ → Call → List ℕ
+tableServed b c = servedTable b (c .clock) (c .received) (length (c .reply))
 
 abbrev pub bytesAfter : List ℕ → List Call → List ℕ
 bytesAfter b [] = b
-bytesAfter b (c ∷ cs) = bytesAfter (tableBy b c) cs
+bytesAfter b (c ∷ cs) = bytesAfter (tableServed b c) cs
 
 abbrev pub answers : List ℕ → List Call → List Served
 answers b [] = []
-answers b (c ∷ cs) = servedBy b c ∷ answers (tableBy b c) cs
+answers b (c ∷ cs) = servedBy b c ∷ answers (tableServed b c) cs
 
 -- a status, or a number that is none where a call was refused
-abbrev pub statusOf : Served → ℕ
-statusOf (Refused n need) = 0xffff
-statusOf (Done status used len) = status
+abbrev pub statusIn : Served → ℕ
+statusIn (Refused n need) = 0xffff
+statusIn (Done status used len) = status

@@ -5,14 +5,14 @@ use mathlib.Core.Bool.{Bool, true, false}
 use mathlib.Core.List.{List}
 use mathlib.Core.Option.{Option, none, some}
 use Rattle.numbers.specs.Expiry.{expired}
-use Rattle.engine.specs.declared.Head.{Head}
-use Rattle.engine.specs.Documents.{Doc}
+use Rattle.document.specs.declared.Head.{Head}
+use Rattle.document.specs.Documents.{Doc}
 use Rattle.header.specs.declared.Header.{Header}
 use Rattle.request.specs.Reading.{bytesIn, keySpan}
 use Rattle.commands.specs.declared.Command.the-variants.{Get}
 use Rattle.commands.specs.Decide.{Request, decide}
-use Rattle.table.specs.Table.{Table}
-use Rattle.table.specs.Plain.{findRow, freeRows}
+use Rattle.rows.specs.Table.{Table}
+use Rattle.rows.specs.Find.{findRow, freeRows}
 use Rattle.serving.specs.Serve.{decisionOn, answerOn}
 
 -- the same row without its document

@@ -5,12 +5,12 @@ use mathlib.Core.Bool.{false}
 use mathlib.Core.List.{List, [], _∷_, _++_, map}
 use mathlib.Core.Option.{Option, none, some}
 use lib.ListN.{length, take, replicate}
-use Rattle.engine.specs.Documents.{Key, Doc}
-use Rattle.table.specs.Table.{tableBytes, fresh}
+use Rattle.document.specs.Documents.{Key, Doc}
+use Rattle.rows.specs.Table.{tableBytes, fresh}
 use Rattle.serving.specs.declared.Served.{Served}
 use Rattle.serving.specs.declared.Served.the-variants.{Refused, Done}
 use Rattle.serving.specs.Serve.{servedReply}
-use Rattle.promises.specs.Calls.{Call, servedBy, tableBy, bytesAfter, answers, statusOf}
+use Rattle.promises.specs.Calls.{Call, servedBy, tableServed, bytesAfter, answers, statusIn}
 use Rattle.promises.specs.Merge.{docAt}
 
 -- ---- what comes of a list of calls
@@ -21,7 +21,7 @@ replyIn (Done status used len) area = take len area
 
 abbrev replies : List ℕ → List Call → List (List ℕ)
 replies b [] = []
-replies b (c ∷ cs) = replyIn (servedBy b c) (servedReply b (c .clock) (c .received) (c .reply)) ∷ replies (tableBy b c) cs
+replies b (c ∷ cs) = replyIn (servedBy b c) (servedReply b (c .clock) (c .received) (c .reply)) ∷ replies (tableServed b c) cs
 
 -- the status and the whole reply of each call, and the document that the key's row holds after the last
 pub record Outcome : Type 0 where
@@ -30,7 +30,7 @@ pub record Outcome : Type 0 where
   pub stored : Option Doc
 
 abbrev outcome : List ℕ → List Call → Key → Outcome
-outcome b cs k = record { statuses = map statusOf (answers b cs); replies = replies b cs; stored = docAt (bytesAfter b cs) k }
+outcome b cs k = record { statuses = map statusIn (answers b cs); replies = replies b cs; stored = docAt (bytesAfter b cs) k }
 
 pub record Example : Type 0 where
   pub given : Outcome

@@ -1,5 +1,4 @@
 pub mod Calls
-pub mod Step
 pub mod Merge
 pub mod Table
 pub mod Expiry

@@ -1,29 +1,30 @@
 -- Demand 3 on bytes: a whole list of serving calls with opcodes a2, a3, a8 and a9, from any undamaged active table.
 use Prim.Native.Nat.{ℕ, _≤_}
 use mathlib.Core.Path.{_≡_}
-use mathlib.Core.Bool.{true, false, _||_}
-use mathlib.Core.List.{List, [], _++_, map}
+use mathlib.Core.Bool.{true, false}
+use mathlib.Core.List.{List, [], _∷_, _++_, map}
 use mathlib.Core.Option.{Option, some}
 use lib.ListN.{length}
 use Rattle.octets.specs.Parts.{Bytes}
 use Rattle.numbers.specs.declared.Mode.{Mode}
 use Rattle.numbers.specs.declared.Mode.the-variants.{ByRevision, LastWrite}
 use Rattle.numbers.specs.Order.{modeOf}
-use Rattle.engine.specs.Documents.{Key, Doc, Entry}
+use Rattle.document.specs.Documents.{Key, Doc, Entry}
 use Rattle.engine.specs.Engine.{isSome}
-use Rattle.engine.specs.Head.{marked}
+use Rattle.document.specs.Head.{marked}
+use Rattle.shape.specs.Shapes.{among}
 use Rattle.header.specs.Header.{headerOf}
 use Rattle.rules.specs.WithMeta.{withMeta}
 use Rattle.request.specs.declared.Gate.the-variants.{Whole}
 use Rattle.request.specs.Reading.{gateOf, frameStatus, extrasSpan, bytesIn}
 use Rattle.commands.specs.Merging.{writeOf}
-use Rattle.asks.specs.Asks.{either, requestOf}
-use Rattle.table.specs.Table.{tableOf}
-use Rattle.table.specs.Damage.{sound}
-use Rattle.table.specs.Plain.{findRow, freeRows}
-use Rattle.merge.specs.Writes.{_∈_, Greatest, held, for, isWritten, newKeys, largest, verdicts, stored}
+use Rattle.decode.specs.Decode.{requestOf}
+use Rattle.rows.specs.Table.{tableOf}
+use Rattle.plain.specs.Damage.{sound}
+use Rattle.rows.specs.Find.{findRow, freeRows}
+use Rattle.merge.specs.Writes.{_∈_, Greatest, optionList, for, isWritten, newKeys, largestCas, verdicts, applied}
 use Rattle.merge.specs.Merge.{All}
-use Rattle.promises.specs.Calls.{Call, bytesAfter, answers, statusOf}
+use Rattle.promises.specs.Calls.{Call, bytesAfter, answers, statusIn}
 
 -- a key's document in a table's memory: "what its row holds, expired or not"
 abbrev pub docAt : List ℕ → Key → Option Doc
@@ -42,11 +43,11 @@ optionsFor ByRevision = 0
 optionsFor LastWrite = 2
 
 -- "set-with-meta and delete-with-meta writes for its vbucket that break no form, field or size rule of its mode, with header CAS 0 and none of options 0x01, 0x04, 0x08", each with outcome 0
-pub record Merging (m : Mode) (vbucket : ℕ) (c : Call) : Type 0 where
+pub record MergingCall (m : Mode) (vbucket : ℕ) (c : Call) : Type 0 where
   pub bytes : Bytes (c .received)
   pub room : 1302 ≤ length (c .reply)
   pub whole : gateOf (c .received) ≡ Whole (headerOf (c .received))
-  pub opcode : (either (headerOf (c .received) .opcode) 0xa2 0xa3 || either (headerOf (c .received) .opcode) 0xa8 0xa9) ≡ true
+  pub opcode : among (headerOf (c .received) .opcode) (0xa2 ∷ 0xa3 ∷ 0xa8 ∷ 0xa9 ∷ []) ≡ true
   pub form : frameStatus (c .received) (headerOf (c .received)) ≡ 0
   pub options : withMeta (bytesIn (c .received) (extrasSpan (headerOf (c .received)))) .options ≡ optionsFor m
   pub here : headerOf (c .received) .vbucket ≡ vbucket
@@ -56,13 +57,13 @@ abbrev pub writes : List Call → List Entry
 writes cs = map carriedBy cs
 
 abbrev pub candidates : List ℕ → List Call → Key → List Doc
-candidates b cs k = held (docAt b k) ++ for k (writes cs)
+candidates b cs k = optionList (docAt b k) ++ for k (writes cs)
 
 pub record Premises (b : List ℕ) (cs : List Call) : Type 0 where
   pub bytes : Bytes b
   pub undamaged : sound b ≡ true
   pub active : tableOf b .head .state ≡ 1
-  pub merging : All (Merging (modeAt b) (tableOf b .head .vbucket)) cs
+  pub merging : All (MergingCall (modeAt b) (tableOf b .head .vbucket)) cs
   pub room : newKeys (λ k. isSome (docAt b k)) (writes cs) ≤ freeRows (tableOf b .rows)
   pub unique : (k : Key) (x y : Doc) → x ∈ candidates b cs k → y ∈ candidates b cs k → x .numbers ≡ y .numbers → x ≡ y
 
@@ -70,10 +71,10 @@ pub record Merged (b : List ℕ) (cs : List Call) : Type 0 where
   pub winner : (k : Key) → isWritten k (writes cs) ≡ true
       → (d : Doc) × (docAt (bytesAfter b cs) k ≡ some d) × Greatest (modeAt b) d (candidates b cs k)
   pub others : (k : Key) → isWritten k (writes cs) ≡ false → docAt (bytesAfter b cs) k ≡ docAt b k
-  pub statuses : map statusOf (answers b cs) ≡ verdicts (modeAt b) (docAt b) [] (writes cs)
+  pub statuses : map statusIn (answers b cs) ≡ verdicts (modeAt b) (docAt b) [] (writes cs)
   pub mark : tableOf (bytesAfter b cs) .head
-      ≡ marked (tableOf b .head) (largest (tableOf b .head .mark .0) (stored (map statusOf (answers b cs)) (writes cs)))
-  pub mark-last : modeAt b ≡ LastWrite → tableOf (bytesAfter b cs) .head .mark .0 ≡ largest (tableOf b .head .mark .0) (writes cs)
+      ≡ marked (tableOf b .head) (largestCas (tableOf b .head .mark .0) (applied (map statusIn (answers b cs)) (writes cs)))
+  pub mark-last : modeAt b ≡ LastWrite → tableOf (bytesAfter b cs) .head .mark .0 ≡ largestCas (tableOf b .head .mark .0) (writes cs)
   pub undamaged : sound (bytesAfter b cs) ≡ true
 
 abbrev pub Demand3 : Type 0

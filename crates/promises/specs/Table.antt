@@ -5,7 +5,7 @@ use mathlib.Core.Bool.{true}
 use mathlib.Core.List.{List}
 use lib.ListN.{length}
 use Rattle.octets.specs.Parts.{Bytes}
-use Rattle.table.specs.Damage.{sound}
+use Rattle.plain.specs.Damage.{sound}
 use Rattle.serving.specs.declared.Served.the-variants.{Refused, Done}
 use Rattle.serving.specs.Serve.{served, servedTable, servedReply}
 
@@ -21,5 +21,5 @@ RefusedKeeps =
 
 abbrev pub StatusKeeps : Type 0
 StatusKeeps =
-    (b : List ℕ) (clock : ℕ) (s : List ℕ) (room status used len : ℕ) → served b clock s room ≡ Done status used len → (status ≡ 0 → ⊥)
+    (b : List ℕ) (clock : ℕ) (s : List ℕ) (room status used len : ℕ) → Bytes b → served b clock s room ≡ Done status used len → (status ≡ 0 → ⊥)
     → servedTable b clock s room ≡ b

@@ -11,18 +11,18 @@ use lib.Dec.{ltb, eqb}
 use borrow.Author.Tests.{le-ltb, lt-ltb, ltb-true}
 use Rattle.octets.proofs.Choices.{both}
 use Rattle.header.specs.declared.Header.{Header}
-use Rattle.header.specs.Header.{headerOf, headerBytes, Fits as HeaderFits}
+use Rattle.header.specs.Header.{headerOf, headerBytes, HeaderFits as HeaderFits}
 use Rattle.header.proofs.HeaderLaws.{length-header, after-header, header-back}
 use Rattle.rules.specs.Rules.{status}
 use Rattle.request.specs.declared.Fields.{Fields}
 use Rattle.request.specs.declared.Gate.the-variants.{Stop, Whole}
 use Rattle.request.specs.declared.Reading.the-variants.{Outcome, Status, Accepted}
 use Rattle.request.specs.Reading.{gateOf, extrasSpan, keySpan, valueSpan, bytesIn, frameOf, frameStatus, wholeReading, reading}
-use Rattle.request.specs.Writing.{headerFor, frameBytes, held, Fits}
+use Rattle.request.specs.Writing.{headerFor, frameBytes, lengthsHeld, FieldsFit}
 
 -- a header that holds these lengths holds the whole request
-pub header-fits : (f : Fields) (e k v : ℕ) → Fits f → held e k v ≡ true → HeaderFits (headerFor f e k v)
-unfolding headerFor held
+pub header-fits : (f : Fields) (e k v : ℕ) → FieldsFit f → lengthsHeld e k v ≡ true → HeaderFits (headerFor f e k v)
+unfolding headerFor lengthsHeld
 header-fits f e k v p w =
     let a = both (ltb e 256) (ltb k 65536 && ltb (e + k + v) (2 ^ 32)) w in
     let b = both (ltb k 65536) (ltb (e + k + v) (2 ^ 32)) (a .1) in
@@ -81,7 +81,7 @@ module _ (f : Fields) (extras key value rest : List ℕ) where
   unfoldable pub body : ℕ
   body = length extras + length key + length value
 
-  module _ (p : Fits f) (w : held (length extras) (length key) (length value) ≡ true) where
+  module _ (p : FieldsFit f) (w : lengthsHeld (length extras) (length key) (length value) ≡ true) where
     header-is : headerOf frame ≡ h
     unfolding h
     header-is = ap headerOf pieces ∙ header-back h (extras ++ (key ++ (value ++ rest))) (header-fits f (length extras) (length key) (length value) p w)

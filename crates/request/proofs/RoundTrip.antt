@@ -23,7 +23,7 @@ use Rattle.request.specs.declared.Gate.the-variants.{Stop, Whole}
 use Rattle.request.specs.declared.Reading.the-variants.{Accepted}
 use Rattle.request.specs.declared.Written.the-variants.{Refused, Wrote}
 use Rattle.request.specs.Reading.{gateOf, gated, extrasSpan, keySpan, valueSpan, bytesIn, fieldsOf, frameOf, frameStatus, wholeReading, reading}
-use Rattle.request.specs.Writing.{headerFor, frameBytes, held, refuses, writing, Fits}
+use Rattle.request.specs.Writing.{headerFor, frameBytes, lengthsHeld, refuses, writing, FieldsFit}
 use Rattle.request.specs.Claims.{Reads, WrittenReads, Writes, ReadWrites, RefusedReads, HeaderHolds}
 use Rattle.request.proofs.Gated.{WholeFrame, whole-frame}
 use Rattle.request.proofs.Frames.{h, frame, body, extras-back, key-back, value-back, reading-long, reading-frame}
@@ -31,7 +31,7 @@ use Rattle.request.proofs.WriterLaws.{alone, wrote}
 
 -- what a written frame has shown: a header holds its lengths, reading does not refuse it, and it fits
 pub record WasWritten (f : Fields) (extras key value : List ℕ) (room n : ℕ) : Type 0 where
-  pub is-held : held (length extras) (length key) (length value) ≡ true
+  pub is-held : lengthsHeld (length extras) (length key) (length value) ≡ true
   pub read : refuses (reading (frameBytes f extras key value)) ≡ false
   pub fits : length (frameBytes f extras key value) ≤ room
   pub size : length (frameBytes f extras key value) ≡ n
@@ -39,12 +39,12 @@ pub record WasWritten (f : Fields) (extras key value : List ℕ) (room n : ℕ) 
 was-written : (f : Fields) (extras key value : List ℕ) (room n : ℕ) → writing f extras key value room ≡ Wrote n → WasWritten f extras key value room n
 unfolding writing
 was-written f extras key value room n e =
-    cond-elim (not (held (length extras) (length key) (length value))) _ _ _ e (λ t z. absurd (let y : _≡_ {A = ℕ} 0 1 = cc in omega arith))
+    cond-elim (not (lengthsHeld (length extras) (length key) (length value))) _ _ _ e (λ t z. absurd (let y : _≡_ {A = ℕ} 0 1 = cc in omega arith))
     (λ t e₁. cond-elim (refuses (reading (frameBytes f extras key value))) _ _ _ e₁ (λ u z. absurd (let y : _≡_ {A = ℕ} 0 1 = cc in omega arith))
     (λ u e₂. cond-elim (ltb room (length (frameBytes f extras key value))) _ _ _ e₂ (λ v z. absurd (let y : _≡_ {A = ℕ} 0 1 = cc in omega arith))
     (λ v z. record { is-held = not-false _ t; read = u; fits = ltb-false _ _ v; size = cc })))
 
-module _ (f : Fields) (extras key value : List ℕ) (p : Fits f) (w : held (length extras) (length key) (length value) ≡ true) where
+module _ (f : Fields) (extras key value : List ℕ) (p : FieldsFit f) (w : lengthsHeld (length extras) (length key) (length value) ≡ true) where
   rules : ℕ
   rules = status (headerFor f (length extras) (length key) (length value)) extras value
 
@@ -91,19 +91,21 @@ written-reads f extras key value out n p e =
     written-fits out 0 (frameBytes f extras key value) (omega (arith, d .fits)) ∙ (unfold pasted frame in refl) in
     rw q (reads-back f extras key value p (d .is-held) (d .read) (drop (0 + length (frameBytes f extras key value)) out))
 
-refused : (f : Fields) (extras key value : List ℕ) (room : ℕ) → held (length extras) (length key) (length value) ≡ true → writing f extras key value room ≡ Refused → refuses (reading (frameBytes f extras key value)) ≡ true
+refused : (f : Fields) (extras key value : List ℕ) (room : ℕ) → lengthsHeld (length extras) (length key) (length value) ≡ true
+    → writing f extras key value room ≡ Refused → refuses (reading (frameBytes f extras key value)) ≡ true
 unfolding writing
 refused f extras key value room w e =
-    cond-elim (not (held (length extras) (length key) (length value))) _ _ _ e (λ t z. absurd (let b : false ≡ true = sym (not-true _ t) ∙ w in let y : _≡_ {A = ℕ} 0 1 = cc in omega arith))
+    cond-elim (not (lengthsHeld (length extras) (length key) (length value))) _ _ _ e (λ t z. absurd (let b : false ≡ true = sym (not-true _ t) ∙ w in let y : _≡_ {A = ℕ} 0 1 = cc in omega arith))
     (λ t e₁. cond-elim (refuses (reading (frameBytes f extras key value))) _ _ _ e₁ (λ u z. u)
-    (λ u e₂. cond-elim (ltb room (length (frameBytes f extras key value))) _ _ _ e₂ (λ v z. absurd (let y : _≡_ {A = ℕ} 0 1 = cc in omega arith)) (λ v z. absurd (let y : _≡_ {A = ℕ} 0 1 = cc in omega arith))))
+    (λ u e₂. cond-elim (ltb room (length (frameBytes f extras key value))) _ _ _ e₂ (λ v z. absurd (let y : _≡_ {A = ℕ} 0 1 = cc in omega arith))
+    (λ v z. absurd (let y : _≡_ {A = ℕ} 0 1 = cc in omega arith))))
 
 pub refused-reads : RefusedReads
 unfolding frame
 refused-reads f extras key value rest room p w e = sym (refuses-alike f extras key value p w rest) ∙ refused f extras key value room w e
 
 pub header-holds : HeaderHolds
-unfolding held
+unfolding lengthsHeld
 header-holds x p v e = rw (lt-ltb (x .extlen) 256 (p .extlen), lt-ltb (x .keylen) 65536 (p .keylen), lt-ltb (x .extlen + x .keylen + v) (2 ^ 32) (omega (arith, e, p .body)))
 
 -- what an accepted frame has shown of the bytes
@@ -183,7 +185,7 @@ module _ (s : List ℕ) (g : Frame) (b : Bytes s) (d : WasRead s g (headerOf s))
         cas = headerOf s .cas;
       }
 
-  fields-fit : Fits (fieldsOf k)
+  fields-fit : FieldsFit (fieldsOf k)
   unfolding fieldsOf k headerOf
   fields-fit = record { opcode = num-below s 1 1 b; datatype = num-below s 5 1 b; vbucket = num-below s 6 2 b; opaque = num-below s 12 4 b; cas = num-below s 16 8 b }
 

@@ -13,7 +13,7 @@ use Rattle.request.specs.declared.Fields.{Fields}
 use Rattle.request.specs.declared.Reading.the-variants.{Status, Accepted}
 use Rattle.request.specs.declared.Written.the-variants.{Refused, NoRoom, Wrote}
 use Rattle.request.specs.Reading.{reading, frameOf}
-use Rattle.request.specs.Writing.{headerFor, frameBytes, held, refuses, writing, Fits}
+use Rattle.request.specs.Writing.{headerFor, frameBytes, lengthsHeld, refuses, writing, FieldsFit}
 use Rattle.request.proofs.Frames.{reading-long, reading-frame, length-frame, h, frame, body}
 
 module _ (f : Fields) (extras key value : List ℕ) (room : ℕ) where
@@ -27,28 +27,28 @@ module _ (f : Fields) (extras key value : List ℕ) (room : ℕ) where
   pub frame-size : length (frameBytes f extras key value) ≡ 24 + (length extras + length key + length value)
   frame-size = sym (ap length alone) ∙ length-frame f extras key value [] ∙ omega arith
 
-  not-held : held (length extras) (length key) (length value) ≡ false → writing f extras key value room ≡ Refused
+  not-held : lengthsHeld (length extras) (length key) (length value) ≡ false → writing f extras key value room ≡ Refused
   unfolding writing
   not-held w = rw w
 
-  by-reading : held (length extras) (length key) (length value) ≡ true → writing f extras key value room
+  by-reading : lengthsHeld (length extras) (length key) (length value) ≡ true → writing f extras key value room
       ≡ cond (refuses (reading (frameBytes f extras key value))) Refused
       (cond (ltb room (24 + (length extras + length key + length value))) NoRoom (Wrote (24 + (length extras + length key + length value))))
   unfolding writing
   by-reading w = rw (w, frame-size)
 
   pub wide-extras : 255 < length extras → writing f extras key value room ≡ Refused
-  unfolding held
+  unfolding lengthsHeld
   wide-extras l = not-held (rw (le-ltb (length extras) 256 l))
 
-  pub small-held : length extras ≤ 255 → length extras + length key + length value ≤ 1400 → held (length extras) (length key) (length value) ≡ true
-  unfolding held
+  pub small-held : length extras ≤ 255 → length extras + length key + length value ≤ 1400 → lengthsHeld (length extras) (length key) (length value) ≡ true
+  unfolding lengthsHeld
   small-held e n = rw (lt-ltb (length extras) 256 (omega arith), lt-ltb (length key) 65536 (omega arith), lt-ltb (length extras + length key + length value) (2 ^ 32) (omega arith))
 
-  module _ (p : Fits f) where
+  module _ (p : FieldsFit f) where
     pub too-long : 1400 < length extras + length key + length value → writing f extras key value room ≡ Refused
     too-long l =
-        cases (held (length extras) (length key) (length value))
+        cases (lengthsHeld (length extras) (length key) (length value))
         (λ w. by-reading w ∙ rw (sym (ap reading alone) ∙ reading-long f extras key value [] p w (unfold body in l)))
         not-held
 

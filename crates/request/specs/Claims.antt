@@ -6,13 +6,13 @@ use mathlib.Core.Bool.{true}
 use lib.ListN.{length, take}
 use Rattle.octets.specs.Parts.{Bytes}
 use Rattle.header.specs.declared.Header.{Header}
-use Rattle.header.specs.Header.{Fits as HeaderFits}
+use Rattle.header.specs.Header.{HeaderFits as HeaderFits}
 use Rattle.request.specs.declared.Fields.{Fields}
 use Rattle.request.specs.declared.Frame.{Frame}
 use Rattle.request.specs.declared.Reading.the-variants.{Accepted}
 use Rattle.request.specs.declared.Written.the-variants.{Refused, Wrote}
 use Rattle.request.specs.Reading.{reading, bytesIn}
-use Rattle.request.specs.Writing.{frameBytes, held, refuses, writing, outputOf, Fits}
+use Rattle.request.specs.Writing.{frameBytes, lengthsHeld, refuses, writing, outputOf, FieldsFit}
 
 -- these bytes are read as a request with these fields and these parts
 pub record Reads (s : List ℕ) (f : Fields) (extras key value : List ℕ) : Type 0 where
@@ -26,7 +26,7 @@ pub record Reads (s : List ℕ) (f : Fields) (extras key value : List ℕ) : Typ
 -- "A request that our writer writes is read back as the same request": from the whole output, whatever stood in it before
 abbrev pub WrittenReads : Type 0
 WrittenReads =
-    (f : Fields) (extras key value out : List ℕ) (n : ℕ) → Fits f → writing f extras key value (length out) ≡ Wrote n
+    (f : Fields) (extras key value out : List ℕ) (n : ℕ) → FieldsFit f → writing f extras key value (length out) ≡ Wrote n
     → Reads (outputOf (Wrote n) (frameBytes f extras key value) out) f extras key value
 
 -- a frame of n bytes at the start of s, written again from what reading showed of it
@@ -42,9 +42,9 @@ ReadWrites = (s : List ℕ) (g : Frame) → Bytes s → reading s ≡ Accepted g
 -- a request that the writer refuses is refused by the reader, whatever follows its frame; only lengths that no header holds have no frame
 abbrev pub RefusedReads : Type 0
 RefusedReads =
-    (f : Fields) (extras key value rest : List ℕ) (room : ℕ) → Fits f → held (length extras) (length key) (length value) ≡ true
+    (f : Fields) (extras key value rest : List ℕ) (room : ℕ) → FieldsFit f → lengthsHeld (length extras) (length key) (length value) ≡ true
     → writing f extras key value room ≡ Refused → refuses (reading (frameBytes f extras key value ++ rest)) ≡ true
 
 -- every length that a header can state is held
 abbrev pub HeaderHolds : Type 0
-HeaderHolds = (h : Header) → HeaderFits h → (v : ℕ) → h .extlen + h .keylen + v ≡ h .body → held (h .extlen) (h .keylen) v ≡ true
+HeaderHolds = (h : Header) → HeaderFits h → (v : ℕ) → h .extlen + h .keylen + v ≡ h .body → lengthsHeld (h .extlen) (h .keylen) v ≡ true

@@ -7,6 +7,7 @@ use lib.Dec.{ltb, eqb}
 use Rattle.octets.specs.Parts.{part}
 use Rattle.shape.specs.Shapes.{shapeOf}
 use Rattle.header.specs.Header.{headerOf}
+use Rattle.header.specs.Layout.{layoutOf}
 use Rattle.header.specs.declared.Header.{Header}
 use Rattle.rules.specs.Rules.{status, metaSize}
 use Rattle.request.specs.declared.Fields.{Fields}
@@ -18,15 +19,15 @@ use Rattle.request.specs.declared.Reading.{Reading}
 use Rattle.request.specs.declared.Reading.the-variants.{Outcome, Status, Accepted}
 
 -- 01's numbers for an answer of the reader: its outcome, 0 where a whole frame stands there, and its status, 0 where no rule applies
-abbrev pub outcomeOf : Reading → ℕ
-outcomeOf (Outcome n) = n
-outcomeOf (Status n) = 0
-outcomeOf (Accepted f) = 0
+abbrev pub readingOutcome : Reading → ℕ
+readingOutcome (Outcome n) = n
+readingOutcome (Status n) = 0
+readingOutcome (Accepted f) = 0
 
-abbrev pub statusOf : Reading → ℕ
-statusOf (Outcome n) = 0
-statusOf (Status n) = n
-statusOf (Accepted f) = 0
+abbrev pub readingStatus : Reading → ℕ
+readingStatus (Outcome n) = 0
+readingStatus (Status n) = n
+readingStatus (Accepted f) = 0
 
 -- the outcomes, in the order tested, each with the bytes needed from the frame's start (0 where 01 promises none), or the header of a whole frame
 unfoldable pub gateOf : List ℕ → Gate
@@ -37,15 +38,15 @@ gateOf s =
     (cond (ltb (length s) (24 + headerOf s .body)) (Stop 1 (24 + headerOf s .body))
     (Whole (headerOf s)))))
 
--- where extras, key and value stand in a frame: one after the other, after the header
+-- extras, key and value of a frame
 unfoldable pub extrasSpan : Header → Span
-extrasSpan h = record { at = 24; len = h .extlen }
+extrasSpan h = record { at = layoutOf h .extras; len = h .extlen }
 
 unfoldable pub keySpan : Header → Span
-keySpan h = record { at = 24 + h .extlen; len = h .keylen }
+keySpan h = record { at = layoutOf h .key; len = h .keylen }
 
 unfoldable pub valueSpan : Header → Span
-valueSpan h = record { at = 24 + h .extlen + h .keylen; len = h .body - (h .extlen + h .keylen) }
+valueSpan h = record { at = layoutOf h .value; len = h .body - (h .extlen + h .keylen) }
 
 -- the bytes of a span
 abbrev pub bytesIn : List ℕ → Span → List ℕ

@@ -5,17 +5,17 @@ use Rattle.request.specs.declared.Reading.{Reading}
 use Rattle.request.specs.declared.Reading.the-variants.{Outcome, Status, Accepted}
 use Rattle.request.specs.Reading.{bytesIn}
 
-abbrev pub extrasOf : List ℕ → Reading → List ℕ
-extrasOf s (Outcome n) = []
-extrasOf s (Status n) = []
-extrasOf s (Accepted g) = bytesIn s (g .extras)
+abbrev pub extrasShown : List ℕ → Reading → List ℕ
+extrasShown s (Outcome n) = []
+extrasShown s (Status n) = []
+extrasShown s (Accepted g) = bytesIn s (g .extras)
 
-abbrev pub keyOf : List ℕ → Reading → List ℕ
-keyOf s (Outcome n) = []
-keyOf s (Status n) = []
-keyOf s (Accepted g) = bytesIn s (g .key)
+abbrev pub keyShown : List ℕ → Reading → List ℕ
+keyShown s (Outcome n) = []
+keyShown s (Status n) = []
+keyShown s (Accepted g) = bytesIn s (g .key)
 
-abbrev pub valueOf : List ℕ → Reading → List ℕ
-valueOf s (Outcome n) = []
-valueOf s (Status n) = []
-valueOf s (Accepted g) = bytesIn s (g .value)
+abbrev pub valueShown : List ℕ → Reading → List ℕ
+valueShown s (Outcome n) = []
+valueShown s (Status n) = []
+valueShown s (Accepted g) = bytesIn s (g .value)

@@ -45,8 +45,8 @@ unfolding headerFor
 frameBytes f extras key value = headerBytes (headerFor f (length extras) (length key) (length value)) ++ (extras ++ (key ++ value))
 
 -- a header holds these lengths: one byte for the extras', two for the key's, four for the body's
-unfoldable pub held : ℕ → ℕ → ℕ → Bool
-held e k v = ltb e 256 && (ltb k 65536 && ltb (e + k + v) (2 ^ 32))
+unfoldable pub lengthsHeld : ℕ → ℕ → ℕ → Bool
+lengthsHeld e k v = ltb e 256 && (ltb k 65536 && ltb (e + k + v) (2 ^ 32))
 
 abbrev pub refuses : Reading → Bool
 refuses (Outcome n) = true
@@ -55,9 +55,9 @@ refuses (Accepted f) = false
 
 -- what the writer answers for a room of so many bytes
 unfoldable pub writing : Fields → List ℕ → List ℕ → List ℕ → ℕ → Written
-unfolding frameBytes held
+unfolding frameBytes lengthsHeld
 writing f extras key value room =
-    cond (not (held (length extras) (length key) (length value))) Refused
+    cond (not (lengthsHeld (length extras) (length key) (length value))) Refused
     (cond (refuses (reading (frameBytes f extras key value))) Refused
     (cond (ltb room (length (frameBytes f extras key value))) NoRoom
     (Wrote (length (frameBytes f extras key value)))))
@@ -69,7 +69,7 @@ outputOf NoRoom frame out = out
 outputOf (Wrote n) frame out = written out 0 frame
 
 -- every field fits its place, as it does in every value of the declared type
-pub record Fits (f : Fields) : Type 0 where
+pub record FieldsFit (f : Fields) : Type 0 where
   pub opcode : f .opcode < 256
   pub datatype : f .datatype < 256
   pub vbucket : f .vbucket < 65536

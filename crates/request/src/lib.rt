@@ -7,6 +7,7 @@ ghost use lib.ListN.{length};
 ghost use lib.Dec.{leb};
 ghost use Rattle.octets.specs.Parts.{written};
 ghost use Rattle.header.specs.Header.{headerBytes};
+ghost use Rattle.header.specs.Layout.{layoutOf};
 ghost use mathlib.Core.List.{_++_};
 ghost use Rattle.request.specs.Reading.{gateOf, extrasSpan, keySpan, valueSpan, bytesIn, fieldsOf, frameOf, frameStatus, wholeReading, reading};
 ghost use Rattle.request.specs.Writing.{headerFor, frameBytes, writing, outputOf};
@@ -70,31 +71,23 @@ pub fn gate_of(received: &[u8]) -> Gate
     if h.magic != 0x80 {
         return Gate::Stop(2, 0);
     }
-    let body = h.body as usize;
-    if 1400 < body {
+    if 1400 < h.body {
         return Gate::Stop(3, 0);
     }
-    if received.len() < 24 + body {
-        return Gate::Stop(1, 24 + body);
+    let l = header::layout_of(h);
+    let end = l.end;
+    if received.len() < end {
+        return Gate::Stop(1, end);
     }
     Gate::Whole(h)
-}
-
-// a - b, or 0 where b is larger.
-fn minus(a: usize, b: usize) -> usize
-    ensures { λ r. ⌜ r ≡ a - b ⌝ }
-{
-    if a < b {
-        return 0;
-    }
-    a - b
 }
 
 pub fn extras_span(h: Header) -> Span
     ensures { λ r. ⌜ r ≡ extrasSpan h ⌝ }
 {
+    let l = header::layout_of(h);
     Span {
-        at: 24,
+        at: l.extras,
         len: h.extlen as usize,
     }
 }
@@ -102,8 +95,9 @@ pub fn extras_span(h: Header) -> Span
 pub fn key_span(h: Header) -> Span
     ensures { λ r. ⌜ r ≡ keySpan h ⌝ }
 {
+    let l = header::layout_of(h);
     Span {
-        at: 24 + h.extlen as usize,
+        at: l.key,
         len: h.keylen as usize,
     }
 }
@@ -111,11 +105,10 @@ pub fn key_span(h: Header) -> Span
 pub fn value_span(h: Header) -> Span
     ensures { λ r. ⌜ r ≡ valueSpan h ⌝ }
 {
-    let e = h.extlen as usize;
-    let k = h.keylen as usize;
+    let l = header::layout_of(h);
     Span {
-        at: 24 + e + k,
-        len: minus(h.body as usize, e + k),
+        at: l.value,
+        len: octets::minus(l.end, l.value),
     }
 }
 
@@ -219,15 +212,14 @@ fn header_for(f: Fields, e: usize, k: usize, v: usize) -> Header
 }
 
 fn put_frame(out: &mut [u8], h: Header, extras: &[u8], key: &[u8], value: &[u8])
-    requires { ⌜ (length (now extras) + length (now key) + length (now value) ≤ 1400) × (24 + (length (now extras) + length (now key) + length (now value)) ≤ length (now out)) ⌝ }
+    requires { ⌜ (length (now extras) ≡ h .extlen) × ((length (now key) ≡ h .keylen) × (layoutOf h .value + length (now value) ≤ length (now out))) ⌝ }
     ensures { λ _. ⌜ now (out .exit) ≡ written (now (out .entry)) 0 (headerBytes h ++ (now (extras .entry) ++ (now (key .entry) ++ now (value .entry)))) ⌝ }
 {
-    let e = extras.len();
-    let k = key.len();
+    let l = header::layout_of(h);
     header::put(out, h);
-    octets::put_bytes(out, 24, extras);
-    octets::put_bytes(out, 24 + e, key);
-    octets::put_bytes(out, 24 + e + k, value);
+    octets::put_bytes(out, l.extras, extras);
+    octets::put_bytes(out, l.key, key);
+    octets::put_bytes(out, l.value, value);
 }
 
 // Writes a request's frame at the start of out, where reading it would not refuse and it fits; else out is unchanged.
@@ -247,9 +239,11 @@ pub fn write(f: Fields, extras: &[u8], key: &[u8], value: &[u8], out: &mut [u8])
     if rules::status(h, extras, value) != 0 {
         return Written::Refused;
     }
-    if out.len() < 24 + size {
+    let l = header::layout_of(h);
+    let end = l.end;
+    if out.len() < end {
         return Written::NoRoom;
     }
     put_frame(out, h, extras, key, value);
-    Written::Wrote(24 + size)
+    Written::Wrote(end)
 }

@@ -3,7 +3,7 @@
 ghost use mathlib.Core.Path.{_≡_};
 ghost use mathlib.Core.List.{[]};
 ghost use Rattle.request.specs.Reading.{reading};
-ghost use Rattle.request.specs.View.{extrasOf, keyOf, valueOf};
+ghost use Rattle.request.specs.View.{extrasShown, keyShown, valueShown};
 use crate::Reading;
 
 pub struct Request<'a> {
@@ -25,7 +25,7 @@ fn no_bytes(s: &[u8]) -> &[u8]
 }
 
 fn extras_in(s: &[u8], reading: Reading) -> &[u8]
-    ensures { λ r. ⌜ now r ≡ extrasOf (now (s .entry)) reading ⌝ }
+    ensures { λ r. ⌜ now r ≡ extrasShown (now (s .entry)) reading ⌝ }
 {
     match reading {
         Reading::Outcome(_) => no_bytes(s),
@@ -35,7 +35,7 @@ fn extras_in(s: &[u8], reading: Reading) -> &[u8]
 }
 
 fn key_in(s: &[u8], reading: Reading) -> &[u8]
-    ensures { λ r. ⌜ now r ≡ keyOf (now (s .entry)) reading ⌝ }
+    ensures { λ r. ⌜ now r ≡ keyShown (now (s .entry)) reading ⌝ }
 {
     match reading {
         Reading::Outcome(_) => no_bytes(s),
@@ -45,7 +45,7 @@ fn key_in(s: &[u8], reading: Reading) -> &[u8]
 }
 
 fn value_in(s: &[u8], reading: Reading) -> &[u8]
-    ensures { λ r. ⌜ now r ≡ valueOf (now (s .entry)) reading ⌝ }
+    ensures { λ r. ⌜ now r ≡ valueShown (now (s .entry)) reading ⌝ }
 {
     match reading {
         Reading::Outcome(_) => no_bytes(s),
@@ -55,19 +55,19 @@ fn value_in(s: &[u8], reading: Reading) -> &[u8]
 }
 
 pub fn extras<'a>(r: Request<'a>) -> &'a [u8]
-    ensures { λ e. ⌜ now e ≡ extrasOf (now (r .entry .received)) (r .entry .reading) ⌝ }
+    ensures { λ e. ⌜ now e ≡ extrasShown (now (r .entry .received)) (r .entry .reading) ⌝ }
 {
     extras_in(r.received, r.reading)
 }
 
 pub fn key<'a>(r: Request<'a>) -> &'a [u8]
-    ensures { λ k. ⌜ now k ≡ keyOf (now (r .entry .received)) (r .entry .reading) ⌝ }
+    ensures { λ k. ⌜ now k ≡ keyShown (now (r .entry .received)) (r .entry .reading) ⌝ }
 {
     key_in(r.received, r.reading)
 }
 
 pub fn value<'a>(r: Request<'a>) -> &'a [u8]
-    ensures { λ v. ⌜ now v ≡ valueOf (now (r .entry .received)) (r .entry .reading) ⌝ }
+    ensures { λ v. ⌜ now v ≡ valueShown (now (r .entry .received)) (r .entry .reading) ⌝ }
 {
     value_in(r.received, r.reading)
 }

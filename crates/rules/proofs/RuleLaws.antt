@@ -2,7 +2,7 @@
 use Prim.Native.Nat.{ℕ, _+_, _≤_}
 use mathlib.Core.Path.{_≡_, sym, ap}
 use mathlib.Core.Logic.{⊎-elim}
-use mathlib.Core.List.{List, [], _∷_}
+use mathlib.Core.List.{List}
 use mathlib.Core.Bool.{true, false, not, _&&_, _||_, cond}
 use native.Mathlib.Nat.{sub-zero}
 use native.Mathlib.Omega.{arith}
@@ -10,29 +10,16 @@ use lib.ListN.{length}
 use lib.Dec.{ltb, leb, eqb}
 use borrow.Author.Tests.{leb-true, eqb-true, eqb-false, eq-eqb, ne-eqb, not-true, not-false}
 use Rattle.octets.proofs.Choices.{cases, cond-elim, both, either}
-use Rattle.shape.specs.Shapes.{Command, commands, bare, unbuilt, empty, lookUp, among, shapeOf}
+use Rattle.shape.specs.Shapes.{shapeOf}
+use Rattle.shape.proofs.ShapeLaws.{any-shape}
 use Rattle.shape.specs.declared.Shape.{Shape}
 use Rattle.header.specs.declared.Header.{Header}
 use Rattle.rules.specs.WithMeta.{withMeta}
 use Rattle.rules.specs.Rules.{extrasOk, keyOk, formOk, metaSize, fieldRulesOk, formStatus, metaStatus, fieldStatus, judged, status}
 
 -- no opcode has the status 0x03 whatever follows it
-looked-up : (op : ℕ) (cs : List Command) (other : Shape) → (other .status ≡ 0x03 → ⊥) → lookUp op cs other .status ≡ 0x03 → ⊥
-unfolding lookUp
-looked-up op [] other h e = h e
-looked-up op (c ∷ cs) other h e =
-    cases (eqb op (c .loud))
-    (λ l. omega (arith, rw l at e))
-    (λ l. cases (eqb op (c .quiet)) (λ q. omega (arith, rw (l, q) at e)) (λ q. looked-up op cs other h (rw (l, q) at e)))
-
 shape-status : (op : ℕ) → shapeOf op .status ≡ 0x03 → ⊥
-unfolding shapeOf
-shape-status op e =
-    looked-up op commands (cond (among op bare) (empty 0) (cond (among op unbuilt) (empty 0x83) (empty 0x81)))
-    (λ z. cases (among op bare)
-    (λ t. omega (arith, rw t at z))
-    (λ t. cases (among op unbuilt) (λ u. omega (arith, rw (t, u) at z)) (λ u. omega (arith, rw (t, u) at z))))
-    e
+shape-status op = any-shape (λ (s : Shape). s .status ≡ 0x03 → ⊥) op (λ o f q e. omega arith) (λ e. omega arith) (λ e. omega arith)
 
 formed-by : (s : Shape) (h : Header) (extras value : List ℕ) (n : ℕ) → judged s h extras value ≡ n → (s .status ≡ n → s .status ≡ 0) → (n ≡ 0x04 → ⊥) → formOk s h ≡ true
 unfolding judged

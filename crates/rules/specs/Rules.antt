@@ -6,14 +6,19 @@ use lib.ListN.{length, drop}
 use lib.Dec.{ltb, leb, eqb}
 use Rattle.shape.specs.Shapes.{shapeOf}
 use Rattle.shape.specs.declared.Shape.{Shape}
+use Rattle.shape.specs.declared.Extras.{Extras}
+use Rattle.shape.specs.declared.Extras.the-variants.{Nothing, FlagsExpiry, Counter, Meta}
 use Rattle.header.specs.declared.Header.{Header}
 use Rattle.rules.specs.declared.WithMeta.{WithMeta}
 use Rattle.rules.specs.WithMeta.{withMeta, sectionOf}
 use Rattle.rules.specs.Section.{sectionOk}
 
--- "wrong extras size": a shape's 24 stands for 24, 26, 28 and 30
-abbrev pub extrasOk : ℕ → ℕ → Bool
-extrasOk size n = eqb n size || (eqb size 24 && (eqb n 26 || (eqb n 28 || eqb n 30)))
+-- "wrong extras size": the sizes that each class may have
+abbrev pub extrasOk : Extras → ℕ → Bool
+extrasOk Nothing n = eqb n 0
+extrasOk FlagsExpiry n = eqb n 8
+extrasOk Counter n = eqb n 20
+extrasOk Meta n = eqb n 24 || (eqb n 26 || (eqb n 28 || eqb n 30))
 
 -- "key missing, forbidden or over 250"
 abbrev pub keyOk : ℕ → ℕ → Bool
@@ -29,15 +34,15 @@ formOk s h =
     && (eqb (s .value) 1 || eqb (h .body) (h .extlen + h .keylen)))))
 
 -- the largest CAS and revision that a request carries
-abbrev pub largest : ℕ
-largest = 0xfffffffeffffffff
+abbrev pub largestNumber : ℕ
+largestNumber = 0xfffffffeffffffff
 
 -- "CAS outside 1 to 0xfffffffeffffffff; revision over that; option bits other than 0x0f; 0x04 without 0x08"
 unfoldable pub numbersOk : WithMeta → Bool
 numbersOk w =
     leb 1 (w .numbers .cas .0)
-    && (leb (w .numbers .cas .0) largest
-    && (leb (w .numbers .revision .0) largest
+    && (leb (w .numbers .cas .0) largestNumber
+    && (leb (w .numbers .revision .0) largestNumber
     && (leb (w .options) 0x0f
     && (eqb (w .options / 4 % 2) 0 || eqb (w .options / 8 % 2) 1))))
 

@@ -8,8 +8,8 @@ use Rattle.octets.specs.BigEndian.{num}
 use Rattle.numbers.specs.declared.Numbers.{Numbers}
 use Rattle.rules.specs.declared.WithMeta.{WithMeta}
 
-unfoldable pub numbersOf : List ℕ → Numbers
-numbersOf extras = record {
+unfoldable pub carriedNumbers : List ℕ → Numbers
+carriedNumbers extras = record {
   flags = num extras 0 4;
   expiry = num extras 4 4;
   revision = record { 0 = num extras 8 8 };
@@ -25,5 +25,5 @@ unfoldable pub sectionOf : List ℕ → ℕ
 sectionOf extras = cond (eqb (length extras) 26) (num extras 24 2) (cond (eqb (length extras) 30) (num extras 28 2) 0)
 
 unfoldable pub withMeta : List ℕ → WithMeta
-unfolding numbersOf optionsOf sectionOf
-withMeta extras = record { numbers = numbersOf extras; options = optionsOf extras; section = sectionOf extras }
+unfolding carriedNumbers optionsOf sectionOf
+withMeta extras = record { numbers = carriedNumbers extras; options = optionsOf extras; section = sectionOf extras }

@@ -5,12 +5,13 @@ ghost use Prim.Native.Nat.{_-_, _≤_};
 ghost use lib.ListN.{length};
 ghost use lib.Dec.{ltb};
 ghost use Rattle.rules.specs.Section.{fieldOk, fieldsOk, sectionOk};
-ghost use Rattle.rules.specs.WithMeta.{numbersOf, optionsOf, sectionOf, withMeta};
-ghost use Rattle.rules.specs.Rules.{formOk, numbersOk, bodyOk, withMetaOk, metaSize, formStatus, metaStatus, fieldStatus, judged, status};
+ghost use Rattle.rules.specs.WithMeta.{carriedNumbers, optionsOf, sectionOf, withMeta};
+ghost use Rattle.rules.specs.Rules.{extrasOk, formOk, numbersOk, bodyOk, withMetaOk, metaSize, formStatus, metaStatus, fieldStatus, judged, status};
 use header::Header;
 use numbers::Cas;
 use numbers::Numbers;
 use numbers::Revision;
+use shape::Extras;
 use shape::Shape;
 
 // What the extras of a with-meta request carry.
@@ -22,7 +23,7 @@ pub struct WithMeta {
 }
 
 fn numbers_of(extras: &[u8]) -> Numbers
-    ensures { λ r. ⌜ r ≡ numbersOf (now (extras .entry)) ⌝ }
+    ensures { λ r. ⌜ r ≡ carriedNumbers (now (extras .entry)) ⌝ }
 {
     Numbers {
         flags: octets::be32(extras, 0),
@@ -97,13 +98,25 @@ fn section_ok(s: &[u8]) -> bool
     (s.len() == 0) | ((octets::byte(s, 0) == 1) & fields)
 }
 
+// Whether extras of n bytes have a size of their class.
+fn extras_ok(extras: Extras, n: u8) -> bool
+    ensures { λ r. ⌜ r ≡ extrasOk extras n ⌝ }
+{
+    match extras {
+        Extras::Nothing => n == 0,
+        Extras::FlagsExpiry => n == 8,
+        Extras::Counter => n == 20,
+        Extras::Meta => (n == 24) | ((n == 26) | ((n == 28) | (n == 30))),
+    }
+}
+
 fn form_ok(s: Shape, h: Header) -> bool
     ensures { λ r. ⌜ r ≡ formOk s h ⌝ }
 {
     let parts = h.extlen as u64 + h.keylen as u64;
     let body = h.body as u64;
-    let extras = (h.extlen == s.extras)
-        | ((s.extras == 24) & ((h.extlen == 26) | ((h.extlen == 28) | (h.extlen == 30))));
+    let class = s.extras;
+    let extras = extras_ok(class, h.extlen);
     let key = ((s.key == 0) & (h.keylen == 0))
         | ((s.key == 1) & ((1 <= h.keylen) & (h.keylen <= 250)));
     (h.datatype == 0) & ((parts <= body) & (extras & (key & ((s.value == 1) | (body == parts)))))

@@ -1,14 +1,15 @@
 -- A frame that was served stands in the bytes that it was read from.
 use native.Mathlib.Omega.{arith}
 use Prim.Native.Nat.{ℕ, _+_, _≤_}
-use mathlib.Core.Path.{_≡_, refl}
+use mathlib.Core.Path.{_≡_, refl, subst}
 use mathlib.Core.List.{List}
 use lib.ListN.{length}
 use Rattle.request.specs.declared.Gate.{Gate}
 use Rattle.request.specs.declared.Gate.the-variants.{Stop, Whole}
 use Rattle.serving.specs.declared.Served.{Served}
 use Rattle.serving.proofs.Gated.{was-open}
-use Rattle.serving.specs.Serve.{gateAll, served, servedTable, servedReply}
+use Rattle.serving.specs.Serve.{gateAll, served}
+use Rattle.serving.specs.Serves.{Serves}
 use Rattle.run.specs.declared.Moved.{Moved}
 use Rattle.run.specs.Run.{usedOf, movedBy}
 
@@ -21,8 +22,7 @@ pub used-fits : (b : List ℕ) (clock : ℕ) (s : List ℕ) (room : ℕ) → use
 used-fits b clock s room = used-by b clock s room (gateAll b room s) refl
 
 pub moved-eq : (at : ℕ) (b : List ℕ) (clock : ℕ) (s s′ r : List ℕ) (x : Served) (used : ℕ) (b′ r′ : List ℕ) → s ≡ s′ → used ≡ usedOf x
-    → (x ≡ served b clock s (length r)) × ((b′ ≡ servedTable b clock s (length r)) × (r′ ≡ servedReply b clock s r))
-    → (_≡_ {A = Moved} (record { cursor = record { at = at + used }; served = x }) (movedBy at (served b clock s′ (length r))))
-    × ((b′ ≡ servedTable b clock s′ (length r)) × (r′ ≡ servedReply b clock s′ r))
+    → Serves b clock s r x b′ r′
+    → (_≡_ {A = Moved} (record { cursor = record { at = at + used }; served = x }) (movedBy at x)) × Serves b clock s′ r x b′ r′
 unfolding movedBy
-moved-eq at b clock s s′ r x used b′ r′ e u q = rw (← e, u, q .0) (refl, q .1)
+moved-eq at b clock s s′ r x used b′ r′ e u q = (rw u, subst (λ (z : List ℕ). Serves b clock z r x b′ r′) e q)

@@ -2,50 +2,23 @@
 use native.Mathlib.Omega.{arith}
 use Prim.Native.Nat.{ℕ, zero, suc, _+_, _-_, _≤_}
 use mathlib.Core.Path.{_≡_, refl, sym, ap, _∙_}
-use mathlib.Core.Bool.{true}
 use mathlib.Core.List.{List, _++_, append-nil}
-use lib.ListN.{length, take, drop, length-append, length-drop, drop-of-length-le, take-append-drop}
+use lib.ListN.{length, take, drop, length-drop, drop-of-length-le, take-append-drop}
 use lib.Seq.{take-all}
 use borrow.Rule.Slice.PartMut.{midOf, putMid}
 use Rattle.octets.specs.Parts.{Bytes}
-use Rattle.octets.proofs.Choices.{cases}
-use Rattle.header.specs.declared.Header.{Header}
-use Rattle.header.specs.Header.{headerBytes}
-use Rattle.header.proofs.HeaderLaws.{length-header}
 use Rattle.request.specs.declared.Gate.{Gate}
 use Rattle.request.specs.declared.Gate.the-variants.{Stop, Whole}
-use Rattle.request.specs.Reading.{frameStatus, bytesIn, keySpan}
-use Rattle.commands.specs.declared.Decision.{Decision}
-use Rattle.table.specs.Table.{tableOf, headOf}
-use Rattle.table.specs.Damage.{sound}
-use Rattle.table.specs.Lookup.{findIn}
 use Rattle.tally.specs.declared.Tally.{Tally}
 use Rattle.tally.specs.Counts.{countedOf}
 use Rattle.serving.specs.declared.Served.{Served}
 use Rattle.serving.specs.declared.Served.the-variants.{Refused, Done}
-use Rattle.serving.specs.Reply.{replyBytes, bodyOf, replyHeader}
-use Rattle.serving.specs.Serve.{gateAll, goesOn, decisionOn, frameReply, answerBy, served, servedTable, servedReply}
-use Rattle.serve.proofs.Replies.{body-most}
-use Rattle.serve.proofs.Lookups.{key-short, value-short, value-found}
-use Rattle.serve.proofs.Joint.{refused-reply, refusal-length}
+use Rattle.serving.specs.Serves.{Serves}
+use Rattle.serving.specs.Serve.{gateAll, frameReply, answerBy, served, servedTable, servedReply}
+use Rattle.reply.proofs.Frames.{reply-most}
 use Rattle.serving.proofs.Gated.{was-open, refused-keeps}
 use Rattle.run.specs.Run.{Stand, calledOn, further, onDone, standAfter, runEnd, ranOf}
 use Rattle.run.specs.declared.Ran.{Ran}
-
--- ---- a reply is at most 1,302 bytes long
-bytes-most : (op opaque : ℕ) (d : Decision) (key old : List ℕ) → length key ≤ 250 → length old ≤ 1024 → length (replyBytes op opaque d key old) ≤ 1302
-unfolding replyBytes
-bytes-most op opaque d key old h k =
-    cases (d .silent)
-    (λ t. rw t (omega arith))
-    (λ f. rw f (omega (arith, length-append (headerBytes (replyHeader op opaque d key old)) (bodyOf (d .done .reply) key old), length-header (replyHeader op opaque d key old), body-most (d .done .reply) key old h k)))
-
-reply-most : (b : List ℕ) (clock : ℕ) (s : List ℕ) (h : Header) → Bytes b → sound b ≡ true → length (frameReply b clock s h) ≤ 1302
-unfolding frameReply
-reply-most b clock s h y k =
-    cases (goesOn (frameStatus s h))
-    (λ t. bytes-most (h .opcode) (h .opaque) (decisionOn (tableOf b) clock s h) (bytesIn s (keySpan h)) _ (key-short s h t) (omega (arith, ap length (value-found b (bytesIn s (keySpan h))), value-short b y k (findIn (bytesIn s (keySpan h)) 0 (tableOf b .rows)))))
-    (λ f. omega (arith, ap length (refused-reply b s clock h f), refusal-length (h .opcode) (h .opaque) (headOf b) (frameStatus s h)))
 
 -- ---- what a call that was not refused did
 pub record Told (b s : List ℕ) (room used len : ℕ) : Type 0 where
@@ -113,8 +86,7 @@ module _ (clock : ℕ) (run : List ℕ) where
 
 -- ---- one turn of the loop: the part of the reply area past the replies is lent to the call
 module _ (clock : ℕ) (run b out : List ℕ) (t : Tally) (at filled : ℕ) (f : filled ≤ length out) (s : List ℕ) (es : s ≡ drop at run) (r : Served) (b′ ys : List ℕ)
-    (q : (r ≡ served b clock s (length (midOf filled (length out - filled) out)))
-    × ((b′ ≡ servedTable b clock s (length (midOf filled (length out - filled) out))) × (ys ≡ servedReply b clock s (midOf filled (length out - filled) out)))) where
+    (q : Serves b clock s (midOf filled (length out - filled) out) r b′ ys) where
   abbrev now : Stand
   now = record { table = b; reply = out; tally = t; at = at; filled = filled }
 
@@ -128,13 +100,13 @@ module _ (clock : ℕ) (run b out : List ℕ) (t : Tally) (at filled : ℕ) (f :
   put = ap (λ (zs : List ℕ). take filled out ++ zs) (ap (λ (zs : List ℕ). ys ++ zs) (drop-of-length-le (drop filled out) {i = length out - filled} (omega (arith, room))) ∙ append-nil ys)
 
   answer : r ≡ served b clock (drop at run) (length (drop filled out))
-  answer = q .0 ∙ (λ i. served b clock (es i) (length (mid i)))
+  answer = q .answer ∙ (λ i. served b clock (es i) (length (mid i)))
 
   left : b′ ≡ servedTable b clock (drop at run) (length (drop filled out))
-  left = q .1 .0 ∙ (λ i. servedTable b clock (es i) (length (mid i)))
+  left = q .table ∙ (λ i. servedTable b clock (es i) (length (mid i)))
 
   reply : ys ≡ servedReply b clock (drop at run) (drop filled out)
-  reply = q .1 .1 ∙ (λ i. servedReply b clock (es i) (mid i))
+  reply = q .reply ∙ (λ i. servedReply b clock (es i) (mid i))
 
   called : r ≡ calledOn clock run now
   called = answer ∙ ap (served b clock (drop at run)) room

@@ -1,8 +1,8 @@
 // A cursor over a run of received frames, and a call that serves a whole run by it.
 ghost use mathlib.Core.Path.{_≡_};
-ghost use lib.ListN.{length, drop};
+ghost use lib.ListN.{drop};
 ghost use Rattle.run.specs.Run.{usedOf, movedBy, begun, runEnd, ranOf};
-ghost use Rattle.serving.specs.Serve.{served, servedTable, servedReply};
+ghost use Rattle.serving.specs.Serves.{Serves};
 use serving::Served;
 use tally::Tally;
 
@@ -35,9 +35,8 @@ fn used_of(r: Served) -> usize
 impl Cursor {
     // Serves the frame at the cursor, which is handed back past it.
     pub fn serve(self, b: &mut [u8], clock: u32, run: &[u8], out: &mut [u8]) -> Moved
-        ensures { λ r. ⌜ (r ≡ movedBy (self .at) (served (now (b .entry)) clock (drop (self .at) (now (run .entry))) (length (now (out .entry)))))
-            × ((now (b .exit) ≡ servedTable (now (b .entry)) clock (drop (self .at) (now (run .entry))) (length (now (out .entry))))
-            × (now (out .exit) ≡ servedReply (now (b .entry)) clock (drop (self .at) (now (run .entry))) (now (out .entry)))) ⌝ }
+        ensures { λ r. ⌜ (r ≡ movedBy (self .at) (r .served))
+            × Serves (now (b .entry)) clock (drop (self .at) (now (run .entry))) (now (out .entry)) (r .served) (now (b .exit)) (now (out .exit)) ⌝ }
     {
         let at = self.at;
         let r = serve::serve_one(b, clock, octets::rest(run, at), out);

@@ -8,8 +8,9 @@ use borrow.Author.Tests.{lt-ltb, le-ltb}
 use Rattle.request.specs.declared.Gate.{Gate}
 use Rattle.request.specs.declared.Gate.the-variants.{Stop}
 use Rattle.request.specs.Reading.{gateOf}
-use Rattle.table.specs.Damage.{sound}
+use Rattle.plain.specs.Damage.{sound}
 use Rattle.serving.specs.declared.Served.{Served}
+use Rattle.serving.specs.Serves.{Serves}
 use Rattle.serving.specs.Serve.{gateAll, answerBy, tableBy, replyBy, served, servedTable, servedReply}
 
 module _ (b s : List ℕ) (room : ℕ) where
@@ -28,7 +29,7 @@ module _ (b s : List ℕ) (room : ℕ) where
 
 pub gated : (b s out : List ℕ) (clock : ℕ) (g : Gate) → gateAll b (length out) s ≡ g → (r : Served) (b′ out′ : List ℕ)
     → r ≡ answerBy b clock s g → b′ ≡ tableBy b clock s g → out′ ≡ replyBy b clock s out g
-    → (r ≡ served b clock s (length out)) × ((b′ ≡ servedTable b clock s (length out)) × (out′ ≡ servedReply b clock s out))
+    → Serves b clock s out r b′ out′
 unfolding served servedTable servedReply
 gated b s out clock g e r b′ out′ er eb eo =
-    (er ∙ sym (ap (answerBy b clock s) e), (eb ∙ sym (ap (tableBy b clock s) e), eo ∙ sym (ap (replyBy b clock s out) e)))
+    record { answer = er ∙ sym (ap (answerBy b clock s) e); table = eb ∙ sym (ap (tableBy b clock s) e); reply = eo ∙ sym (ap (replyBy b clock s out) e) }

@@ -1,158 +1,199 @@
 -- What serving a frame's callees say, as what serving means: all their equations in, the answer, the reply and the table out.
-use Prim.Native.Nat.{ℕ, _+_}
+use Prim.Native.Nat.{ℕ, _+_, _≤_}
 use mathlib.Core.Path.{_≡_, refl, sym, ap, _∙_}
-use mathlib.Core.Bool.{Bool, true, false, not}
-use mathlib.Core.List.{List, [], append-nil}
-use lib.ListN.{length}
-use Rattle.octets.specs.Parts.{Bytes, written}
-use Rattle.header.proofs.HeaderLaws.{length-header}
+use mathlib.Core.Bool.{Bool, true, false, _||_}
+use mathlib.Core.List.{List, []}
+use mathlib.Core.Option.{Option, none, some}
+use native.Mathlib.Omega.{arith}
+use lib.Dec.{ltb}
+use lib.ListN.{length, drop}
+use lib.Seq.{take-at}
+use Rattle.octets.specs.Parts.{Bytes, part, pasted, written}
+use Rattle.octets.proofs.Choices.{cases}
+use Rattle.octets.proofs.Options.{options, none-some}
+use Rattle.octets.proofs.Lists.{part-most}
 use Rattle.header.specs.declared.Header.{Header}
 use Rattle.header.specs.Header.{headerBytes}
-use Rattle.request.specs.declared.Gate.the-variants.{Whole}
 use Rattle.request.specs.Reading.{bytesIn, keySpan, frameStatus}
-use Rattle.engine.specs.declared.Head.{Head}
-use Rattle.engine.specs.declared.Stored.{Stored}
-use Rattle.engine.specs.declared.Stored.the-variants.{Nothing as NoRow}
 use Rattle.digits.specs.declared.Number.{Number}
 use Rattle.digits.specs.Decimal.{numberOf}
-use Rattle.commands.specs.declared.Ask.{Ask}
+use Rattle.document.specs.Documents.{Key, Doc, docValue}
+use Rattle.document.specs.Stored.{storedOf, hasRow}
+use Rattle.document.specs.declared.Head.{Head}
+use Rattle.document.specs.declared.Metadata.{Metadata}
+use Rattle.document.specs.declared.Stored.{Stored}
+use Rattle.document.specs.declared.Stored.the-variants.{Nothing as NoRow, Used}
+use Rattle.commands.specs.declared.Context.{Context}
+use Rattle.commands.specs.declared.Instruction.{Instruction}
 use Rattle.commands.specs.declared.Decision.{Decision}
-use Rattle.commands.specs.Rules.{writesOf}
+use Rattle.commands.specs.Writes.{isMutation}
 use Rattle.commands.specs.Done.{decision}
-use Rattle.commands.proofs.Writing.{stores-none}
-use Rattle.commands.specs.Decide.{askOf, docFrom, bytesFrom}
-use Rattle.asks.specs.Asks.{requestOf, valueOf}
-use Rattle.table.specs.declared.Found.{Found}
-use Rattle.table.specs.declared.Slot.{Slot}
-use Rattle.table.specs.Table.{tableOf, headOf}
-use Rattle.table.specs.Lookup.{findIn, freeIn, orElse, placeIn, missing}
-use Rattle.table.specs.Damage.{sound}
+use Rattle.commands.specs.Decide.{Effect, instructionOf, docFrom, bytesFrom}
+use Rattle.commands.proofs.Writing.{free-with-row, free-unread, stores-none}
+use Rattle.decode.specs.Decode.{requestOf, bareValue}
+use Rattle.engine.specs.Engine.{storeRow}
+use Rattle.rows.specs.Table.{Table, tableOf, tableBytes, headOf, headBytes}
+use Rattle.rows.specs.Find.{findRow, freeRows}
+use Rattle.plain.specs.Damage.{sound}
+use Rattle.plain.specs.Plain.{plain}
+use Rattle.plain.specs.Claims.{Good}
+use Rattle.plain.proofs.TableLaws.{sound-good}
+use Rattle.table.specs.declared.Lookup.{Lookup}
+use Rattle.table.specs.Calls.{hasPlace, lookupOf, storedBy}
+use Rattle.table.specs.Claims.{Finds}
+use Rattle.table.proofs.Looking.{finds-sound, lookup-head}
+use Rattle.table.proofs.Keeping.{head-put}
 use Rattle.serving.specs.declared.Served.{Served}
 use Rattle.serving.specs.declared.Served.the-variants.{Done}
-use Rattle.serving.specs.Reply.{replyHeader, replyBytes}
-use Rattle.serving.specs.Change.{storedAt, heldAt, valueIn}
-use Rattle.serving.specs.Serve.{goesOn, refusal, decisionOn, answerOn, frameTable, frameReply, answerBy}
-use Rattle.serving.proofs.Storing.{stored-none}
-use Rattle.serve.specs.Rows.{slotIn, heldBy, valueBy, placeFor}
-use Rattle.serve.specs.Bare.{bareHeader}
-use Rattle.serve.proofs.Lookups.{held-found, value-found, free-found, value-place}
-use Rattle.serve.proofs.Placing.{held-by, value-by, placed, placed-table}
-
-module _ (b s : List ℕ) (clock : ℕ) (h : Header) (f free : Found)
-    (ef : f ≡ findIn (bytesIn s (keySpan h)) 0 (tableOf b .rows)) (er : free ≡ freeIn 0 (tableOf b .rows)) where
-  -- a frame that goes on is decided from its key's row
-  pub decided-is : (hd : Head) (st : Stored) (fr : Bool) (n : Number) (q : Ask) (d : Decision) → goesOn (frameStatus s h) ≡ true
-      → hd ≡ headOf b → st ≡ heldAt b f → fr ≡ not (missing free) → n ≡ numberOf (valueIn b f) → q ≡ askOf (requestOf s h)
-      → d ≡ decision hd st fr clock n q → d ≡ decisionOn (tableOf b) clock s h
-  unfolding decisionOn tableOf
-  decided-is hd st fr n q d g e1 e2 e3 e4 e5 ed =
-      let key = bytesIn s (keySpan h) in
-      let h2 = e2 ∙ ap (heldAt b) ef ∙ sym (held-found b key) in
-      let h3 = e3 ∙ ap (λ (x : Found). not (missing x)) er ∙ sym (free-found b) in
-      let h4 = e4 ∙ ap (λ (x : Found). numberOf (valueIn b x)) ef ∙ ap numberOf (sym (value-found b key)) in
-      rw g (ed ∙ (λ i. decision (e1 i) (h2 i) (h3 i) clock (h4 i) (e5 i)))
-
-module _ (b s : List ℕ) (clock : ℕ) (h : Header) (d : Decision) (ed : d ≡ decisionOn (tableOf b) clock s h) where
-  pub status-is : d .status ≡ answerOn (tableOf b) clock s h .effect .status
-  unfolding answerOn
-  status-is = ap (λ (x : Decision). x .status) ed
-
-  module _ (f free : Found) (k old : List ℕ) (ek : k ≡ bytesIn s (keySpan h)) (ef : f ≡ findIn k 0 (tableOf b .rows))
-      (er : free ≡ freeIn 0 (tableOf b .rows)) (eo : old ≡ valueIn b f) where
-    old-is : old ≡ Rattle.commands.specs.Decide.valueOf (Rattle.table.specs.Plain.findRow (tableOf b .rows) (bytesIn s (keySpan h)))
-    old-is = eo ∙ ap (valueIn b) (ef ∙ ap (λ (x : List ℕ). findIn x 0 (tableOf b .rows)) ek) ∙ sym (value-found b (bytesIn s (keySpan h)))
-
-    pub reply-is : replyBytes (h .opcode) (h .opaque) d k old ≡ frameReply b clock s h
-    unfolding frameReply
-    reply-is = λ i. replyBytes (h .opcode) (h .opaque) (ed i) (ek i) (old-is i)
-
-    pub answer-is : (n : ℕ) → n ≡ length (replyBytes (h .opcode) (h .opaque) d k old)
-        → Done (d .status) (24 + h .body) n ≡ answerBy b clock s (Whole h)
-    answer-is n en = λ i. Done (status-is i) (24 + h .body) ((en ∙ ap length reply-is) i)
-
-    module _ (place : Found) (v : List ℕ) (y : Bytes b) (sb : sound b ≡ true) (ep : place ≡ orElse f free) (ev : v ≡ valueOf s h) where
-      place-is : place ≡ orElse (findIn (bytesIn s (keySpan h)) 0 (tableOf b .rows)) (freeIn 0 (tableOf b .rows))
-      place-is = ep ∙ (λ i. orElse ((ef ∙ ap (λ (x : List ℕ). findIn x 0 (tableOf b .rows)) ek) i) (er i))
-
-      pub table-is : storedAt b place k (docFrom (d .done .store) (bytesFrom (d .done .source) v (valueIn b place))) (d .done .head .mark .0)
-          ≡ frameTable b clock s h
-      unfolding frameTable answerOn requestOf
-      table-is =
-          let w = ap (valueIn b) place-is ∙ value-place b y sb (bytesIn s (keySpan h)) in
-          λ i. storedAt b (place-is i) (ek i) (docFrom (ed i .done .store) (bytesFrom (ed i .done .source) (ev i) (w i))) (ed i .done .head .mark .0)
+use Rattle.serving.specs.Reply.{replyBytes}
+use Rattle.serving.specs.Serve.{reachesDecision, decisionOn, answerOn, frameTable, frameReply}
+use Rattle.serving.specs.Serves.{ServesFrame}
+use Rattle.serving.proofs.Change.{Storing, changing, unchanged, raised, raised-good, puts}
+use Rattle.reply.specs.Fitting.{bareHeader, fittingReply}
+use Rattle.reply.proofs.Replies.{fitting}
+use Rattle.reply.proofs.Frames.{bare-reply, refused-is, refused-reply, refused-length, key-short}
+use Rattle.serve.specs.Change.{storedWith}
 
 -- ---- a frame whose status the reader gives: its reply is a bare header
-bare-reply : (op opaque : ℕ) (hd : Head) (st : ℕ) → replyBytes op opaque (refusal hd st) [] [] ≡ headerBytes (bareHeader op opaque st)
-unfolding replyBytes replyHeader
-bare-reply op opaque hd st = append-nil (headerBytes (bareHeader op opaque st))
+module _ (b s : List ℕ) (clock : ℕ) (h : Header) (g : reachesDecision (frameStatus s h) ≡ false) where
+  refused-table : Bytes b → sound b ≡ true → frameTable b clock s h ≡ b
+  unfolding frameTable answerOn tableOf
+  refused-table y sb =
+      ap tableBytes (unchanged (tableOf b) clock s h (rw (refused-is b s clock h g)) (rw (refused-is b s clock h g))) ∙ sound-good b y sb .0
 
-pub refusal-length : (op opaque : ℕ) (hd : Head) (st : ℕ) → length (replyBytes op opaque (refusal hd st) [] []) ≡ 24
-refusal-length op opaque hd st = ap length (bare-reply op opaque hd st) ∙ length-header _
-
-module _ (b s : List ℕ) (clock : ℕ) (h : Header) (g : goesOn (frameStatus s h) ≡ false) where
-  refused-is : decisionOn (tableOf b) clock s h ≡ refusal (headOf b) (frameStatus s h)
-  unfolding decisionOn tableOf
-  refused-is = rw g
-
-  pub refused-reply : replyBytes (h .opcode) (h .opaque) (refusal (headOf b) (frameStatus s h)) [] [] ≡ frameReply b clock s h
-  unfolding frameReply replyBytes
-  refused-reply = rw refused-is
-
-  pub refused-table : frameTable b clock s h ≡ b
-  unfolding frameTable answerOn
-  refused-table = rw refused-is (stored-none b (placeIn (bytesIn s (keySpan h)) (tableOf b .rows)) (bytesIn s (keySpan h)) (headOf b .mark .0))
-
-  pub refused-answer : (st n : ℕ) → st ≡ frameStatus s h → n ≡ length (replyBytes (h .opcode) (h .opaque) (refusal (headOf b) (frameStatus s h)) [] [])
-      → Done st (24 + h .body) n ≡ answerBy b clock s (Whole h)
+  refused-status : answerOn (tableOf b) clock s h .effect .status ≡ frameStatus s h
   unfolding answerOn
-  refused-answer st n es en = λ i. Done ((es ∙ sym (ap (λ (x : Decision). x .status) refused-is)) i) (24 + h .body) ((en ∙ ap length refused-reply) i)
+  refused-status = ap (λ (x : Decision). x .status) (refused-is b s clock h g)
 
   -- what answering with a bare header leaves
-  pub refused-by : (st : ℕ) (r : Served) (out out′ : List ℕ) → st ≡ frameStatus s h → r ≡ Done st (24 + h .body) 24
-      → out′ ≡ written out 0 (headerBytes (bareHeader (h .opcode) (h .opaque) st))
-      → (r ≡ answerBy b clock s (Whole h)) × ((b ≡ frameTable b clock s h) × (out′ ≡ written out 0 (frameReply b clock s h)))
-  refused-by st r out out′ es er eo =
+  pub refused-by : (st : ℕ) (r : Served) (out out′ : List ℕ) → Bytes b → sound b ≡ true → st ≡ frameStatus s h → r ≡ Done st (24 + h .body) 24
+      → out′ ≡ written out 0 (headerBytes (bareHeader (h .opcode) (h .opaque) st)) → ServesFrame b clock s h out r b out′
+  refused-by st r out out′ y sb es er eo =
       let w : headerBytes (bareHeader (h .opcode) (h .opaque) st) ≡ frameReply b clock s h =
-      ap (λ (x : ℕ). headerBytes (bareHeader (h .opcode) (h .opaque) x)) es ∙ sym (bare-reply (h .opcode) (h .opaque) (headOf b) (frameStatus s h)) ∙ refused-reply in
-      let n : 24 ≡ length (replyBytes (h .opcode) (h .opaque) (refusal (headOf b) (frameStatus s h)) [] []) =
-      sym (ap length (bare-reply (h .opcode) (h .opaque) (headOf b) (frameStatus s h)) ∙ length-header _) in
-      (er ∙ refused-answer st 24 es n, (sym refused-table, eo ∙ ap (written out 0) w))
+      ap (λ (x : ℕ). headerBytes (bareHeader (h .opcode) (h .opaque) x)) es ∙ sym (bare-reply (h .opcode) (h .opaque) (headOf b) (frameStatus s h)) ∙ refused-reply b s clock h g in
+      record {
+        answer = er ∙ (λ i. Done ((es ∙ sym refused-status) i) (24 + h .body) (sym (refused-length b s clock h g) i));
+        table = sym (refused-table y sb);
+        reply = eo ∙ ap (written out 0) w;
+      }
 
--- ---- the row's fixed part read once, and a free row looked for only where the key has none and the command writes
-module _ (b s : List ℕ) (clock : ℕ) (h : Header) (k : List ℕ) (f place : Found) (w : Bool) (slot : Slot) (old : List ℕ) (hd : Head) (q : Ask) (d : Decision)
-    (g : goesOn (frameStatus s h) ≡ true) (ek : k ≡ bytesIn s (keySpan h)) (ef : f ≡ findIn k 0 (tableOf b .rows)) (ew : w ≡ writesOf (q .command))
-    (ep : place ≡ placeFor w f (freeIn 0 (tableOf b .rows))) (es : slot ≡ slotIn b f) (eo : old ≡ valueBy b f slot) (eh : hd ≡ headOf b)
-    (eq : q ≡ askOf (requestOf s h)) (ed : d ≡ decision hd (heldBy f slot) (not (missing place)) clock (numberOf old) q) where
-  pub old-value : old ≡ valueIn b f
-  old-value = eo ∙ ap (valueBy b f) es ∙ value-by b f
+-- ---- a frame that is decided
+-- a document with this value for a key, where a lookup said
+abbrev pub storing : List ℕ → Lookup → Key → Metadata → List ℕ → List ℕ
+storing b l key m value = storedBy b l (record { key = key; doc = record { tomb = m .tomb; value = value; numbers = m .numbers } })
 
-  placed-decision : d ≡ decision hd (heldAt b f) (not (missing (freeIn 0 (tableOf b .rows)))) clock (numberOf (valueIn b f)) q
-  placed-decision =
-      ed ∙ (λ i. decision hd ((ap (heldBy f) es ∙ held-by b f) i) (not (missing (ep i))) clock (numberOf (old-value i)) q)
-      ∙ placed b (freeIn 0 (tableOf b .rows)) clock hd (numberOf (valueIn b f)) q f w ew
+-- bytes that were written to an array and read back
+pub read-back : (s xs s′ v : List ℕ) (k : ℕ) → k ≡ length xs → s′ ≡ pasted s 0 xs → v ≡ part s′ 0 k → v ≡ xs
+unfolding pasted
+read-back s xs s′ v k p q r = r ∙ rw (q, p) (take-at xs (drop (0 + length xs) s) (length xs) refl)
+
+-- a key with a row needs no free one, and a command that doesn't write doesn't look for one
+abbrev pub seeing : Head → Stored → Bool → ℕ → Number → Context
+seeing h s free clock n = record { head = h; row = s; free = free; clock = clock; number = n }
+
+room-known : (h : Head) (s : Stored) (free : Bool) (clock : ℕ) (n : Number) (q : Instruction) → decision (seeing h s (hasRow s || free) clock n) q ≡ decision (seeing h s free clock n) q
+room-known h NoRow free clock n q = refl
+room-known h (Used m) free clock n q = free-with-row (seeing h (Used m) true clock n) q free refl
+
+placed : (h : Head) (s : Stored) (place free : Bool) (clock : ℕ) (n : Number) (q : Instruction) (w : Bool) → w ≡ isMutation (q .command)
+    → (w ≡ true → place ≡ (hasRow s || free)) → decision (seeing h s place clock n) q ≡ decision (seeing h s free clock n) q
+placed h s place free clock n q true e p = ap (λ (x : Bool). decision (seeing h s x clock n) q) (p refl) ∙ room-known h s free clock n q
+placed h s place free clock n q false e p = free-unread (seeing h s place clock n) q free (sym e)
+
+no-doc : (st : Stored) (value : List ℕ) → st ≡ NoRow → docFrom st value ≡ none
+no-doc st value e = rw e
+
+-- storing what a frame asks for, by the lookup of its key, is the engine's put
+changed-is : (b s : List ℕ) (clock : ℕ) (h : Header) (w : Bool) → Bytes b → Bytes s → 24 + h .body ≤ length s → sound b ≡ true
+    → (w ≡ false → answerOn (tableOf b) clock s h .effect .store ≡ none)
+    → storedWith b (lookupOf w b (bytesIn s (keySpan h))) (bytesIn s (keySpan h)) (answerOn (tableOf b) clock s h .effect .store) (answerOn (tableOf b) clock s h .effect .head)
+    ≡ frameTable b clock s h
+unfolding frameTable
+changed-is b s clock h w y z inside sb none-if =
+    let t = tableOf b in
+    let key = bytesIn s (keySpan h) in
+    let x = answerOn t clock s h .effect in
+    let good = sound-good b y sb in
+    let c = changing t clock s h (good .1) z inside in
+    options (x .store)
+    (λ e. ap (λ (o : Option Doc). storedWith b (lookupOf w b key) key o (x .head)) e ∙ sym (ap tableBytes (unchanged t clock s h e (c .keeps e)) ∙ good .0))
+    (λ d e.
+    let q = c .stores d e in
+    let on : w ≡ true = cases w (λ p. p) (λ p. none-some d (sym (none-if p) ∙ e)) in
+    let same = lookup-head t (x .head) key true (good .1) (raised-good t clock s h (good .1) d q) in
+    (λ j. storedWith (sym (good .0) j) (lookupOf (on j) (sym (good .0) j) key) key (e j) (x .head))
+    ∙ (λ j. storedBy (head-put t (x .head) j) (sym same j) (record { key = key; doc = d }))
+    ∙ puts t clock s h (good .1) d q .bytes
+    ∙ ap (λ (o : Option Doc). tableBytes (record { head = x .head; rows = storeRow plain (t .rows) key o })) (sym e))
+
+module _ (b s : List ℕ) (clock : ℕ) (h : Header) (y : Bytes b) (z : Bytes s) (sb : sound b ≡ true) (inside : 24 + h .body ≤ length s)
+    (g : reachesDecision (frameStatus s h) ≡ true) (k : List ℕ) (w : Bool) (l : Lookup) (old : List ℕ) (hd : Head) (q : Instruction) (d : Decision)
+    (ek : k ≡ bytesIn s (keySpan h)) (ew : w ≡ isMutation (q .command)) (el : l ≡ lookupOf w b k) (eo : old ≡ part b (l .at) (l .len)) (eh : hd ≡ headOf b)
+    (eq : q ≡ instructionOf (requestOf s h)) (ed : d ≡ decision (seeing hd (l .stored) (hasPlace (l .place)) clock (numberOf old)) q) where
+  abbrev key : Key
+  key = bytesIn s (keySpan h)
+
+  abbrev row : Option Doc
+  row = findRow (tableOf b .rows) key
+
+  abbrev free : Bool
+  free = ltb 0 (freeRows (tableOf b .rows))
+
+  found : l ≡ lookupOf w b key
+  found = el ∙ ap (lookupOf w b) ek
+
+  finds : Finds b (tableOf b .rows) key w
+  finds = finds-sound b key w y sb
+
+  stored-is : l .stored ≡ storedOf row
+  stored-is = ap (λ (x : Lookup). x .stored) found ∙ finds .stored
+
+  old-is : old ≡ docValue row
+  old-is = eo ∙ ap (λ (x : Lookup). part b (x .at) (x .len)) found ∙ finds .value
+
+  decided-is : d ≡ decision (seeing (headOf b) (storedOf row) free clock (numberOf (docValue row))) q
+  decided-is =
+      ed ∙ (λ i. decision (seeing (eh i) (stored-is i) (hasPlace (l .place)) clock (numberOf (old-is i))) q)
+      ∙ placed (headOf b) (storedOf row) (hasPlace (l .place)) free clock (numberOf (docValue row)) q w ew
+      (λ e. ap (λ (x : Lookup). hasPlace (x .place)) found ∙ finds .room e)
 
   decision-is : d ≡ decisionOn (tableOf b) clock s h
-  decision-is =
-      decided-is b s clock h f (freeIn 0 (tableOf b .rows)) (ef ∙ ap (λ (x : List ℕ). findIn x 0 (tableOf b .rows)) ek) refl
-      hd (heldAt b f) (not (missing (freeIn 0 (tableOf b .rows)))) (numberOf (valueIn b f)) q d g eh refl refl refl eq placed-decision
+  unfolding decisionOn tableOf
+  decision-is = rw g (decided-is ∙ ap (decision (seeing (headOf b) (storedOf row) free clock (numberOf (docValue row)))) eq)
 
-  no-store : w ≡ false → d .done .store ≡ NoRow
-  no-store z = ap (λ (x : Decision). x .done .store) placed-decision ∙ stores-none hd (heldAt b f) clock (numberOf (valueIn b f)) q (not (missing (freeIn 0 (tableOf b .rows)))) (sym ew ∙ z)
+  status-is : d .status ≡ answerOn (tableOf b) clock s h .effect .status
+  unfolding answerOn
+  status-is = ap (λ (x : Decision). x .status) decision-is
+
+  head-is : d .done .head ≡ answerOn (tableOf b) clock s h .effect .head
+  unfolding answerOn
+  head-is = ap (λ (x : Decision). x .done .head) decision-is
+
+  store-is : (v : List ℕ) → v ≡ bareValue s h → docFrom (d .done .store) (bytesFrom (d .done .source) v) ≡ answerOn (tableOf b) clock s h .effect .store
+  unfolding answerOn requestOf
+  store-is v ev = λ i. docFrom (decision-is i .done .store) (bytesFrom (decision-is i .done .source) (ev i))
+
+  store-none : (v : List ℕ) → v ≡ bareValue s h → w ≡ false → answerOn (tableOf b) clock s h .effect .store ≡ none
+  store-none v ev e =
+      sym (store-is v ev) ∙ no-doc (d .done .store) _ (ap (λ (x : Decision). x .done .store) decided-is
+      ∙ stores-none (seeing (headOf b) (storedOf row) free clock (numberOf (docValue row))) q (sym ew ∙ e))
+
+  reply-is : replyBytes (h .opcode) (h .opaque) d k old ≡ frameReply b clock s h
+  unfolding frameReply
+  reply-is = λ i. replyBytes (h .opcode) (h .opaque) (decision-is i) (ek i) (old-is i)
 
   -- what answering and storing by the decision leaves
-  pub formed-by : (v : List ℕ) (r : Served) (n : ℕ) (b′ out out′ : List ℕ) → Bytes b → sound b ≡ true → v ≡ valueOf s h
-      → n ≡ length (replyBytes (h .opcode) (h .opaque) d k old) → r ≡ Done (d .status) (24 + h .body) n
-      → out′ ≡ written out 0 (replyBytes (h .opcode) (h .opaque) d k old)
-      → b′ ≡ storedAt b place k (docFrom (d .done .store) (bytesFrom (d .done .source) v (valueIn b place))) (d .done .head .mark .0)
-      → (r ≡ answerBy b clock s (Whole h)) × ((b′ ≡ frameTable b clock s h) × (out′ ≡ written out 0 (frameReply b clock s h)))
-  formed-by v r n b′ out out′ y sb ev en er eout eb =
-      let free = freeIn 0 (tableOf b .rows) in (
-        er ∙ answer-is b s clock h d decision-is f free k old ek ef refl old-value n en,
-        (
-          eb
-              ∙ ap (λ (x : Found). storedAt b x k (docFrom (d .done .store) (bytesFrom (d .done .source) v (valueIn b x))) (d .done .head .mark .0)) ep
-              ∙ placed-table b free f w k (d .done .store) (d .done .source) v (d .done .head .mark .0) no-store
-              ∙ table-is b s clock h d decision-is f free k old ek ef refl old-value (orElse f free) v y sb refl ev,
-          eout ∙ ap (written out 0) (reply-is b s clock h d decision-is f free k old ek ef refl old-value),
-        ),
-      )
+  pub formed-by : (v : List ℕ) (r : Served) (n : ℕ) (b′ out out′ : List ℕ) → v ≡ bareValue s h → 1302 ≤ length out
+      → n ≡ length (fittingReply (length out) (h .opcode) (h .opaque) d k old) → r ≡ Done (d .status) (24 + h .body) n
+      → out′ ≡ written out 0 (fittingReply (length out) (h .opcode) (h .opaque) d k old)
+      → b′ ≡ storedWith b l k (docFrom (d .done .store) (bytesFrom (d .done .source) v)) (d .done .head)
+      → ServesFrame b clock s h out r b′ out′
+  formed-by v r n b′ out out′ ev lo en er eout eb =
+      let lk : length k ≤ 250 = omega (arith, ap length ek, key-short s h g) in
+      let lv : length old ≤ 1024 = omega (arith, ap length (old-is ∙ sym (finds .value)), part-most b (lookupOf w b key .at) (lookupOf w b key .len), finds .short) in
+      let fit = fitting (length out) (h .opcode) (h .opaque) d k old lo lk lv ∙ reply-is in
+      record {
+        answer = er ∙ (λ i. Done (status-is i) (24 + h .body) ((en ∙ ap length fit) i));
+        table = eb ∙ (λ i. storedWith b (found i) (ek i) (store-is v ev i) (head-is i)) ∙ changed-is b s clock h w y z inside sb (store-none v ev);
+        reply = eout ∙ ap (written out 0) fit;
+      }

@@ -1,7 +1,3 @@
-pub mod Replies
-pub mod Storing
-pub mod Lookups
-pub mod Placing
 pub mod Joint
 pub mod Gates
 pub mod Parts

@@ -12,7 +12,7 @@ use Rattle.header.specs.declared.Header.{Header}
 use Rattle.request.specs.declared.Gate.{Gate}
 use Rattle.request.specs.declared.Gate.the-variants.{Stop, Whole}
 use Rattle.request.proofs.Gated.{WholeFrame, no-stop, whole-frame}
-use Rattle.table.specs.Damage.{sound}
+use Rattle.plain.specs.Damage.{sound}
 use Rattle.serving.specs.declared.Served.the-variants.{Refused}
 use Rattle.serving.specs.Serve.{gateAll, answerBy, tableBy, replyBy, served, servedTable, servedReply}
 

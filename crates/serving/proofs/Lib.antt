@@ -1,2 +1,5 @@
 pub mod Gated
-pub mod Storing
+pub mod Formed
+pub mod Kept
+pub mod Statuses
+pub mod Change

@@ -1,3 +1,4 @@
 pub mod Reply
-pub mod Change
 pub mod Serve
+pub mod Serves
+pub mod Statuses

@@ -3,29 +3,35 @@ use Prim.Native.Nat.{ℕ, _+_}
 use mathlib.Core.Bool.{cond}
 use mathlib.Core.List.{List, [], _++_}
 use lib.ListN.{length}
+use Rattle.numbers.specs.declared.Cas.{Cas}
 use Rattle.header.specs.declared.Header.{Header}
 use Rattle.header.specs.Header.{headerBytes}
 use Rattle.commands.specs.declared.Reply.{Reply}
 use Rattle.commands.specs.declared.Decision.{Decision}
-use Rattle.commands.specs.Decide.{extrasOf, keyOf, replyOf}
+use Rattle.commands.specs.Decide.{replyExtras, replyKey, replyValue}
 
 -- extras, key and value in a row, for a request's key and the stored value
 abbrev pub bodyOf : Reply → List ℕ → List ℕ → List ℕ
-bodyOf r key old = extrasOf r ++ (keyOf r key ++ replyOf r old)
+bodyOf r key old = replyExtras r ++ (replyKey r key ++ replyValue r old)
 
--- opcode and opaque echoed
-unfoldable pub replyHeader : ℕ → ℕ → Decision → List ℕ → List ℕ → Header
-replyHeader op opaque x key old = record {
+-- a reply's header from its numbers: opcode and opaque echoed, the status in place of the vbucket
+abbrev pub headerWith : ℕ → ℕ → ℕ → ℕ → ℕ → ℕ → Cas → Header
+headerWith op opaque status keylen extlen body cas = record {
   magic = 0x81;
   opcode = op;
-  keylen = length (keyOf (x .done .reply) key);
-  extlen = length (extrasOf (x .done .reply));
+  keylen = keylen;
+  extlen = extlen;
   datatype = 0;
-  vbucket = x .status;
-  body = length (bodyOf (x .done .reply) key old);
+  vbucket = status;
+  body = body;
   opaque = opaque;
-  cas = x .done .cas;
+  cas = cas;
 }
+
+unfoldable pub replyHeader : ℕ → ℕ → Decision → List ℕ → List ℕ → Header
+replyHeader op opaque x key old =
+    headerWith op opaque (x .status) (length (replyKey (x .done .reply) key)) (length (replyExtras (x .done .reply)))
+    (length (bodyOf (x .done .reply) key old)) (x .done .cas)
 
 -- no bytes where the frame is silent
 unfoldable pub replyBytes : ℕ → ℕ → Decision → List ℕ → List ℕ → List ℕ

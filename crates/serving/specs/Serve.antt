@@ -2,6 +2,7 @@
 use Prim.Native.Nat.{ℕ, _+_}
 use mathlib.Core.Bool.{Bool, false, cond, not, _||_}
 use mathlib.Core.List.{List}
+use mathlib.Core.Option.{Option}
 use lib.ListN.{length}
 use lib.Dec.{ltb, eqb}
 use Rattle.octets.specs.Parts.{written}
@@ -9,63 +10,72 @@ use Rattle.header.specs.declared.Header.{Header}
 use Rattle.request.specs.declared.Gate.{Gate}
 use Rattle.request.specs.declared.Gate.the-variants.{Stop, Whole}
 use Rattle.request.specs.Reading.{gateOf, frameStatus, bytesIn, keySpan}
-use Rattle.engine.specs.declared.Head.{Head}
-use Rattle.engine.specs.Stored.{storedOf}
-use Rattle.digits.specs.Decimal.{numberOf}
+use Rattle.document.specs.declared.Head.{Head}
+use Rattle.commands.specs.declared.Context.{Context}
 use Rattle.commands.specs.declared.Decision.{Decision}
 use Rattle.commands.specs.declared.Reply.the-variants.{Bare}
 use Rattle.commands.specs.Done.{decision, nothing}
-use Rattle.commands.specs.Decide.{Answer, askOf, answerOf, valueOf}
-use Rattle.asks.specs.Asks.{requestOf}
-use Rattle.table.specs.Table.{Table, tableOf}
-use Rattle.table.specs.Lookup.{placeIn}
-use Rattle.table.specs.Damage.{sound}
-use Rattle.table.specs.Plain.{findRow, freeRows}
+use Rattle.commands.specs.Decide.{Effect, Answer, contextOf, instructionOf, answerOf}
+use Rattle.document.specs.Documents.{Key, Doc, docValue}
+use Rattle.engine.specs.Engine.{storeRow}
+use Rattle.decode.specs.Decode.{requestOf}
+use Rattle.rows.specs.Table.{Table, tableOf, tableBytes}
+use Rattle.plain.specs.Plain.{plain}
+use Rattle.plain.specs.Damage.{sound}
+use Rattle.rows.specs.Find.{findRow, freeRows}
 use Rattle.serving.specs.declared.Served.{Served}
 use Rattle.serving.specs.declared.Served.the-variants.{Refused, Done}
 use Rattle.serving.specs.Reply.{replyBytes}
-use Rattle.serving.specs.Change.{storedAt}
 
 -- 01's number for each answer: its outcome, 0 where a frame was served
-abbrev pub outcomeOf : Served → ℕ
-outcomeOf (Refused n need) = n
-outcomeOf (Done status used len) = 0
+abbrev pub servedOutcome : Served → ℕ
+servedOutcome (Refused n need) = n
+servedOutcome (Done status used len) = 0
 
 -- 5 table damaged, 4 reply room under 1,302 bytes, then the frame's own
 unfoldable pub gateAll : List ℕ → ℕ → List ℕ → Gate
 gateAll b room s = cond (not (sound b)) (Stop 5 0) (cond (ltb room 1302) (Stop 4 0) (gateOf s))
 
 -- the reader's status ends it, save a 0x03: a 0x04 that needs mode or clock comes before
-abbrev pub goesOn : ℕ → Bool
-goesOn status = eqb status 0 || eqb status 0x03
+abbrev pub reachesDecision : ℕ → Bool
+reachesDecision status = eqb status 0 || eqb status 0x03
 
 abbrev pub refusal : Head → ℕ → Decision
 refusal h status = record { status = status; silent = false; done = nothing h Bare (record { 0 = 0 }) }
 
+-- what a decision on a key's document sees of a table
+abbrev pub contextOn : Table → ℕ → Option Doc → Context
+contextOn t clock row = contextOf (t .head) row (ltb 0 (freeRows (t .rows))) clock
+
 -- the decision on a whole frame
 unfoldable pub decisionOn : Table → ℕ → List ℕ → Header → Decision
 decisionOn t clock s h =
-    cond (goesOn (frameStatus s h))
-    (decision (t .head) (storedOf (findRow (t .rows) (bytesIn s (keySpan h)))) (ltb 0 (freeRows (t .rows))) clock
-    (numberOf (valueOf (findRow (t .rows) (bytesIn s (keySpan h))))) (askOf (requestOf s h)))
+    cond (reachesDecision (frameStatus s h))
+    (decision (contextOn t clock (findRow (t .rows) (bytesIn s (keySpan h)))) (instructionOf (requestOf s h)))
     (refusal (t .head) (frameStatus s h))
 
 -- its answer, with the bytes put in
 unfoldable pub answerOn : Table → ℕ → List ℕ → Header → Answer
 unfolding decisionOn
-answerOn t clock s h = answerOf (requestOf s h) (valueOf (findRow (t .rows) (bytesIn s (keySpan h)))) (decisionOn t clock s h)
+answerOn t clock s h = answerOf (requestOf s h) (docValue (findRow (t .rows) (bytesIn s (keySpan h)))) (decisionOn t clock s h)
+
+-- a table after a decision on one of its keys
+abbrev pub tableChanged : Table → Key → Effect → Table
+tableChanged t key x = record { head = x .head; rows = storeRow plain (t .rows) key (x .store) }
+
+-- a table after a whole frame
+abbrev pub frameChange : Table → ℕ → List ℕ → Header → Table
+frameChange t clock s h = tableChanged t (bytesIn s (keySpan h)) (answerOn t clock s h .effect)
 
 -- the table's memory after it
 unfoldable pub frameTable : List ℕ → ℕ → List ℕ → Header → List ℕ
 unfolding answerOn
-frameTable b clock s h =
-    storedAt b (placeIn (bytesIn s (keySpan h)) (tableOf b .rows)) (bytesIn s (keySpan h)) (answerOn (tableOf b) clock s h .effect .store)
-    (answerOn (tableOf b) clock s h .effect .head .mark .0)
+frameTable b clock s h = tableBytes (frameChange (tableOf b) clock s h)
 
 unfoldable pub frameReply : List ℕ → ℕ → List ℕ → Header → List ℕ
 unfolding decisionOn
 frameReply b clock s h =
-    replyBytes (h .opcode) (h .opaque) (decisionOn (tableOf b) clock s h) (bytesIn s (keySpan h)) (valueOf (findRow (tableOf b .rows) (bytesIn s (keySpan h))))
+    replyBytes (h .opcode) (h .opaque) (decisionOn (tableOf b) clock s h) (bytesIn s (keySpan h)) (docValue (findRow (tableOf b .rows) (bytesIn s (keySpan h))))
 
 -- ---- serving: by the gate
 abbrev pub answerBy : List ℕ → ℕ → List ℕ → Gate → Served

@@ -1,41 +1,37 @@
--- How the kinds of the constant table spell a shape, and the law that turns a computed test of the whole table into its rule at each entry.
+-- For the code alone: how an entry of the constant table stands for a shape, and the law that turns a computed test of the whole table into its rule at each entry.
 use Prim.Native.Nat.{ℕ, zero, suc, _+_, _/_, _%_, _<_}
 use mathlib.Core.Path.{_≡_, sym, ap, _∙_}
+use mathlib.Core.Bool.{Bool}
 use mathlib.Core.List.{List, [], _∷_, map}
 use native.Mathlib.Nat.{add-zero, zero-add, add-suc, suc-add, le-of-suc-le-suc, not-suc-le-zero}
 use lib.ListN.{getD, List·getD-map}
-use mathlib.Core.Bool.{cond}
 use lib.Dec.{eqb}
+use Rattle.shape.specs.declared.Operation.the-variants.{Unknown, NotBuilt}
 use Rattle.shape.specs.declared.Shape.{Shape}
-use Rattle.shape.specs.Shapes.{shapeOf}
+use Rattle.shape.specs.Shapes.{Command, commands, shapeBy, refused, shapeOf}
 
--- a kind's hexadecimal digits: status 2, extras 2, key, value, meta, quiet
-abbrev pub spelled : ℕ → Shape
-spelled n = record {
-  status = n / 0x1000000 % 256;
-  extras = n / 0x10000 % 256;
-  key = n / 0x1000 % 16;
-  value = n / 0x100 % 16;
-  meta = n / 0x10 % 16;
-  quiet = eqb (n % 16) 1;
-}
+-- the shapes of the operations, loud and quiet: unknown, not built, then the commands
+abbrev pub unknown : Bool → Shape
+unknown q = refused Unknown 0x81
 
--- a kind's digits
-unfoldable pub kindSpelled : ℕ → ℕ
-kindSpelled k =
-    cond (eqb k 1) 0x83000000  -- not built
-    (cond (eqb k 2) 0x00000000  -- nothing
-    (cond (eqb k 3) 0x00001000  -- key
-    (cond (eqb k 4) 0x00001001  -- key, quiet
-    (cond (eqb k 5) 0x00081100  -- flags and expiry, key, value
-    (cond (eqb k 6) 0x00081101  -- the same, quiet
-    (cond (eqb k 7) 0x00141000  -- counter, key
-    (cond (eqb k 8) 0x00141001  -- counter, key, quiet
-    (cond (eqb k 9) 0x00181110  -- with meta, key, value
-    (cond (eqb k 10) 0x00181111  -- the same, quiet
-    (cond (eqb k 11) 0x00181120  -- with meta, key, no value
-    (cond (eqb k 12) 0x00181121  -- the same, quiet
-    0x81000000)))))))))))  -- no such command
+abbrev pub notBuilt : Bool → Shape
+notBuilt q = refused NotBuilt 0x83
+
+abbrev pub built : Command → Bool → Shape
+built c q = shapeBy (c .operation) (c .form) q
+
+unfoldable pub operations : List (Bool → Shape)
+unfolding commands
+operations = unknown ∷ notBuilt ∷ map built commands
+
+-- the operation with this number, loud or quiet
+unfoldable pub numbered : ℕ → Bool → Shape
+unfolding operations
+numbered n q = getD operations n unknown q
+
+-- an entry: an operation's number times two, plus one for its quiet form
+abbrev pub entryShape : ℕ → Shape
+entryShape k = numbered (k / 2) (eqb (k % 2) 1)
 
 -- f at i, i + 1, .., n of them
 unfoldable pub build {ℓ} : {A : Type ℓ} → (ℕ → A) → ℕ → ℕ → List A

@@ -1,13 +1,41 @@
-// Every opcode's shape: what stands between the header and the end of the body, and whether the opcode is built.
+// Every opcode's shape: which command it is, what stands between the header and the end of the body, and whether the
+// command is built.
 ghost use mathlib.Core.Path.{_≡_};
-ghost use Rattle.shape.specs.Shapes.{shapeOf};
-ghost use Rattle.shape.specs.Table.{kindSpelled, spelled};
+ghost use Rattle.shape.specs.Shapes.{refused, bare, keyOnly, plainWrite, counter, metaWrite, shapeBy, shapeOf};
+ghost use Rattle.shape.specs.Table.{numbered};
+
+// The command that an opcode is, its quiet form aside.
+pub enum Operation {
+    Unknown,
+    NotBuilt,
+    Get,
+    GetKey,
+    Set,
+    Add,
+    Replace,
+    Delete,
+    Increment,
+    Decrement,
+    Noop,
+    Version,
+    SetWithMeta,
+    AddWithMeta,
+    DeleteWithMeta,
+}
+
+// What the extras are, and so which sizes they may have.
+pub enum Extras {
+    Nothing,
+    FlagsExpiry,
+    Counter,
+    Meta,
+}
 
 pub struct Shape {
     // 0 where the command is built, 0x83 where it is not, 0x81 where there is no such command
     pub status: u8,
-    // the extras' size; 24 stands for the with-meta sizes
-    pub extras: u8,
+    pub operation: Operation,
+    pub extras: Extras,
     // 0: forbidden, 1: needed
     pub key: u8,
     // 0: forbidden, 1: any
@@ -17,35 +45,36 @@ pub struct Shape {
     pub quiet: bool,
 }
 
-// Entry n is the kind of opcode n. A table of bytes is small: where a shape is asked for, the machine lays it out anew.
-const SHAPES: [u8; 256] = [
-    3, // 00 Get
-    5, // 01 Set
-    5, // 02 Add
-    5, // 03 Replace
-    3, // 04 Delete
-    7, // 05 Increment
-    7, // 06 Decrement
-    1, // 07
-    1, // 08
-    4, // 09 GetQ
-    2, // 0a Noop
-    2, // 0b Version
-    3, // 0c GetK
-    4, // 0d GetKQ
-    1, // 0e
-    1, // 0f
-    1, // 10
-    6, // 11 SetQ
-    6, // 12 AddQ
-    6, // 13 ReplaceQ
-    4, // 14 DeleteQ
-    8, // 15 IncrementQ
-    8, // 16 DecrementQ
-    1, // 17
-    1, // 18
-    1, // 19
-    1, // 1a
+// Entry n: the number of opcode n's operation (in `shape_by`), times two, plus one for its quiet form. A table of bytes is
+// small: where a shape is asked for, the machine lays it out anew.
+const OPERATIONS: [u8; 256] = [
+    4, // 00 Get
+    8, // 01 Set
+    10, // 02 Add
+    12, // 03 Replace
+    14, // 04 Delete
+    16, // 05 Increment
+    18, // 06 Decrement
+    2, // 07
+    2, // 08
+    5, // 09 GetQ
+    20, // 0a Noop
+    22, // 0b Version
+    6, // 0c GetK
+    7, // 0d GetKQ
+    2, // 0e
+    2, // 0f
+    2, // 10
+    9, // 11 SetQ
+    11, // 12 AddQ
+    13, // 13 ReplaceQ
+    15, // 14 DeleteQ
+    17, // 15 IncrementQ
+    19, // 16 DecrementQ
+    2, // 17
+    2, // 18
+    2, // 19
+    2, // 1a
     0, // 1b
     0, // 1c
     0, // 1d
@@ -181,14 +210,14 @@ const SHAPES: [u8; 256] = [
     0, // 9f
     0, // a0
     0, // a1
-    9, // a2 SetWithMeta
-    10, // a3 SetWithMetaQ
-    9, // a4 AddWithMeta
-    10, // a5 AddWithMetaQ
+    24, // a2 SetWithMeta
+    25, // a3 SetWithMetaQ
+    26, // a4 AddWithMeta
+    27, // a5 AddWithMetaQ
     0, // a6
     0, // a7
-    11, // a8 DeleteWithMeta
-    12, // a9 DeleteWithMetaQ
+    28, // a8 DeleteWithMeta
+    29, // a9 DeleteWithMetaQ
     0, // aa
     0, // ab
     0, // ac
@@ -277,38 +306,110 @@ const SHAPES: [u8; 256] = [
     0, // ff
 ];
 
-// What the commands of a kind carry, in hexadecimal digits: status 2, extras 2, key, value, meta, quiet. A `match` stands
-// in the program as a table; a constant array is laid out anew at every call.
-fn kind_spelled(kind: u8) -> u32
-    ensures { λ r. ⌜ r ≡ kindSpelled kind ⌝ }
+fn refused(operation: Operation, status: u8) -> Shape
+    ensures { λ r. ⌜ r ≡ refused operation status ⌝ }
 {
-    match kind {
-        1 => 0x83000000, // not built
-        2 => 0x00000000, // nothing
-        3 => 0x00001000, // key
-        4 => 0x00001001, // key, quiet
-        5 => 0x00081100, // flags and expiry, key, value
-        6 => 0x00081101, // the same, quiet
-        7 => 0x00141000, // counter, key
-        8 => 0x00141001, // counter, key, quiet
-        9 => 0x00181110, // with meta, key, value
-        10 => 0x00181111, // the same, quiet
-        11 => 0x00181120, // with meta, key, no value
-        12 => 0x00181121, // the same, quiet
-        _ => 0x81000000, // no such command
+    Shape {
+        status,
+        operation,
+        extras: Extras::Nothing,
+        key: 0,
+        value: 0,
+        meta: 0,
+        quiet: false,
     }
 }
 
-fn decode(n: u32) -> Shape
-    ensures { λ r. ⌜ r ≡ spelled n ⌝ }
+fn bare(operation: Operation, quiet: bool) -> Shape
+    ensures { λ r. ⌜ r ≡ shapeBy operation bare quiet ⌝ }
 {
     Shape {
-        status: (n / 0x1000000 % 256) as u8,
-        extras: (n / 0x10000 % 256) as u8,
-        key: (n / 0x1000 % 16) as u8,
-        value: (n / 0x100 % 16) as u8,
-        meta: (n / 0x10 % 16) as u8,
-        quiet: n % 16 == 1,
+        status: 0,
+        operation,
+        extras: Extras::Nothing,
+        key: 0,
+        value: 0,
+        meta: 0,
+        quiet,
+    }
+}
+
+fn key_only(operation: Operation, quiet: bool) -> Shape
+    ensures { λ r. ⌜ r ≡ shapeBy operation keyOnly quiet ⌝ }
+{
+    Shape {
+        status: 0,
+        operation,
+        extras: Extras::Nothing,
+        key: 1,
+        value: 0,
+        meta: 0,
+        quiet,
+    }
+}
+
+fn plain_write(operation: Operation, quiet: bool) -> Shape
+    ensures { λ r. ⌜ r ≡ shapeBy operation plainWrite quiet ⌝ }
+{
+    Shape {
+        status: 0,
+        operation,
+        extras: Extras::FlagsExpiry,
+        key: 1,
+        value: 1,
+        meta: 0,
+        quiet,
+    }
+}
+
+fn counter(operation: Operation, quiet: bool) -> Shape
+    ensures { λ r. ⌜ r ≡ shapeBy operation counter quiet ⌝ }
+{
+    Shape {
+        status: 0,
+        operation,
+        extras: Extras::Counter,
+        key: 1,
+        value: 0,
+        meta: 0,
+        quiet,
+    }
+}
+
+fn meta_write(operation: Operation, meta: u8, quiet: bool) -> Shape
+    ensures { λ r. ⌜ r ≡ shapeBy operation (metaWrite meta) quiet ⌝ }
+{
+    Shape {
+        status: 0,
+        operation,
+        extras: Extras::Meta,
+        key: 1,
+        value: 1,
+        meta,
+        quiet,
+    }
+}
+
+// The shape of the operation with this number.
+fn shape_by(number: u8, quiet: bool) -> Shape
+    ensures { λ r. ⌜ r ≡ numbered number quiet ⌝ }
+{
+    match number {
+        1 => refused(Operation::NotBuilt, 0x83),
+        2 => key_only(Operation::Get, quiet),
+        3 => key_only(Operation::GetKey, quiet),
+        4 => plain_write(Operation::Set, quiet),
+        5 => plain_write(Operation::Add, quiet),
+        6 => plain_write(Operation::Replace, quiet),
+        7 => key_only(Operation::Delete, quiet),
+        8 => counter(Operation::Increment, quiet),
+        9 => counter(Operation::Decrement, quiet),
+        10 => bare(Operation::Noop, quiet),
+        11 => bare(Operation::Version, quiet),
+        12 => meta_write(Operation::SetWithMeta, 1, quiet),
+        13 => meta_write(Operation::AddWithMeta, 1, quiet),
+        14 => meta_write(Operation::DeleteWithMeta, 2, quiet),
+        _ => refused(Operation::Unknown, 0x81),
     }
 }
 
@@ -316,5 +417,6 @@ pub fn shape_of(opcode: u8) -> Shape
     ensures { λ r. ⌜ r ≡ shapeOf opcode ⌝ }
 {
     let i = opcode as usize;
-    decode(kind_spelled(SHAPES[i]))
+    let entry = OPERATIONS[i];
+    shape_by(entry / 2, entry % 2 == 1)
 }

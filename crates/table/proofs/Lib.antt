@@ -1,12 +1,3 @@
-pub mod PlainLaws
-pub mod Places
-pub mod RowLaws
-pub mod TableLaws
-pub mod ChangeLaws
-pub mod PurgeBytes
-pub mod Rows
-pub mod Buckets
-pub mod Prints
-pub mod Heads
-pub mod Writes
-pub mod Storing
+pub mod Placed
+pub mod Looking
+pub mod Keeping

@@ -1,75 +1,71 @@
--- What is claimed of tables: sound bytes are the bytes of a good table and the other way round, and every change that a table takes keeps it good. Proved in proofs/.
-use Prim.Native.Nat.{ℕ, _^_, _≤_, _<_}
+-- What the calls mean on a table that is not damaged, in documents alone. Proved in proofs/.
+use Prim.Native.Nat.{ℕ, _+_, _^_, _≤_, _<_}
 use mathlib.Core.Path.{_≡_}
-use mathlib.Core.List.{List, [], _∷_}
-use mathlib.Core.Bool.{Bool, true}
-use mathlib.Core.Option.{none, some}
-use lib.ListN.{length, set}
-use Rattle.octets.specs.Parts.{Bytes}
-use Rattle.engine.specs.Documents.{Key, Doc, Entry}
-use Rattle.table.specs.declared.Found.the-variants.{At}
-use Rattle.table.specs.Row.{Row}
-use Rattle.table.specs.Table.{Table, tableOf, tableBytes, withMark, fresh}
-use Rattle.table.specs.Lookup.{placeIn}
-use Rattle.table.specs.Damage.{sound}
-use Rattle.table.specs.Store.{stored}
-use Rattle.table.specs.Plain.{Distinct, putRow, purgeRows}
+use mathlib.Core.Bool.{Bool, true, _||_}
+use mathlib.Core.List.{List}
+use lib.Dec.{ltb}
+use lib.ListN.{length}
+use Rattle.octets.specs.Parts.{Bytes, part, written}
+use Rattle.document.specs.Documents.{Key, Doc, docValue}
+use Rattle.document.specs.Stored.{storedOf, hasRow, goneDoc}
+use Rattle.document.specs.declared.Head.{Head}
+use Rattle.document.specs.Head.{marked}
+use Rattle.engine.specs.Engine.{Room}
+use Rattle.rows.specs.Row.{Row}
+use Rattle.rows.specs.Table.{Table, tableOf, headBytes, tableBytes}
+use Rattle.rows.specs.Good.{EntryGood}
+use Rattle.rows.specs.Find.{findRow, freeRows, valuePlace}
+use Rattle.plain.specs.Damage.{sound}
+use Rattle.plain.specs.Plain.{plain}
+use Rattle.plain.specs.Purge.{goneCount}
+use Rattle.plain.specs.Change.{purgedRows, freedRows}
+use Rattle.plain.specs.Claims.{Good}
+use Rattle.table.specs.Calls.{hasPlace, lookupOf, storedBy}
 
--- a used row keeps 01's rules under a mark
-pub record EntryGood (mark : ℕ) (e : Entry) : Type 0 where
-  pub key-least : 1 ≤ length (e .key)
-  pub key-most : length (e .key) ≤ 250
-  pub value-most : length (e .doc .value) ≤ 1024
-  pub bare : e .doc .tomb ≡ true → (e .doc .value ≡ []) × (e .doc .numbers .flags ≡ 0) × (e .doc .numbers .expiry ≡ 0)
-  pub flags : e .doc .numbers .flags < 2 ^ 32
-  pub expiry : e .doc .numbers .expiry < 2 ^ 32
-  pub revision : e .doc .numbers .revision .0 < 2 ^ 64
-  pub cas-least : 1 ≤ e .doc .numbers .cas .0
-  pub cas-most : e .doc .numbers .cas .0 ≤ mark
+-- a lookup in memory b of a table with these rows
+pub record Finds (b : List ℕ) (rows : List Row) (key : Key) (new : Bool) : Type 0 where
+  pub stored : lookupOf new b key .stored ≡ storedOf (findRow rows key)
+  pub value : part b (lookupOf new b key .at) (lookupOf new b key .len) ≡ docValue (findRow rows key)
+  pub inside : lookupOf new b key .at + lookupOf new b key .len ≤ length b
+  pub short : lookupOf new b key .len ≤ 1024
+  pub size : lookupOf new b key .len ≡ length (docValue (findRow rows key))
+  pub stands : lookupOf new b key .at ≡ valuePlace rows key 16
+  -- the key has a row, or there is a free one
+  pub room : new ≡ true → hasPlace (lookupOf new b key .place) ≡ (hasRow (storedOf (findRow rows key)) || ltb 0 (freeRows rows))
 
-abbrev pub AllGood : ℕ → List Row → Type 0
-AllGood mark [] = Unit {0}
-AllGood mark (none ∷ ws) = AllGood mark ws
-AllGood mark (some e ∷ ws) = EntryGood mark e × AllGood mark ws
+abbrev pub FindsSound : Type 0
+FindsSound = (b : List ℕ) (key : Key) (new : Bool) → Bytes b → sound b ≡ true → Finds b (tableOf b .rows) key new
 
-pub record Good (t : Table) : Type 0 where
-  pub least : 1 ≤ length (t .rows)
-  pub most : length (t .rows) ≤ 256
-  pub state : (1 ≤ t .head .state) × (t .head .state ≤ 4)
-  pub mode : (1 ≤ t .head .mode) × (t .head .mode ≤ 2)
-  pub vbucket : t .head .vbucket < 65536
-  pub clock : t .head .clock ≡ 0
-  pub mark : t .head .mark .0 < 2 ^ 64
-  pub rows : AllGood (t .head .mark .0) (t .rows)
-  pub keys : Distinct (t .rows)
+abbrev pub FindsGood : Type 0
+FindsGood = (t : Table) (key : Key) (new : Bool) → Good t → Finds (tableBytes t) (t .rows) key new
 
--- sound bytes are the bytes of a good table
-abbrev pub SoundGood : Type 0
-SoundGood = (b : List ℕ) → Bytes b → sound b ≡ true → (tableBytes (tableOf b) ≡ b) × Good (tableOf b)
+-- storing where a lookup said puts the document
+pub record Stores (t : Table) (key : Key) (d : Doc) : Type 0 where
+  pub bytes : storedBy (tableBytes t) (lookupOf true (tableBytes t) key) (record { key = key; doc = d }) ≡ tableBytes (record { head = t .head; rows = plain .put (t .rows) key d })
+  pub good : Good (record { head = t .head; rows = plain .put (t .rows) key d })
 
--- a good table's bytes are sound, and say that table
-abbrev pub GoodSound : Type 0
-GoodSound = (t : Table) → Good t → (sound (tableBytes t) ≡ true) × (tableOf (tableBytes t) ≡ t)
+abbrev pub StoresGood : Type 0
+StoresGood =
+    (t : Table) (key : Key) (d : Doc) → Good t → EntryGood (t .head .mark .0) (record { key = key; doc = d }) → Room plain (t .rows) key
+    → Stores t key d
 
-abbrev pub withEntry : Table → Key → Doc → Table
-withEntry t k d = record { head = t .head; rows = putRow (t .rows) k d }
+-- the head is written apart: it changes no row, a higher mark keeps a table good, and no lookup sees it
+abbrev pub HeadPut : Type 0
+HeadPut = (t : Table) (h : Head) → written (tableBytes t) 0 (headBytes h) ≡ tableBytes (record { head = h; rows = t .rows })
 
--- storing an entry at its key's place with a mark that is no lower puts it, changes that row and the mark alone, and keeps the table good
-pub record Stores (t : Table) (i : ℕ) (e : Entry) (mark : ℕ) : Type 0 where
-  pub bytes : stored (tableBytes t) i e mark ≡ tableBytes (withMark (withEntry t (e .key) (e .doc)) mark)
-  pub row : putRow (t .rows) (e .key) (e .doc) ≡ set (t .rows) i (some e)
-  pub good : Good (withMark (withEntry t (e .key) (e .doc)) mark)
+abbrev pub HeadGood : Type 0
+HeadGood = (t : Table) (m : ℕ) → Good t → t .head .mark .0 ≤ m → m < 2 ^ 64 → Good (record { head = marked (t .head) m; rows = t .rows })
 
-abbrev pub StoreGood : Type 0
-StoreGood =
-    (t : Table) (i : ℕ) (e : Entry) (mark : ℕ) → Good t → EntryGood mark e → t .head .mark .0 ≤ mark → mark < 2 ^ 64
-    → placeIn (e .key) (t .rows) ≡ At i → Stores t i e mark
+abbrev pub LookupHead : Type 0
+LookupHead =
+    (t : Table) (h : Head) (key : Key) (new : Bool) → Good t → Good (record { head = h; rows = t .rows })
+    → lookupOf new (tableBytes (record { head = h; rows = t .rows })) key ≡ lookupOf new (tableBytes t) key
 
--- purging keeps a table good, whatever it picks
-abbrev pub PurgeGood : Type 0
-PurgeGood = (t : Table) (p : Doc → Bool) → Good t → Good (record { head = t .head; rows = purgeRows (t .rows) p })
+-- a purge frees the rows that the engine's purge does, and says how many
+pub record Purges (t : Table) (clock bound : ℕ) : Type 0 where
+  pub bytes : purgedRows (goneDoc clock bound) (tableBytes t) ≡ tableBytes (record { head = t .head; rows = plain .purge (t .rows) (goneDoc clock bound) })
+  pub count : freedRows (goneDoc clock bound) (tableBytes t) ≡ goneCount (goneDoc clock bound) (t .rows)
+  pub good : Good (record { head = t .head; rows = plain .purge (t .rows) (goneDoc clock bound) })
 
-abbrev pub FreshGood : Type 0
-FreshGood =
-    (n state mode vbucket : ℕ) → 1 ≤ n → n ≤ 256 → (1 ≤ state) × (state ≤ 4) → (1 ≤ mode) × (mode ≤ 2) → vbucket < 65536
-    → Good (fresh n state mode vbucket)
+abbrev pub PurgesGood : Type 0
+PurgesGood = (t : Table) (clock bound : ℕ) → Good t → Purges t clock bound

@@ -1,9 +1,2 @@
-pub mod Row
-pub mod Table
-pub mod Lookup
-pub mod Damage
-pub mod Store
-pub mod Plain
+pub mod Calls
 pub mod Claims
-pub mod Purge
-pub mod Print

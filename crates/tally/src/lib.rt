@@ -16,11 +16,7 @@ pub struct Tally {
 fn more_if(on: bool, n: u64) -> u64
     ensures { λ r. ⌜ r ≡ moreIf on n ⌝ }
 {
-    if on {
-        if n < 18446744073709551615 { n + 1 } else { n }
-    } else {
-        n
-    }
+    if on { numbers::next(n) } else { n }
 }
 
 // The counts after an answer.

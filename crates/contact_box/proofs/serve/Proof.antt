@@ -28,18 +28,24 @@ size-requires : tie.Need-size-requires
 size-requires c κs = search needs
 
 array-borrow-prefix-memory : tie.Need-array-borrow-prefix-memory
-array-borrow-prefix-memory c = let s = c .before .before .before .before in fits s (c .size .result) (c .size .ensures) (c .before .before .before .memory .result) (c .before .before .before .memory .ensures)
+array-borrow-prefix-memory c =
+    let memory = c .before .before .before .memory in
+    let s = c .before .before .before .before in
+    fits s (c .size .result) (c .size .ensures) (memory .result) (memory .ensures)
 
 slice-aggregate-table : tie.Need-slice-aggregate-table
 slice-aggregate-table c =
+    let memory = c .before .before .before .before .memory in
     let s = c .before .before .before .before .before in
-    sym (length-take-le (c .before .size .result) (c .before .before .before .before .memory .result) (fits s (c .before .size .result) (c .before .size .ensures) (c .before .before .before .before .memory .result) (c .before .before .before .before .memory .ensures)))
+    sym (length-take-le (c .before .size .result) (memory .result) (fits s (c .before .size .result) (c .before .size .ensures) (memory .result) (memory .ensures)))
 
 make-table-requires : tie.Need-make-table-requires
 make-table-requires c κs =
-    let s = c .before .before .before .before .before .before in
+    let before = c .before .before .before .before .before .before in
+    let memory = c .before .before .before .before .before .memory in
+    let s = before in
     let z = c .before .before .size in
-    (length-take-le (z .result) (c .before .before .before .before .before .memory .result) (fits s (z .result) (z .ensures) (c .before .before .before .before .before .memory .result) (c .before .before .before .before .before .memory .ensures)) ∙ z .ensures, s .pre)
+    (length-take-le (z .result) (memory .result) (fits s (z .result) (z .ensures) (memory .result) (memory .ensures)) ∙ z .ensures, s .pre)
 
 slice-aggregate-serve-input : tie.Need-slice-aggregate-serve-input
 slice-aggregate-serve-input c = search needs

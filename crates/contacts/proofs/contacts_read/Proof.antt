@@ -1,18 +1,15 @@
-use Rattle.contacts.specs.Answers.{documentAnswer}
+use Rattle.answers.specs.Answers.{documentAnswer}
 use mathlib.Core.Path.{ap, _∙_}
 use borrow.Author.Needs.{needs}
 use Rattle.contacts.proofs.contacts_read.Statement.{statement}
 use Rattle.contacts.proofs.contacts_read.Tie as tie
 
--- src/lib.rt:78:30
 read-requires : tie.Need-read-requires
 read-requires c κs = search needs
 
--- src/lib.rt:78:5
 document-answer-requires : tie.Need-document-answer-requires
 document-answer-requires c κs = search needs
 
--- src/lib.rt:74:1
 returns : tie.Need-returns
 returns c = c .document-answer .ensures ∙ ap documentAnswer (c .before .read .ensures)
 

@@ -1,18 +1,15 @@
-use Rattle.contacts.specs.Answers.{requestAnswer}
+use Rattle.answers.specs.Answers.{requestAnswer}
 use mathlib.Core.Path.{ap, _∙_}
 use borrow.Author.Needs.{needs}
 use Rattle.contacts.proofs.contacts_read_request.Statement.{statement}
 use Rattle.contacts.proofs.contacts_read_request.Tie as tie
 
--- src/lib.rt:94:29
 read-requires : tie.Need-read-requires
 read-requires c κs = search needs
 
--- src/lib.rt:94:5
 request-answer-requires : tie.Need-request-answer-requires
 request-answer-requires c κs = search needs
 
--- src/lib.rt:90:1
 returns : tie.Need-returns
 returns c = c .request-answer .ensures ∙ ap requestAnswer (c .before .read .ensures)
 

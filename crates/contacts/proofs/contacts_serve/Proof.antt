@@ -1,4 +1,5 @@
--- `contacts_serve` meets its contract: a walk of its MIR, by hand. All that is lent goes to `store::serve`, each at its own lifetime for good; the frame is copied. The answer goes to `served_answer`. Assumes nothing.
+-- `contacts_serve` meets its contract: a walk of its MIR, by hand. All that is lent goes to `counted::serve`, each at its own lifetime
+-- for good; the frame is copied. The answer goes to `served_answer`. Assumes nothing.
 use mathlib.Core.Path.{_≡_, refl, ap, _∙_}
 use Prim.Native.Nat.{ℕ, _<_, _^_}
 use mathlib.Core.List.{[], _∷_, List}
@@ -36,32 +37,45 @@ use denote.Triple.Table.{entered, cited}
 use denote.Triple.Walked.{says, Stays, gave-ref, gave-slice, stay-none, stay-none-slice, walkOf, goes-none, goes-none-slice, goes-gave-ref, goes-gave-slice, Walks, ends-at, walked, walk-meets}
 use denote.Exit.{yes}
 use denote.Struct.Laws as LL
-use Rattle.serving.specs.Serve.{served, servedTable, servedReply}
+use Rattle.tally.specs.Serves.{ServesCounted}
 use Rattle.tally.specs.Counts.{countedOf}
 use Rattle.tally.specs.declared.Tally.{Tally}
 use Rattle.serving.specs.declared.Served.{Served}
 use Rattle.tally.proofs.Tally as T
 use Rattle.serving.proofs.Served as O
 use Rattle.serving.proofs.Served.Laws as O′
-use Rattle.store.proofs.serve as serve
-use Rattle.store.proofs.serve.Symbol as serve-def
-use Rattle.store.proofs.serve.Symbol.{name as #store·serve}
-use Rattle.store.proofs.serve.Met as serve-thm
-use Rattle.contacts.specs.Answers.{servedAnswer}
-use Rattle.contacts.specs.declared.answers.ServedAnswer.{ServedAnswer}
-use Rattle.contacts.proofs.answers.ServedAnswer as S
-use Rattle.contacts.proofs.answers.ServedAnswer.Laws as S′
-use Rattle.contacts.proofs.answers.served_answer as answer
-use Rattle.contacts.proofs.answers.served_answer.Symbol as answer-def
-use Rattle.contacts.proofs.answers.served_answer.Symbol.{name as #answer}
-use Rattle.contacts.proofs.answers.served_answer.Met as answer-thm
+use Rattle.contacts.proofs.counted.serve as serve
+use Rattle.contacts.proofs.counted.serve.Symbol as serve-def
+use Rattle.contacts.proofs.counted.serve.Symbol.{name as #counted·serve}
+use Rattle.contacts.proofs.counted.serve.Met as serve-thm
+use Rattle.answers.specs.Answers.{servedAnswer}
+use Rattle.answers.specs.declared.ServedAnswer.{ServedAnswer}
+use Rattle.answers.proofs.ServedAnswer as S
+use Rattle.answers.proofs.ServedAnswer.Laws as S′
+use Rattle.answers.proofs.served_answer as answer
+use Rattle.answers.proofs.served_answer.Symbol as answer-def
+use Rattle.answers.proofs.served_answer.Symbol.{name as #answer}
+use Rattle.answers.proofs.served_answer.Met as answer-thm
 use Rattle.contacts.proofs.contacts_serve.Key.{name as #contacts-serve}
 use Rattle.contacts.proofs.contacts_serve as f
 use Rattle.contacts.proofs.contacts_serve.Statement as stated
 use Rattle.contacts.proofs.contacts_serve.Code as code
 
 abbrev stayed : Stays (f.ended .signature .params) (f.ended .kept)
-stayed = (gave-slice (0 ∷ []) tt (plain (λ _. u8)), (stay-none (λ _. u32) yes, (stay-none-slice (1 ∷ []) tt (plain (λ _. u8)) yes, (gave-slice (2 ∷ []) tt (plain (λ _. u8)), (gave-ref (3 ∷ []) tt (plain (λ _. T.the-row)), tt)))))
+stayed = (
+  gave-slice (0 ∷ []) tt (plain (λ _. u8)),
+  (
+    stay-none (λ _. u32) yes,
+    (
+      stay-none-slice (1 ∷ []) tt (plain (λ _. u8)) yes,
+      (
+        gave-slice (2 ∷ []) tt
+            (plain (λ _. u8)),
+        (gave-ref (3 ∷ []) tt (plain (λ _. T.the-row)), tt),
+      ),
+    ),
+  ),
+)
 
 -- the contracts that the proof cites
 abbrev Serve : {M : Type 1} (𝓤 : URA M) (H : Heap 𝓤) (A : Atoms 𝓤) (mem : Memory → SProp 𝓤) (run : Routine → Fun 𝓤) → Contract 𝓤
@@ -73,7 +87,9 @@ Answer 𝓤 H A mem run = tripleOf 𝓤 H A answer.signature (answer.spec 𝓤 H
 abbrev Arg : Type 0
 Arg = RefT (List ℕ) × (ℕ × (RefT (List ℕ) × (RefT (List ℕ) × (RefT Tally × Unit {0}))))
 
-module _ {M : Type 1} (𝓤 : URA M) (H : Heap 𝓤) (A : Atoms 𝓤) (W : Given 𝓤 H A) (mem : Memory → SProp 𝓤) (run : Routine → Fun 𝓤) (κ₀ κ₁ κ₂ κ₃ : Lft) (q₀ q₁ q₂ q₃ : Share) (b o : ℕ) (γ : GName) (ys : List ℕ) (fr : RefT (List ℕ)) (c : ℕ) (c-fits : c < 2 ^ 32) (b′ o′ : ℕ) (γ′ : GName) (rs : List ℕ) (b″ o″ : ℕ) (γ″ : GName) (h : Tally) where
+module _ {M : Type 1} (𝓤 : URA M) (H : Heap 𝓤) (A : Atoms 𝓤) (W : Given 𝓤 H A) (mem : Memory → SProp 𝓤) (run : Routine → Fun 𝓤) (κ₀ κ₁ κ₂ κ₃ : Lft)
+    (q₀ q₁ q₂ q₃ : Share) (b o : ℕ) (γ : GName) (ys : List ℕ) (fr : RefT (List ℕ)) (c : ℕ) (c-fits : c < 2 ^ 32) (b′ o′ : ℕ) (γ′ : GName) (rs : List
+    ℕ) (b″ o″ : ℕ) (γ″ : GName) (h : Tally) where
   -- the table, the reply, the tally
   abbrev x : RefT (List ℕ)
   x = record { ptr = (b, o); name = γ; now = ys }
@@ -112,11 +128,11 @@ module _ {M : Type 1} (𝓤 : URA M) (H : Heap 𝓤) (A : Atoms 𝓤) (W : Given
   abbrev OwnF : Fml
   OwnF = ShrSlice (named 1) κ₁ u8 .own fr (sf ∷ [])
 
-  -- what `store::serve` says of its result, of the last lists and of the counts
+  -- what `counted::serve` says of its result, of the last lists and of the counts
   abbrev Said : Served → List ℕ → List ℕ → Tally → Type 0
-  Said r zs ws w = (r ≡ served ys c (now fr) (length rs)) × ((zs ≡ servedTable ys c (now fr) (length rs)) × ((ws ≡ servedReply ys c (now fr) rs) × (w ≡ countedOf h (served ys c (now fr) (length rs)))))
+  Said r zs ws w = ServesCounted ys c (now fr) rs h r zs ws w
 
-  -- `store::serve`: what it is passed, and what it asks
+  -- `counted::serve`: what it is passed, and what it asks
   abbrev to-serve : Serve 𝓤 H A mem run .Ghost
   to-serve = ((κs, (q₀, (q₁, (q₂, (q₃, tt)))), tt, a, vals), tt)
 
@@ -137,35 +153,66 @@ module _ {M : Type 1} (𝓤 : URA M) (H : Heap 𝓤) (A : Atoms 𝓤) (W : Given
   said r z = exE 𝓤 _ (λ ws. snd∗ 𝓤 (sem 𝓤 H A (lasts answer.ended tt (r, tt) ws)) (fact 𝓤 (z ≡ servedAnswer r)))
 
   exits : (r : Served) (z : ServedAnswer) (v : Val) (zs ws : List ℕ) (w : Tally) → Is S.the-row z (v ∷ []) → Said r zs ws w → length zs ≡ length ys → length ws ≡ length rs → z ≡ servedAnswer r
-      → ent 𝓤 (⋆ 𝓤 H A ((‵ (flft κ₀ q₀) ⊛ ‵ (flft κ₁ q₁) ⊛ ‵ (flft κ₂ q₂) ⊛ ‵ (flft κ₃ q₃) ⊛ ‵ ftrue) ∷ ‵ (fres γ″ (T.the-row .coded .code w)) ∷ ‵ (finally u8 γ′ ws) ∷ ‵ (finally u8 γ zs) ∷ ‵ OwnF ∷ [])) (Post v)
+      → ent 𝓤 (⋆ 𝓤 H A ((‵ (flft κ₀ q₀) ⊛ ‵ (flft κ₁ q₁) ⊛ ‵ (flft κ₂ q₂) ⊛ ‵ (flft κ₃ q₃) ⊛ ‵ ftrue) ∷ ‵ (fres γ″ (T.the-row .coded .code w)) ∷ ‵
+      (finally u8 γ′ ws) ∷ ‵ (finally u8 γ zs) ∷ ‵ OwnF ∷ [])) (Post v)
   exits r z v zs ws w is e lz lw e′ =
       qed W ((‵ (flft κ₀ q₀) ⊛ ‵ (flft κ₁ q₁) ⊛ ‵ (flft κ₂ q₂) ⊛ ‵ (flft κ₃ q₃) ⊛ ‵ ftrue) ∷ ‵ (fres γ″ (T.the-row .coded .code w)) ∷ ‵ (finally u8 γ′ ws) ∷ ‵ (finally u8 γ zs) ∷ ‵ OwnF ∷ []) ∵
       suffices ! _ (ends-at 𝓤 H A f.ended stayed (f.clauses 𝓤 H A mem run) W bound v z (zs, (tt, (tt, (ws, (w, tt))))) (lz, (tt, (tt, (lw, (tt, tt)))))) $
-      says ! (e′ ∙ ap servedAnswer (e .0), e .1) $ frame ! $ nothing ! $
+      says ! (record {
+        answer = e′ ∙ ap servedAnswer (e .serves .answer);
+        table = e .serves .table;
+        reply = e .serves .reply;
+        tally = e .tally ∙ ap
+            (countedOf h) (e .serves .answer);
+      }) $ frame ! $ nothing ! $
       -- [true; the tally's last value; the reply's; the table's; the frame's]
-      move ! (1 ∷ 0 ∷ []) $ fjoin ! $ move ! (1 ∷ 0 ∷ []) $ fjoin ! $ move ! (2 ∷ 0 ∷ []) $ fjoin ! $ owned ! u32 (Is u32) (uint-makes 𝓤 H A W w32) c _ (refl, c-fits) $ fjoin ! $ move ! (1 ∷ 0 ∷ []) $ fjoin ! $
+      move ! (1 ∷ 0 ∷ []) $ fjoin ! $ move ! (1 ∷ 0 ∷ []) $ fjoin ! $ move ! (2 ∷ 0 ∷ []) $ fjoin ! $ owned ! u32 (Is u32) (uint-makes 𝓤 H A W w32) c
+      _ (refl, c-fits) $ fjoin ! $ move ! (1 ∷ 0 ∷ []) $ fjoin ! $
       owned ! S.the-row (Is S.the-row) ((LL.makes S.the-type S′.the-plain) 𝓤 H A) z _ is $ move ! (1 ∷ 0 ∷ []) $ done !
 
-  module _ (C : Calls 𝓤 H) (Λ : Loops 𝓤 H) (fm : FmC 𝓤 H (W .laws) C) (known-serve : Triple 𝓤 (C #store·serve) (Serve 𝓤 H A mem run)) (known-answer : Triple 𝓤 (C #answer) (Answer 𝓤 H A mem run)) where
-    walk : Room u8 (length ys) → Room u8 (length rs) → Is (ShrSlice (named 1) κ₁ u8) fr (sf ∷ []) → ent 𝓤 (onEntry 𝓤 H A f.signature κs (q₀, (q₁, (q₂, (q₃, tt)))) a vals) (WpFn 𝓤 H C Λ code.function (sx ∷ vint w32 c ∷ sf ∷ sy ∷ vptr b″ o″ ∷ []) Post)
+  module _ (C : Calls 𝓤 H) (Λ : Loops 𝓤 H) (fm : FmC 𝓤 H (W .laws) C) (known-serve : Triple 𝓤 (C #counted·serve) (Serve 𝓤 H A mem run)) (known-answer
+      : Triple 𝓤 (C #answer) (Answer 𝓤 H A mem run)) where
+    walk : Room u8 (length ys) → Room u8 (length rs) → Is (ShrSlice (named 1) κ₁ u8) fr (sf ∷ [])
+        → ent 𝓤 (onEntry 𝓤 H A f.signature κs (q₀, (q₁, (q₂, (q₃, tt)))) a vals) (WpFn 𝓤 H C Λ code.function (sx ∷ vint w32 c ∷ sf ∷ sy ∷ vptr b″ o″ ∷ []) Post)
     walk room room′ p =
         qed W ((‵ (flft κ₀ q₀) ⊛ ‵ (flft κ₁ q₁) ⊛ ‵ (flft κ₂ q₂) ⊛ ‵ (flft κ₃ q₃) ⊛ ‵ ftrue) ∷ ‵ own-serve ∷ []) ∵
         enter ! C Λ code.function (sx ∷ vint w32 c ∷ sf ∷ sy ∷ vptr b″ o″ ∷ []) _ $
-        alloc1 ! (λ l₀. alloc1 ! (λ l₁. alloc1 ! (λ l₂. alloc1 ! (λ l₃. alloc1 ! (λ l₄. alloc1 ! (λ l₅. alloc1 ! (λ l₆. alloc1 ! (λ l₇. alloc1 ! (λ l₈. alloc1 ! (λ l₉. alloc1 ! (λ lₐ. alloc1 ! (λ lᵦ. alloc0 ! $ params1 ! $
-        pass1 ! (init ! 20 refl (tt, (tt, (record { fits = room .0 }, tt)))) $ pass1 ! (init ! 18 refl (tt, record { fits = c-fits })) $ pass1 ! (init ! 16 refl (shr-slice-lawful 𝓤 H A W (named 1) κ₁ u8 .typed fr (sf ∷ []) p .0)) $ pass1 ! (init ! 14 refl (tt, (tt, (record { fits = room′ .0 }, tt)))) $ pass1 ! (init ! 12 refl (tt, tt)) $ pass0 ! $
+        alloc1 ! (λ l₀. alloc1 ! (λ l₁. alloc1 ! (λ l₂. alloc1 ! (λ l₃. alloc1 ! (λ l₄. alloc1 ! (λ l₅. alloc1 ! (λ l₆. alloc1 ! (λ l₇. alloc1 ! (λ
+        l₈. alloc1 ! (λ l₉. alloc1 ! (λ lₐ. alloc1 ! (λ lᵦ. alloc0 ! $ params1 ! $
+        pass1 ! (init ! 20 refl (tt, (tt, (record { fits = room .0 }, tt)))) $ pass1 ! (init ! 18 refl (tt, record { fits = c-fits })) $ pass1 ! (init
+        ! 16 refl (shr-slice-lawful 𝓤 H A W (named 1) κ₁ u8 .typed fr (sf ∷ []) p .0)) $ pass1 ! (init ! 14 refl (
+          tt,
+          (
+            tt,
+            (
+              record {
+                fits =
+                    room′ .0;
+              },
+              tt,
+            ),
+          ),
+        )) $ pass1 ! (init ! 12 refl (tt, tt)) $ pass0 ! $
         -- [_11; …; _10; …; _9; …; _8; …; _7; …; _6; …; _5; …; _4; …; _3; …; _2; …; _1; …; room for _0; …; the tokens; what the parameters own]
         assigns ! (addr ! (from ! (fld ! refl (hop ! (look-in ! 20 (sub ! 0 refl (whole !))) (stop !))))) (from ! (stop !)) (init ! 8 refl (tt, tt)) $
-        assigns ! (agg ! (and-then ! (load ! (from ! (stop !)) (look ! 8 refl)) (and-then ! (load ! (from ! (fld ! refl (stop !))) (look-in ! 20 (sub ! 1 refl (whole !)))) (no-more !)))) (from ! (stop !)) (init ! 6 refl (tt, (tt, (record { fits = room .0 }, tt)))) $
+        assigns ! (agg ! (and-then ! (load ! (from ! (stop !)) (look ! 8 refl)) (and-then ! (load ! (from ! (fld ! refl (stop !))) (look-in ! 20 (sub
+        ! 1 refl (whole !)))) (no-more !)))) (from ! (stop !)) (init ! 6 refl (tt, (tt, (record { fits = room .0 }, tt)))) $
         assigns ! (addr ! (from ! (fld ! refl (hop ! (look-in ! 14 (sub ! 0 refl (whole !))) (stop !))))) (from ! (stop !)) (init ! 4 refl (tt, tt)) $
-        assigns ! (agg ! (and-then ! (load ! (from ! (stop !)) (look ! 4 refl)) (and-then ! (load ! (from ! (fld ! refl (stop !))) (look-in ! 14 (sub ! 1 refl (whole !)))) (no-more !)))) (from ! (stop !)) (init ! 2 refl (tt, (tt, (record { fits = room′ .0 }, tt)))) $
+        assigns ! (agg ! (and-then ! (load ! (from ! (stop !)) (look ! 4 refl)) (and-then ! (load ! (from ! (fld ! refl (stop !))) (look-in ! 14 (sub
+        ! 1 refl (whole !)))) (no-more !)))) (from ! (stop !)) (init ! 2 refl (tt, (tt, (record { fits = room′ .0 }, tt)))) $
         assigns ! (addr ! (from ! (hop ! (look ! 12 refl) (stop !)))) (from ! (stop !)) (init ! 0 refl (tt, tt)) $
         move ! (25 ∷ []) $ fsplit ! $ move ! (1 ∷ []) $ fsplit ! $ drop ! $ fsplit ! $ use1 W (‵ OwnF ⊛ ‵ OwnF) (shr-slice-copy 𝓤 H A W (named 1) κ₁ u8 .twice fr (sf ∷ [])) $ split ! $
         -- [the frame's; the frame's; the reply's and t's; the table's; _11; …; the tokens]
-        move ! (0 ∷ 2 ∷ []) $ fjoin ! $ owned ! u32 (Is u32) (uint-makes 𝓤 H A W w32) c _ (refl, c-fits) $ fjoin ! $ move ! (2 ∷ 0 ∷ []) $ fjoin ! $ move ! (26 ∷ 0 ∷ []) $ use2 W (raw (Serve 𝓤 H A mem run .pre to-serve)) goes-serve $
-        -- [what `store::serve` asks; the frame's; _11; …]
-        calls-at ! fm (Serve 𝓤 H A mem run) known-serve to-serve (and-then ! (load ! (from ! (stop !)) (look ! 8 refl)) (and-then ! (load ! (from ! (stop !)) (look ! 20 refl)) (and-then ! (load ! (from ! (stop !)) (look ! 18 refl)) (and-then ! (load ! (from ! (stop !)) (look ! 4 refl)) (and-then ! (load ! (from ! (stop !)) (look ! 2 refl)) (no-more !)))))) (λ u.
-        use1 W (later (some (λ (r : Served). ((‵ (flft κ₀ q₀) ⊛ ‵ (flft κ₁ q₁) ⊛ ‵ (flft κ₂ q₂) ⊛ ‵ (flft κ₃ q₃) ⊛ ‵ ftrue) ⊛ ‵ (O.the-row .own r (u ∷ []))) ⊛ raw (ensured 𝓤 H A serve.ended (serve.clauses 𝓤 H A mem run) κs a tt r)))) (id⊢ 𝓤 _) $ await ! tt $ pick ! (λ r.
-        split ! $ move ! (1 ∷ []) $ use1 W (some (λ (zs : List ℕ × (Unit {0} × (Unit {0} × (List ℕ × (Tally × Unit {0}))))). ‵ (lasts serve.ended κs a zs) ⊛ raw (fact 𝓤 (Said r (zs .0) (zs .1 .1 .1 .0) (zs .1 .1 .1 .1 .0))))) (id⊢ 𝓤 _) $ pick ! (λ zs.
+        move ! (0 ∷ 2 ∷ []) $ fjoin ! $ owned ! u32 (Is u32) (uint-makes 𝓤 H A W w32) c _ (refl, c-fits) $ fjoin ! $ move ! (2 ∷ 0 ∷ []) $ fjoin ! $
+        move ! (26 ∷ 0 ∷ []) $ use2 W (raw (Serve 𝓤 H A mem run .pre to-serve)) goes-serve $
+        -- [what `counted::serve` asks; the frame's; _11; …]
+        calls-at ! fm (Serve 𝓤 H A mem run) known-serve to-serve (and-then ! (load ! (from ! (stop !)) (look ! 8 refl)) (and-then ! (load ! (from !
+        (stop !)) (look ! 20 refl)) (and-then ! (load ! (from ! (stop !)) (look ! 18 refl)) (and-then ! (load ! (from ! (stop !)) (look ! 4 refl))
+        (and-then ! (load ! (from ! (stop !)) (look ! 2 refl)) (no-more !)))))) (λ u.
+        use1 W (later (some (λ (r : Served). ((‵ (flft κ₀ q₀) ⊛ ‵ (flft κ₁ q₁) ⊛ ‵ (flft κ₂ q₂) ⊛ ‵ (flft κ₃ q₃) ⊛ ‵ ftrue) ⊛ ‵ (O.the-row .own r (u ∷
+        []))) ⊛ raw (ensured 𝓤 H A serve.ended (serve.clauses 𝓤 H A mem run) κs a tt r)))) (id⊢ 𝓤 _) $ await ! tt $ pick ! (λ r.
+        split ! $ move ! (1 ∷ []) $ use1 W (some (λ (zs : List ℕ × (Unit {0} × (Unit {0} × (List ℕ × (Tally × Unit {0}))))). ‵ (lasts serve.ended κs a
+        zs) ⊛ raw (fact 𝓤 (Said r (zs .0) (zs .1 .1 .1 .0) (zs .1 .1 .1 .1 .0))))) (id⊢ 𝓤 _) $ pick ! (λ zs.
         split ! $ move ! (1 ∷ []) $ heard ! (Said r (zs .0) (zs .1 .1 .1 .0) (zs .1 .1 .1 .1 .0)) (λ e. fsplit ! $ fsplit ! $ move ! (1 ∷ []) $ feqL ! (λ lz.
         -- [the table's last list; what is said of the rest; the tokens and the answer; the frame's; _11; …]
         move ! (1 ∷ []) $ fsplit ! $ drop ! $ fsplit ! $ drop ! $ fsplit ! $ fsplit ! $ move ! (1 ∷ []) $ feqL ! (λ lw.
@@ -175,27 +222,63 @@ module _ {M : Type 1} (𝓤 : URA M) (H : Heap 𝓤) (A : Atoms 𝓤) (W : Given
         land ! (from ! (stop !)) (init ! 17 refl (EL.lawful O.the-type O′.the-laws 𝓤 H A W tt .typed r _ is .0)) $
         nothing ! $ use1 W (raw (Answer 𝓤 H A mem run .pre (to-answer r u))) (goes-answer r u is) $
         calls-at ! fm (Answer 𝓤 H A mem run) known-answer (to-answer r u) (and-then ! (load ! (from ! (stop !)) (look ! 18 refl)) (no-more !)) (λ v.
-        use1 W (later (some (λ (z : ServedAnswer). (‵ ftrue ⊛ ‵ (S.the-row .own z (v ∷ []))) ⊛ raw (ensured 𝓤 H A answer.ended (answer.clauses 𝓤 H A mem run) tt (r, tt) tt z)))) (id⊢ 𝓤 _) $ await ! tt $ pick ! (λ z.
-        split ! $ move ! (1 ∷ []) $ use1 W (raw (fact 𝓤 (z ≡ servedAnswer r))) (said r z) $ heard ! (z ≡ servedAnswer r) (λ e′. split ! $ drop ! $ peeks ! S.the-row (Is S.the-row) (shows 𝓤 H A S.the-row) z (v ∷ []) (λ isz.
+        use1 W (later (some (λ (z : ServedAnswer). (‵ ftrue ⊛ ‵ (S.the-row .own z (v ∷ []))) ⊛ raw (ensured 𝓤 H A answer.ended (answer.clauses 𝓤 H A
+        mem run) tt (r, tt) tt z)))) (id⊢ 𝓤 _) $ await ! tt $ pick ! (λ z.
+        split ! $ move ! (1 ∷ []) $ use1 W (raw (fact 𝓤 (z ≡ servedAnswer r))) (said r z) $ heard ! (z ≡ servedAnswer r) (λ e′. split ! $ drop ! $
+        peeks ! S.the-row (Is S.the-row) (shows 𝓤 H A S.the-row) z (v ∷ []) (λ isz.
         -- [what the result owns; the answer's; the tokens; the tally's last value; true; the reply's; the table's; the frame's; _11; …]
         land ! (from ! (stop !)) (init ! 30 refl (LL.lawful S.the-type S′.the-laws 𝓤 H A W .typed z _ isz .0)) $
-        returns ! (look ! 30 refl) $ forget ! 8 refl $ forget ! 10 refl $ forget ! 12 refl $ forget ! 14 refl $ forget ! 16 refl $ forget ! 18 refl $ forget ! 20 refl $ forget ! 22 refl $ forget ! 24 refl $ forget ! 26 refl $ forget ! 28 refl $ forget ! 30 refl $
-        move ! (30 ∷ 31 ∷ []) $ free1 ! $ move ! (28 ∷ 29 ∷ []) $ free1 ! $ move ! (26 ∷ 27 ∷ []) $ free1 ! $ move ! (24 ∷ 25 ∷ []) $ free1 ! $ move ! (22 ∷ 23 ∷ []) $ free1 ! $ move ! (20 ∷ 21 ∷ []) $ free1 ! $ move ! (18 ∷ 19 ∷ []) $ free1 ! $ move ! (16 ∷ 17 ∷ []) $ free1 ! $ move ! (14 ∷ 15 ∷ []) $ free1 ! $ move ! (12 ∷ 13 ∷ []) $ free1 ! $ move ! (10 ∷ 11 ∷ []) $ free1 ! $ move ! (8 ∷ 9 ∷ []) $ free1 ! $ free0 ! $
+        returns ! (look ! 30 refl) $ forget ! 8 refl $ forget ! 10 refl $ forget ! 12 refl $ forget ! 14 refl $ forget ! 16 refl $ forget ! 18 refl $
+        forget ! 20 refl $ forget ! 22 refl $ forget ! 24 refl $ forget ! 26 refl $ forget ! 28 refl $ forget ! 30 refl $
+        move ! (30 ∷ 31 ∷ []) $ free1 ! $ move ! (28 ∷ 29 ∷ []) $ free1 ! $ move ! (26 ∷ 27 ∷ []) $ free1 ! $ move ! (24 ∷ 25 ∷ []) $ free1 ! $ move !
+        (22 ∷ 23 ∷ []) $ free1 ! $ move ! (20 ∷ 21 ∷ []) $ free1 ! $ move ! (18 ∷ 19 ∷ []) $ free1 ! $ move ! (16 ∷ 17 ∷ []) $ free1 ! $ move !
+        (14 ∷ 15 ∷ []) $ free1 ! $ move ! (12 ∷ 13 ∷ []) $ free1 ! $ move ! (10 ∷ 11 ∷ []) $ free1 ! $ move ! (8 ∷ 9 ∷ []) $ free1 ! $ free0 ! $
         keep ! (2 ∷ 3 ∷ 5 ∷ 6 ∷ 7 ∷ []) $ by ! (exits r z v (zs .0) (zs .1 .1 .1 .0) (zs .1 .1 .1 .1 .0) isz e lz lw e′))))))))))))))))))))))))
 
 module _ {M : Type 1} (𝓤 : URA M) (H : Heap 𝓤) (A : Atoms 𝓤) (W : Given 𝓤 H A) (mem : Memory → SProp 𝓤) (run : Routine → Fun 𝓤) where
-  serve-walks : (C : Calls 𝓤 H) (Λ : Loops 𝓤 H) → FmC 𝓤 H (W .laws) C → Triple 𝓤 (C #store·serve) (Serve 𝓤 H A mem run) → Triple 𝓤 (C #answer) (Answer 𝓤 H A mem run) → Walks 𝓤 H A f.ended stayed (WpFn 𝓤 H C Λ code.function) (f.clauses 𝓤 H A mem run)
-  serve-walks C Λ fm known-serve known-answer = walked 𝓤 H A f.ended stayed (f.clauses 𝓤 H A mem run) (WpFn 𝓤 H C Λ code.function) (λ κs. (slice-vals, (uint-vals w32, (slice-vals, (slice-vals, (ptr-vals, tt))))))
-      (λ κs. (mut-slice-tells (named 0) (κs .0) u8, (uint-tells w32, (shr-slice-tells (named 1) (κs .1 .0) u8, (mut-slice-tells (named 2) (κs .1 .1 .0) u8, (mut-tells (named 3) (κs .1 .1 .1 .0) T.the-row, tt))))))
+  serve-walks : (C : Calls 𝓤 H) (Λ : Loops 𝓤 H) → FmC 𝓤 H (W .laws) C → Triple 𝓤 (C #counted·serve) (Serve 𝓤 H A mem run)
+      → Triple 𝓤 (C #answer) (Answer 𝓤 H A mem run) → Walks 𝓤 H A f.ended stayed (WpFn 𝓤 H C Λ code.function) (f.clauses 𝓤 H A mem run)
+  serve-walks C Λ fm known-serve known-answer =
+      walked 𝓤 H A f.ended stayed (f.clauses 𝓤 H A mem run) (WpFn 𝓤 H C Λ code.function) (λ κs. (slice-vals, (uint-vals w32, (slice-vals, (slice-vals, (ptr-vals, tt))))))
+      (λ κs. (
+        mut-slice-tells (named 0) (κs .0) u8,
+        (
+          uint-tells w32,
+          (
+            shr-slice-tells (named 1) (κs .1 .0) u8,
+            (
+              mut-slice-tells (named 2)
+                  (κs .1 .1 .0) u8,
+              (mut-tells (named 3) (κs .1 .1 .1 .0) T.the-row, tt),
+            ),
+          ),
+        ),
+      ))
       (λ κs qs bounds a g are. via 𝓤 _ (fst∗ 𝓤 _ (emp 𝓤)) (walk 𝓤 H A W mem run (κs .0) (κs .1 .0) (κs .1 .1 .0) (κs .1 .1 .1 .0) (qs .0) (qs .1 .0) (qs .1 .1 .0) (qs .1 .1 .1 .0)
       (a .0 .ptr .0) (a .0 .ptr .1) (a .0 .name) (a .0 .now) (a .1 .1 .0) (a .1 .0) (are .1 .0 .1) (a .1 .1 .1 .0 .ptr .0) (a .1 .1 .1 .0 .ptr .1) (a .1 .1 .1 .0 .name) (a .1 .1 .1 .0 .now)
       (a .1 .1 .1 .1 .0 .ptr .0) (a .1 .1 .1 .1 .0 .ptr .1) (a .1 .1 .1 .1 .0 .name) (a .1 .1 .1 .1 .0 .now) C Λ fm known-serve known-answer (are .0 .0 .1) (are .1 .1 .1 .0 .0 .1) (are .1 .1 .0)))
 
 serve-meets : {M : Type 1} (𝓤 : URA M) (H : Heap 𝓤) (A : Atoms 𝓤) (W : Given 𝓤 H A) (mem : Memory → SProp 𝓤) (run : Routine → Fun 𝓤) (𝓣 : Tables 𝓤 H)
-    → Triple 𝓤 (𝓣 .C #store·serve) (Serve 𝓤 H A mem run) → Triple 𝓤 (𝓣 .C #answer) (Answer 𝓤 H A mem run)
+    → Triple 𝓤 (𝓣 .C #counted·serve) (Serve 𝓤 H A mem run) → Triple 𝓤 (𝓣 .C #answer) (Answer 𝓤 H A mem run)
     → Meets 𝓤 H A f.signature (WpFn 𝓤 H (𝓣 .C) (𝓣 .Λ) code.function) (f.spec 𝓤 H A mem run)
 serve-meets 𝓤 H A W mem run 𝓣 known-serve known-answer =
-    walk-meets 𝓤 H A f.ended stayed W (goes-gave-slice 𝓤 H A W 4 0 tt (plain (λ _. u8)), (goes-none 𝓤 H A W 4 (λ _. u32) yes (λ κs x f. refl), (goes-none-slice 𝓤 H A W 4 (1 ∷ []) tt (plain (λ _. u8)) yes, (goes-gave-slice 𝓤 H A W 4 2 tt (plain (λ _. u8)), (goes-gave-ref 𝓤 H A W 4 3 tt (plain (λ _. T.the-row)), tt))))) (f.clauses 𝓤 H A mem run)
+    walk-meets 𝓤 H A f.ended stayed W (
+      goes-gave-slice 𝓤 H A W 4 0 tt (plain (λ _. u8)),
+      (
+        goes-none 𝓤 H A W 4 (λ _. u32) yes (λ κs x f. refl),
+        (
+          goes-none-slice 𝓤 H A W 4 (1 ∷ []) tt (plain (λ _. u8)) yes,
+          (
+            goes-gave-slice 𝓤 H A W 4 2 tt (plain (λ _. u8)),
+            (
+              goes-gave-ref 𝓤 H A W 4 3 tt
+                  (plain (λ _. T.the-row)),
+              tt,
+            ),
+          ),
+        ),
+      ),
+    ) (f.clauses 𝓤 H A mem run)
     (WpFn 𝓤 H (𝓣 .C) (𝓣 .Λ) code.function) (WpFn-mono 𝓤 H (W .laws) 𝓣 code.function) (serve-walks 𝓤 H A W mem run (𝓣 .C) (𝓣 .Λ) (fmOf 𝓤 H (W .laws) 𝓣) known-serve known-answer)
 
 pub contacts-serve-spec : {M : Type 1} → stated.statement M
@@ -204,5 +287,5 @@ contacts-serve-spec 𝓤 H 𝓜 𝓖 𝓡 =
     entered 𝓤 H (tripleOf 𝓤 H (𝓖 .A) f.signature (f.spec 𝓤 H (𝓖 .A) (𝓜 .mem) (𝓡 .run)))
     (tables 𝓤 H 𝓜 𝓡 code.env .C) (tables 𝓤 H 𝓜 𝓡 code.env .Λ) #contacts-serve code.function (code.unfolded 𝓤 H 𝓜 𝓡)
     (serve-meets 𝓤 H (𝓖 .A) (givenOf 𝓤 H 𝓜 𝓖) (𝓜 .mem) (𝓡 .run) (tablesOf 𝓤 H 𝓜 (tables 𝓤 H 𝓜 𝓡 code.env))
-    (cited 𝓤 H (Serve 𝓤 H (𝓖 .A) (𝓜 .mem) (𝓡 .run)) 𝓜 𝓡 code.env #store·serve serve-def.routine code.calls-store·serve (serve-thm.met 𝓤 H 𝓜 𝓖 𝓡))
-    (cited 𝓤 H (Answer 𝓤 H (𝓖 .A) (𝓜 .mem) (𝓡 .run)) 𝓜 𝓡 code.env #answer answer-def.routine code.calls-contacts·answers·served-answer (answer-thm.met 𝓤 H 𝓜 𝓖 𝓡)))
+    (cited 𝓤 H (Serve 𝓤 H (𝓖 .A) (𝓜 .mem) (𝓡 .run)) 𝓜 𝓡 code.env #counted·serve serve-def.routine code.calls-contacts·counted·serve (serve-thm.met 𝓤 H 𝓜 𝓖 𝓡))
+    (cited 𝓤 H (Answer 𝓤 H (𝓖 .A) (𝓜 .mem) (𝓡 .run)) 𝓜 𝓡 code.env #answer answer-def.routine code.calls-answers·served-answer (answer-thm.met 𝓤 H 𝓜 𝓖 𝓡)))

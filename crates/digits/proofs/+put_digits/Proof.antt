@@ -61,7 +61,8 @@ put-digits-returns : (t : ℕ) → put-digits-lts.Need-returns (
   put-digits-below t,
   put-digits.Post,
 ) (put-digits-at t) put-digits.Post
-put-digits-returns t c = (let l = length-one _ (c .before .if1 .taken) in omega arith, put-one _ _ _ _ (c .before .if1 .taken) (let l = length-one _ (c .before .if1 .taken) in omega arith) (c .digit .ensures))
+put-digits-returns t c =
+    (let l = length-one _ (c .before .if1 .taken) in omega arith, put-one _ _ _ _ (c .before .if1 .taken) (let l = length-one _ (c .before .if1 .taken) in omega arith) (c .digit .ensures))
 
 put-digits-put-digits-requires : (t : ℕ) → put-digits-lts.Need-put-digits-requires (
   digit-reads.Asked,
@@ -69,7 +70,11 @@ put-digits-put-digits-requires : (t : ℕ) → put-digits-lts.Need-put-digits-re
   put-digits-below t,
   put-digits.Post,
 ) (put-digits-at t) put-digits.Post
-put-digits-put-digits-requires t c κs = (let a = c .before .before .before .pre .0 in let big = c .before .if1 .left in omega arith, let l = length-more _ (c .before .if1 .left) (c .before .before .before .fits .n .fits) in omega arith)
+put-digits-put-digits-requires t c κs = (
+  let a = c .before .before .before .pre .0 in let big = c .before .if1 .left in omega arith,
+  let l = length-more _ (c .before .if1 .left)
+      (c .before .before .before .fits .n .fits) in omega arith,
+)
 
 put-digits-digit-requires-2 : (t : ℕ) → put-digits-lts.Need-digit-requires-2 (
   digit-reads.Asked,
@@ -86,7 +91,16 @@ put-digits-slice-write-out-2 : (t : ℕ) → put-digits-lts.Need-slice-write-out
   put-digits.Post,
 ) (put-digits-at t) put-digits.Post
 put-digits-slice-write-out-2 t c =
-    let l = length-more (c .before .before .before .before .before .before .before .args .n) (c .before .before .before .before .before .if1 .left) (c .before .before .before .before .before .before .before .fits .n .fits) in let e = c .before .before .before .put-digits .ensures .0 in let k = c .before .before .before .put-digits .kept .0 in let p = c .before .before .before .before .before .before .before .pre .1 in omega arith
+    let args = c .before .before .before .before .before .before .before .args in
+    let fits = c .before .before .before .before .before .before .before .fits in
+    let pre = c .before .before .before .before .before .before .before .pre in
+    let if1 = c .before .before .before .before .before .if1 in
+    let put-digits-here = c .before .before .before .put-digits in
+    let l = length-more (args .n) (if1 .left) (fits .n .fits) in
+    let e = put-digits-here .ensures .0 in
+    let k = put-digits-here .kept .0 in
+    let p = pre .1 in
+    omega arith
 
 put-digits-add-result-2 : (t : ℕ) → put-digits-lts.Need-add-result-2 (
   digit-reads.Asked,
@@ -95,7 +109,16 @@ put-digits-add-result-2 : (t : ℕ) → put-digits-lts.Need-add-result-2 (
   put-digits.Post,
 ) (put-digits-at t) put-digits.Post
 put-digits-add-result-2 t c =
-    let l = length-more (c .before .before .before .before .before .before .before .args .n) (c .before .before .before .before .before .if1 .left) (c .before .before .before .before .before .before .before .fits .n .fits) in let e = c .before .before .before .put-digits .ensures .0 in let k = c .before .before .before .put-digits .kept .0 in let p = c .before .before .before .before .before .before .before .pre .1 in omega arith
+    let args = c .before .before .before .before .before .before .before .args in
+    let fits = c .before .before .before .before .before .before .before .fits in
+    let pre = c .before .before .before .before .before .before .before .pre in
+    let if1 = c .before .before .before .before .before .if1 in
+    let put-digits-here = c .before .before .before .put-digits in
+    let l = length-more (args .n) (if1 .left) (fits .n .fits) in
+    let e = put-digits-here .ensures .0 in
+    let k = put-digits-here .kept .0 in
+    let p = pre .1 in
+    omega arith
 
 put-digits-same-length-2 : (t : ℕ) → put-digits-lts.Need-same-length-2 (
   digit-reads.Asked,
@@ -112,7 +135,16 @@ put-digits-returns-2 : (t : ℕ) → put-digits-lts.Need-returns-2 (
   put-digits.Post,
 ) (put-digits-at t) put-digits.Post
 put-digits-returns-2 t c =
-    (let l = length-more (c .before .before .before .before .before .before .before .args .n) (c .before .before .before .before .before .if1 .left) (c .before .before .before .before .before .before .before .fits .n .fits) in let e = c .before .before .before .put-digits .ensures .0 in let k = c .before .before .before .put-digits .kept .0 in let p = c .before .before .before .before .before .before .before .pre .1 in omega arith, put-more _ _ _ _ _ _ (c .before .before .before .before .before .if1 .left) (c .before .before .before .before .before .before .before .fits .n .fits) (c .before .before .before .before .before .before .before .pre .1) (c .before .before .before .put-digits .ensures .1) (c .before .before .before .put-digits .ensures .0) (c .digit2 .ensures))
+    let args = c .before .before .before .before .before .before .before .args in
+    let fits = c .before .before .before .before .before .before .before .fits in
+    let pre = c .before .before .before .before .before .before .before .pre in
+    let if1 = c .before .before .before .before .before .if1 in
+    let put-digits-here = c .before .before .before .put-digits in (
+      let l = length-more (args .n) (if1 .left) (fits .n .fits) in let e = put-digits-here .ensures .0 in let k = put-digits-here .kept .0 in let p =
+          pre .1 in omega arith,
+      put-more _ _ _ _ _ _ (if1 .left) (fits .n .fits) (pre .1) (put-digits-here .ensures .1) (put-digits-here .ensures .0)
+          (c .digit2 .ensures),
+    )
 
 pub +put-digits-spec : {M : Type 1} → statement M
 +put-digits-spec = close μ-put-digits λ t. put-digits-lts.spec (

@@ -4,21 +4,17 @@ use borrow.Author.Needs.{needs}
 use Rattle.digits.proofs.parse.Statement.{statement}
 use Rattle.digits.proofs.parse.Tie as tie
 
--- src/lib.rt:91:9
 returns : tie.Need-returns
 unfolding numberOf
 returns c = simp (lt-leb _ _ ((c .if1) .taken))
 
--- src/lib.rt:94:9
 returns-2 : tie.Need-returns-2
 unfolding numberOf
 returns-2 c = simp (le-leb _ _ ((c .before .if1) .left), lt-leb _ _ ((c .if2) .taken))
 
--- src/lib.rt:96:5
 parse-all-requires : tie.Need-parse-all-requires
 parse-all-requires c κs = search needs
 
--- src/lib.rt:87:1
 returns-3 : tie.Need-returns-3
 unfolding numberOf
 returns-3 c = simp (le-leb _ _ ((c .before .before .if1) .left), le-leb _ _ ((c .before .if2) .left)) ((c .parse-all) .ensures)

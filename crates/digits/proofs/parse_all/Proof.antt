@@ -45,12 +45,17 @@ loop-less c = search needs
 
 loop-again : tie.Need-loop-again Inv-loop μ-loop
 loop-again c =
-    let l = c .before .before .before .before .before .before .loop in let s = c .before .before .before .before .before .before .before .before .args .s .now in
+    let args = c .before .before .before .before .before .before .before .before .args in
+    let loop = c .before .before .before .before .before .before .loop in
+    let loop-test = c .before .before .before .before .before .loop-test in
+    let l = loop in
+    let s = args .s .now in
     let e = sym (c .before .before .before .with-digit .ensures) ∙ c .before .b .given .1 in (
       search needs,
       (
         number-on (l .a) _ _ (drop (suc (l .i)) s) e .1,
-        rw add-one (sym (number-on (l .a) _ _ (drop (suc (l .i)) s) e .0) ∙ (ap (numberFrom (l .a)) (sym (drop-cons s (l .i) 0 (c .before .before .before .before .before .loop-test .taken))) ∙ l .inv .1 .1)),
+        rw add-one (sym (number-on (l .a) _ _ (drop (suc (l .i)) s) e .0) ∙ (ap
+            (numberFrom (l .a)) (sym (drop-cons s (l .i) 0 (loop-test .taken))) ∙ l .inv .1 .1)),
       ),
     )
 

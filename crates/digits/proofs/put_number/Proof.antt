@@ -6,19 +6,15 @@ use borrow.Author.Needs.{needs}
 use Rattle.digits.proofs.put_number.Statement.{statement}
 use Rattle.digits.proofs.put_number.Tie as tie
 
--- src/lib.rt:45:9
 returns : tie.Need-returns
 returns c = rw (lt-leb _ _ ((c .if1) .taken)) (refl, refl)
 
--- src/lib.rt:47:5
 put-digits-requires : tie.Need-put-digits-requires
 put-digits-requires c κs = omega (arith, digits-most ((c .before .before .before .args) .n), (c .before .if1) .left)
 
--- src/lib.rt:40:1
 same-length : tie.Need-same-length
 same-length c = search needs
 
--- src/lib.rt:40:1
 returns-2 : tie.Need-returns-2
 returns-2 c = rw (le-leb _ _ ((c .before .before .before .before .if1) .left)) ((c .before .before .put-digits) .ensures .0 ∙ omega arith, (c .before .before .put-digits) .ensures .1)
 

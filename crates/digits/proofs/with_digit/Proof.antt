@@ -8,44 +8,37 @@ use borrow.Author.Needs.{needs}
 use Rattle.digits.proofs.with_digit.Statement.{statement}
 use Rattle.digits.proofs.with_digit.Tie as tie
 
--- src/lib.rt:55:9
 returns : tie.Need-returns
 unfolding isDigit
 returns c = sym (no-digit _ _ (rw (lt-leb 48 (c .before .args .c) (c .if1 .taken))))
 
--- src/lib.rt:58:9
 returns-2 : tie.Need-returns-2
 unfolding isDigit
 returns-2 c = sym (no-digit _ _ (rw (le-leb 48 (c .before .before .args .c) (c .before .if1 .left), le-ltb (c .before .before .args .c) 58 (c .if2 .taken))))
 
--- src/lib.rt:60:13
 cast-d : tie.Need-cast-d
 cast-d c = search needs
 
--- src/lib.rt:62:9
 returns-3 : tie.Need-returns-3
 returns-3 c = sym (too-large _ _ (omega arith))
 
--- src/lib.rt:64:13
 mul-t : tie.Need-mul-t
 mul-t c = search needs
 
--- src/lib.rt:65:8
 sub-if4 : tie.Need-sub-if4
 sub-if4 c = search needs
 
--- src/lib.rt:66:9
 returns-4 : tie.Need-returns-4
 returns-4 c = sym (too-large _ _ (omega arith))
 
--- src/lib.rt:68:19
 add-t7 : tie.Need-add-t7
 add-t7 c = search needs
 
--- src/lib.rt:51:1
 returns-5 : tie.Need-returns-5
 unfolding isDigit
-returns-5 c = let k = c .before .before .before .before .args .c in sym (right-digit _ k (rw (le-leb 48 k (c .before .before .before .if1 .left), lt-ltb k 58 (c .before .before .if2 .left))) (omega arith))
+returns-5 c =
+    let k = c .before .before .before .before .args .c in
+    sym (right-digit _ k (rw (le-leb 48 k (c .before .before .before .if1 .left), lt-ltb k 58 (c .before .before .if2 .left))) (omega arith))
 
 pub with-digit-spec : {M : Type 1} → statement M
 with-digit-spec =

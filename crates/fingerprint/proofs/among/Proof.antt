@@ -3,14 +3,14 @@ use mathlib.Core.Path.{_≡_, refl, sym, _∙_}
 use mathlib.Core.Bool.{_||_}
 use native.Mathlib.Omega.{arith}
 use lib.ListN.{length, drop}
-use Rattle.fingerprint.specs.Fingerprint.{among}
+use Rattle.fingerprint.specs.Fingerprint.{printAmong}
 use Rattle.fingerprint.proofs.Mixing.{among-next, among-end}
 use borrow.Author.Needs.{needs}
 use Rattle.fingerprint.proofs.among.Statement.{statement}
 use Rattle.fingerprint.proofs.among.Tie as tie
 
 abbrev Inv-loop : tie.InvT-loop
-Inv-loop p prints found₀ i₀ found i = (i ≤ length prints) × (among p prints ≡ (found || among p (drop i prints)))
+Inv-loop p prints found₀ i₀ found i = (i ≤ length prints) × (printAmong p prints ≡ (found || printAmong p (drop i prints)))
 
 abbrev μ-loop : tie.MeasureT-loop
 μ-loop p prints found₀ i₀ found i = length prints - i

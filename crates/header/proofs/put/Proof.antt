@@ -8,28 +8,27 @@ use borrow.Author.Needs.{needs}
 use Rattle.header.proofs.put.Statement.{statement}
 use Rattle.header.proofs.put.Tie as tie
 
--- src/lib.rt:72:9
 put-front-requires : tie.Need-put-front-requires
 put-front-requires c κs = search needs
 
--- src/lib.rt:73:9
 put-middle-requires : tie.Need-put-middle-requires
 put-middle-requires c κs = search needs
 
--- src/lib.rt:74:9
 put-back-requires : tie.Need-put-back-requires
 put-back-requires c κs = search needs
 
--- src/lib.rt:68:1
 same-length : tie.Need-same-length
 same-length c = search needs
 
--- src/lib.rt:68:1
 returns : tie.Need-returns
 unfolding headerBytes frontBytes middleBytes backBytes bytesOf
-returns c = then-two _ _ _ _ 0 4 8 _ _ _ ((c .before .before .before .before .before .before .before .before .before .before .put-front) .ensures) ((c .before .before .before .before .before .before .put-middle) .ensures) ((c .before .before .put-back) .ensures) refl refl (omega (arith, (c .before .before .before .before .before .before .before .before .before .before .before .before .if1) .taken))
+returns c =
+    let p2 = c .before .before in
+    let p6 = p2 .before .before .before .before in
+    let p10 = p6 .before .before .before .before in
+    let p12 = p10 .before .before in
+    then-two _ _ _ _ 0 4 8 _ _ _ (p10 .put-front .ensures) (p6 .put-middle .ensures) (p2 .put-back .ensures) refl refl (omega (arith, p12 .if1 .taken))
 
--- src/lib.rt:68:1
 returns-2 : tie.Need-returns-2
 returns-2 c = sym (written-not _ 0 _ (omega (arith, length-header ((c .before .before .args) .h), (c .if1) .left)))
 

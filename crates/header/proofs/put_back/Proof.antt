@@ -7,34 +7,32 @@ use borrow.Author.Needs.{needs}
 use Rattle.header.proofs.put_back.Statement.{statement}
 use Rattle.header.proofs.put_back.Tie as tie
 
--- src/lib.rt:62:31
 cast-put-be : tie.Need-cast-put-be
 cast-put-be c = search needs
 
--- src/lib.rt:62:5
 put-be-requires : tie.Need-put-be-requires
 put-be-requires c κs = search needs
 
--- src/lib.rt:63:32
 cast-put-be-2 : tie.Need-cast-put-be-2
 cast-put-be-2 c = search needs
 
--- src/lib.rt:63:5
 put-be-requires-2 : tie.Need-put-be-requires-2
 put-be-requires-2 c κs = search needs
 
--- src/lib.rt:64:5
 put-be-requires-3 : tie.Need-put-be-requires-3
 put-be-requires-3 c κs = search needs
 
--- src/lib.rt:58:1
 same-length : tie.Need-same-length
 same-length c = search needs
 
--- src/lib.rt:58:1
 returns : tie.Need-returns
 unfolding backBytes bytesOf
-returns c = then-two _ _ _ _ 8 12 16 _ _ _ ((c .before .before .before .before .before .before .before .before .before .before .before .put-be) .ensures) ((c .before .before .before .before .before .before .put-be2) .ensures) ((c .before .before .put-be3) .ensures) refl refl (omega (arith, (c .before .before .before .before .before .before .before .before .before .before .before .before .before .before .before .pre)))
+returns c =
+    let p2 = c .before .before in
+    let p6 = p2 .before .before .before .before in
+    let p11 = p6 .before .before .before .before .before in
+    let p15 = p11 .before .before .before .before in
+    then-two _ _ _ _ 8 12 16 _ _ _ (p11 .put-be .ensures) (p6 .put-be2 .ensures) (p2 .put-be3 .ensures) refl refl (omega (arith, (p15 .pre)))
 
 pub put-back-spec : {M : Type 1} → statement M
 put-back-spec =

@@ -3,7 +3,6 @@ use mathlib.Core.Path.{refl}
 use Rattle.numbers.proofs.above.Statement.{statement}
 use Rattle.numbers.proofs.above.Tie as tie
 
--- src/lib.rt:36:1
 returns : tie.Need-returns
 unfolding above
 returns c = refl

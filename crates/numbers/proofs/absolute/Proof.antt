@@ -4,25 +4,20 @@ use borrow.Author.Needs.{needs}
 use Rattle.numbers.proofs.absolute.Statement.{statement}
 use Rattle.numbers.proofs.absolute.Tie as tie
 
--- src/lib.rt:91:9
 returns : tie.Need-returns
 unfolding absolute
 returns c = rw ((c .if1) .taken)
 
--- src/lib.rt:93:15
 add-sum : tie.Need-add-sum
 add-sum c = search needs
 
--- src/lib.rt:95:9
 cast-result : tie.Need-cast-result
 cast-result c = search needs
 
--- src/lib.rt:87:1
 returns-2 : tie.Need-returns-2
 unfolding absolute
 returns-2 c = rw ((c .before .if1) .left) (omega (arith, (c .if2) .taken))
 
--- src/lib.rt:87:1
 returns-3 : tie.Need-returns-3
 unfolding absolute
 returns-3 c = rw ((c .before .if1) .left) (omega (arith, (c .if2) .left))

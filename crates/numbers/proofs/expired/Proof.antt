@@ -3,7 +3,6 @@ use Rattle.numbers.specs.Expiry.{expired}
 use Rattle.numbers.proofs.expired.Statement.{statement}
 use Rattle.numbers.proofs.expired.Tie as tie
 
--- src/lib.rt:18:1
 returns : tie.Need-returns
 unfolding expired
 returns c = refl

@@ -3,20 +3,16 @@ use borrow.Author.Needs.{needs}
 use Rattle.numbers.proofs.lead.Statement.{statement}
 use Rattle.numbers.proofs.lead.Tie as tie
 
--- src/lib.rt:46:29
 enum-told : tie.Need-enum-told
 enum-told c = search needs
 
--- src/lib.rt:47:28
 enum-told-2 : tie.Need-enum-told-2
 enum-told-2 c = search needs
 
--- src/lib.rt:42:1
 returns : tie.Need-returns
 unfolding lead
 returns c = rw ((c .enum-told) .given .1)
 
--- src/lib.rt:42:1
 returns-2 : tie.Need-returns-2
 unfolding lead
 returns-2 c = rw ((c .enum-told2) .given .1)

@@ -2,11 +2,9 @@ use borrow.Author.Tests.{eq-eqb, ne-eqb}
 use Rattle.numbers.proofs.mode_of.Statement.{statement}
 use Rattle.numbers.proofs.mode_of.Tie as tie
 
--- src/lib.rt:31:9
 returns : tie.Need-returns
 returns c = simp (eq-eqb _ _ ((c .if1) .taken))
 
--- src/lib.rt:27:1
 returns-2 : tie.Need-returns-2
 returns-2 c = simp (ne-eqb _ _ ((c .if1) .left))
 

@@ -3,20 +3,16 @@ use borrow.Author.Needs.{needs}
 use Rattle.numbers.proofs.second.Statement.{statement}
 use Rattle.numbers.proofs.second.Tie as tie
 
--- src/lib.rt:55:29
 enum-told : tie.Need-enum-told
 enum-told c = search needs
 
--- src/lib.rt:56:28
 enum-told-2 : tie.Need-enum-told-2
 enum-told-2 c = search needs
 
--- src/lib.rt:51:1
 returns : tie.Need-returns
 unfolding second
 returns c = rw ((c .enum-told) .given .1)
 
--- src/lib.rt:51:1
 returns-2 : tie.Need-returns-2
 unfolding second
 returns-2 c = rw ((c .enum-told2) .given .1)

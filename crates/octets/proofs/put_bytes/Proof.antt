@@ -12,7 +12,8 @@ use Rattle.octets.proofs.put_bytes.Statement.{statement}
 use Rattle.octets.proofs.put_bytes.Tie as tie
 
 -- what the copy leaves where the slice's rest was lent to it
-copied : (s : List ℕ) (at : ℕ) (xs ys : List ℕ) → at + length xs ≤ length s → ys ≡ take (length xs) xs ++ drop (length xs) (part s at (length s - at)) → take at s ++ (ys ++ drop (length s - at) (drop at s)) ≡ pasted s at xs
+copied : (s : List ℕ) (at : ℕ) (xs ys : List ℕ) → at + length xs ≤ length s → ys ≡ take (length xs) xs ++ drop (length xs) (part s at (length s - at))
+    → take at s ++ (ys ++ drop (length s - at) (drop at s)) ≡ pasted s at xs
 unfolding pasted
 copied s at xs ys h e =
     let z : drop (length s - at) (drop at s) ≡ [] = drop-of-length-le (drop at s) {i = length s - at} (simp length-drop (omega arith)) in
@@ -49,7 +50,8 @@ returns c =
     let a = p .before .before .before .before .before .before .args in
     let t = p .before .before .before .fits2 in
     let h = p .before .before .if1 .taken in
-    put-there (a .out .now) (a .at) (length (a .s .now)) (t .result) (t .ensures) _ (a .s .now) refl h (copied (a .out .now) (a .at) (a .s .now) _ (room (a .out .now) (a .at) (length (a .s .now)) (t .result) (t .ensures) h) (p .copy .ensures .1))
+    put-there (a .out .now) (a .at) (length (a .s .now)) (t .result) (t .ensures) _ (a .s .now) refl h (copied (a .out .now) (a .at) (a .s .now) _
+    (room (a .out .now) (a .at) (length (a .s .now)) (t .result) (t .ensures) h) (p .copy .ensures .1))
 
 returns-2 : tie.Need-returns-2
 returns-2 c =

@@ -3,11 +3,9 @@ use borrow.Author.Needs.{needs}
 use Rattle.owner.proofs.make_ok.Statement.{statement}
 use Rattle.owner.proofs.make_ok.Tie as tie
 
--- src/lib.rt:46:9
 size-ok-requires : tie.Need-size-ok-requires
 size-ok-requires c κs = search needs
 
--- src/lib.rt:43:1
 returns : tie.Need-returns
 unfolding makeOk
 returns c = simp ((c .size-ok) .ensures)

@@ -1,34 +1,48 @@
-use Rattle.owner.proofs.Reading.{read-damaged, read-sound}
-use Rattle.owner.specs.Owner.{shown}
-use borrow.Author.Tests.{not-true, not-false}
-use mathlib.Core.Path.{sym, ap, _∙_}
+use mathlib.Core.Path.{sym, _∙_}
+use Rattle.octets.specs.Parts.{Bytes}
+use Rattle.plain.proofs.Checks.{checked-damaged, checked-sound}
+use Rattle.owner.proofs.Reading.{read-damaged, read-found}
 use borrow.Author.Needs.{needs}
 use Rattle.owner.proofs.read.Statement.{statement}
 use Rattle.owner.proofs.read.Tie as tie
 
--- src/lib.rt:95:9
-is-sound-requires : tie.Need-is-sound-requires
-is-sound-requires c κs = search needs
+checked-requires : tie.Need-checked-requires
+checked-requires c κs = search needs
 
--- src/lib.rt:96:9
-returns : tie.Need-returns
-returns c =
-    let a = (c .before .before .before .before .args) in
-    sym (read-damaged (a .s .now) (a .clock) (a .key .now) (sym ((c .before .is-sound) .ensures) ∙ not-true _ ((c .if1) .taken)))
+enum-told : tie.Need-enum-told
+enum-told c = search needs
 
--- src/lib.rt:98:21
+enum-told-2 : tie.Need-enum-told-2
+enum-told-2 c = search needs
+
 find-requires : tie.Need-find-requires
 find-requires c κs = search needs
 
--- src/lib.rt:98:5
 shown-requires : tie.Need-shown-requires
 shown-requires c κs = search needs
 
--- src/lib.rt:92:1
+returns : tie.Need-returns
+returns c = let a = (c .before .before .before .before .before .args) in
+    sym (read-damaged (a .s .now) (a .clock) (a .key .now) (checked-damaged _ (sym ((c .before .before .checked) .ensures) ∙ (c .enum-told) .given .1)))
+
 returns-2 : tie.Need-returns-2
 returns-2 c =
-    let a = (c .before .before .before .before .before .before .args) in
-    (c .shown) .ensures ∙ ap (shown (a .s .now) (a .clock)) ((c .before .find) .ensures) ∙ sym (read-sound (a .s .now) (a .clock) (a .key .now) (sym ((c .before .before .before .is-sound) .ensures) ∙ not-false _ ((c .before .before .if1) .left)))
+    let at4 = c .before .before .before .before in
+    let at6 = at4 .before .before in
+    let at7 = at6 .before in
+    let a = (at7 .args) in
+    let y : Bytes (a .s .now) = λ k. at6 .shared-slice-known .given k .fits in
+    read-found (a .s .now) (a .clock) (a .key .now) ((c .before .find) .result) ((c .shown) .result) y
+    (checked-sound _ _ (sym (at4 .checked .ensures) ∙ (c .before .before .enum-told2) .given .1) .0) ((c .before .find) .ensures) ((c .shown) .ensures)
 
 pub read-spec : {M : Type 1} → statement M
-read-spec = tie.close (tie.spec is-sound-requires returns find-requires shown-requires returns-2)
+read-spec =
+    tie.close
+    (tie.spec
+    checked-requires
+    enum-told
+    enum-told-2
+    find-requires
+    shown-requires
+    returns
+    returns-2)

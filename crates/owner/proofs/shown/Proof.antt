@@ -1,26 +1,25 @@
+use mathlib.Core.Path.{sym, ap, _∙_}
+use borrow.Author.Tests.{not-true, not-false}
+use Rattle.numbers.specs.declared.Numbers.{Numbers}
+use Rattle.owner.specs.declared.Document.the-variants.{Live}
+use Rattle.owner.proofs.Reading.{shown-over, shown-live}
 use borrow.Author.Needs.{needs}
 use Rattle.owner.proofs.shown.Statement.{statement}
 use Rattle.owner.proofs.shown.Tie as tie
 
--- src/lib.rt:86:19
-enum-known-f : tie.Need-enum-known-f
-enum-known-f c = search needs
+live-requires : tie.Need-live-requires
+live-requires c κs = search needs
 
--- src/lib.rt:86:25
-shown-at-requires : tie.Need-shown-at-requires
-shown-at-requires c κs = search needs
-
--- src/lib.rt:87:27
-enum-told : tie.Need-enum-told
-enum-told c = search needs
-
--- src/lib.rt:82:1
 returns : tie.Need-returns
-returns c = rw ((c .before .before .f) .given .1) ((c .shown-at) .ensures)
+returns c = shown-over ((c .before .before .args) .clock) ((c .before .before .args) .l) (sym ((c .before .live) .ensures) ∙ not-true _ ((c .if1) .taken))
 
--- src/lib.rt:82:1
+numbers-of-requires : tie.Need-numbers-of-requires
+numbers-of-requires c κs = search needs
+
 returns-2 : tie.Need-returns-2
-returns-2 c = search needs
+returns-2 c = let l = (c .before .before .before .args) .l in
+    ap (λ (n : Numbers). Live n (l .at) (l .len)) ((c .numbers-of) .ensures) ∙ shown-live ((c .before .before .before .args) .clock) l
+    (sym ((c .before .before .live) .ensures) ∙ not-false _ ((c .before .if1) .left))
 
 pub shown-spec : {M : Type 1} → statement M
-shown-spec = tie.close (tie.spec enum-known-f shown-at-requires enum-told returns returns-2)
+shown-spec = tie.close (tie.spec live-requires returns numbers-of-requires returns-2)

@@ -5,25 +5,20 @@ use borrow.Author.Needs.{needs}
 use Rattle.owner.proofs.size.Statement.{statement}
 use Rattle.owner.proofs.size.Tie as tie
 
--- src/lib.rt:35:9
 returns : tie.Need-returns
 unfolding sizeOf
 returns c = rw (lt-leb 1 ((c .before .args) .rows) ((c .if1) .taken))
 
--- src/lib.rt:38:9
 returns-2 : tie.Need-returns-2
 unfolding sizeOf
 returns-2 c = rw (lt-leb ((c .before .before .args) .rows) 256 ((c .if2) .taken), and-false)
 
--- src/lib.rt:40:10
 mul-result : tie.Need-mul-result
 mul-result c = search needs
 
--- src/lib.rt:40:5
 add-result : tie.Need-add-result
 add-result c = search needs
 
--- src/lib.rt:31:1
 returns-3 : tie.Need-returns-3
 unfolding sizeOf
 returns-3 c = rw (le-leb 1 ((c .before .before .args) .rows) ((c .before .if1) .left), le-leb ((c .before .before .args) .rows) 256 ((c .if2) .left))

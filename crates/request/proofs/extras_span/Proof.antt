@@ -1,17 +1,17 @@
 use Rattle.request.specs.Reading.{extrasSpan}
-use mathlib.Core.Path.{refl}
 use borrow.Author.Needs.{needs}
 use Rattle.request.proofs.extras_span.Statement.{statement}
 use Rattle.request.proofs.extras_span.Tie as tie
 
--- src/lib.rt:96:14
-cast-t2 : tie.Need-cast-t2
-cast-t2 c = search needs
+layout-of-requires : tie.Need-layout-of-requires
+layout-of-requires c κs = search needs
 
--- src/lib.rt:91:1
+cast-t3 : tie.Need-cast-t3
+cast-t3 c = search needs
+
 returns : tie.Need-returns
 unfolding extrasSpan
-returns c = refl
+returns c = rw (c .before .layout-of .ensures)
 
 pub extras-span-spec : {M : Type 1} → statement M
-extras-span-spec = tie.close (tie.spec cast-t2 returns)
+extras-span-spec = tie.close (tie.spec layout-of-requires cast-t3 returns)

@@ -3,7 +3,6 @@ use mathlib.Core.Path.{refl}
 use Rattle.request.proofs.fields_of.Statement.{statement}
 use Rattle.request.proofs.fields_of.Tie as tie
 
--- src/lib.rt:127:1
 returns : tie.Need-returns
 unfolding fieldsOf
 returns c = refl

@@ -4,30 +4,28 @@ use borrow.Author.Needs.{needs}
 use Rattle.request.proofs.frame_status.Statement.{statement}
 use Rattle.request.proofs.frame_status.Tie as tie
 
--- src/lib.rt:159:34
 extras-span-requires : tie.Need-extras-span-requires
 extras-span-requires c κs = search needs
 
--- src/lib.rt:159:22
 bytes-in-requires : tie.Need-bytes-in-requires
 bytes-in-requires c κs = search needs
 
--- src/lib.rt:159:63
 value-span-requires : tie.Need-value-span-requires
 value-span-requires c κs = search needs
 
--- src/lib.rt:159:51
 bytes-in-requires-2 : tie.Need-bytes-in-requires-2
 bytes-in-requires-2 c κs = search needs
 
--- src/lib.rt:159:5
 status-requires : tie.Need-status-requires
 status-requires c κs = search needs
 
--- src/lib.rt:156:1
 returns : tie.Need-returns
 unfolding frameStatus
-returns c = (c .status) .ensures ∙ simp ((c .before .before .before .bytes-in) .ensures, (c .before .bytes-in2) .ensures, (c .before .before .before .before .extras-span) .ensures, (c .before .before .value-span) .ensures)
+returns c =
+    let p2 = c .before .before in
+    let p3 = p2 .before in
+    let p4 = p3 .before in
+    c .status .ensures ∙ simp (p3 .bytes-in .ensures, c .before .bytes-in2 .ensures, p4 .extras-span .ensures, p2 .value-span .ensures)
 
 pub frame-status-spec : {M : Type 1} → statement M
 frame-status-spec =

@@ -4,27 +4,21 @@ use borrow.Author.Needs.{needs}
 use Rattle.request.proofs.header_for.Statement.{statement}
 use Rattle.request.proofs.header_for.Tie as tie
 
--- src/lib.rt:209:17
 cast-t6 : tie.Need-cast-t6
 cast-t6 c = search needs
 
--- src/lib.rt:210:17
 cast-t7 : tie.Need-cast-t7
 cast-t7 c = search needs
 
--- src/lib.rt:213:16
 add-t8 : tie.Need-add-t8
 add-t8 c = search needs
 
--- src/lib.rt:213:16
 add-t9 : tie.Need-add-t9
 add-t9 c = search needs
 
--- src/lib.rt:213:15
 cast-t10 : tie.Need-cast-t10
 cast-t10 c = search needs
 
--- src/lib.rt:201:1
 returns : tie.Need-returns
 unfolding headerFor
 returns c = refl

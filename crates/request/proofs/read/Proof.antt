@@ -3,28 +3,22 @@ use borrow.Author.Needs.{needs}
 use Rattle.request.proofs.read.Statement.{statement}
 use Rattle.request.proofs.read.Tie as tie
 
--- src/lib.rt:176:11
 gate-of-requires : tie.Need-gate-of-requires
 gate-of-requires c κs = search needs
 
--- src/lib.rt:177:20
 enum-known-outcome : tie.Need-enum-known-outcome
 enum-known-outcome c = search needs
 
--- src/lib.rt:178:21
 enum-known-h : tie.Need-enum-known-h
 enum-known-h c = search needs
 
--- src/lib.rt:178:27
 read-whole-requires : tie.Need-read-whole-requires
 read-whole-requires c κs = search needs
 
--- src/lib.rt:173:1
 returns : tie.Need-returns
 unfolding reading
 returns c = simp (← (c .before .before .before .gate-of) .ensures, (c .before .outcome) .given .1)
 
--- src/lib.rt:173:1
 returns-2 : tie.Need-returns-2
 unfolding reading
 returns-2 c = simp (← (c .before .before .before .before .gate-of) .ensures, (c .before .before .h) .given .1) ((c .read-whole) .ensures)

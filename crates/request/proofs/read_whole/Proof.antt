@@ -4,20 +4,16 @@ use borrow.Author.Needs.{needs}
 use Rattle.request.proofs.read_whole.Statement.{statement}
 use Rattle.request.proofs.read_whole.Tie as tie
 
--- src/lib.rt:165:9
 frame-status-requires : tie.Need-frame-status-requires
 frame-status-requires c κs = search needs
 
--- src/lib.rt:167:34
 frame-of-requires : tie.Need-frame-of-requires
 frame-of-requires c κs = search needs
 
--- src/lib.rt:167:9
 returns : tie.Need-returns
 unfolding wholeReading
 returns c = simp (← (c .before .before .frame-status) .ensures, eq-eqb _ _ ((c .before .if1) .taken), (c .frame-of) .ensures)
 
--- src/lib.rt:162:1
 returns-2 : tie.Need-returns-2
 unfolding wholeReading
 returns-2 c = simp (← (c .before .frame-status) .ensures, ne-eqb _ _ ((c .if1) .left))

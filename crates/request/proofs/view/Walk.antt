@@ -151,13 +151,15 @@ module _ {M : Type 1} (𝓤 : URA M) (H : Heap 𝓤) (A : Atoms 𝓤) (mem : Mem
     spelled : (r : Reading) (u : Val) → Is R.the-row r (u ∷ []) → u ≡ rv r
     spelled r u is = ap only (EL.tells R.the-type R′.the-laws r (u ∷ []) is)
 
-    open-walk : (C : Calls 𝓤 H) (Λ : Loops 𝓤 H) → FmC 𝓤 H (W .laws) C → (g : Name) → Triple 𝓤 (C g) Reads → Is (Bytes κ) s (bv s ∷ []) → ent 𝓤 open-pre (WpFn 𝓤 H C Λ (open-code g) (bv s ∷ []) open-post)
+    open-walk : (C : Calls 𝓤 H) (Λ : Loops 𝓤 H) → FmC 𝓤 H (W .laws) C → (g : Name) → Triple 𝓤 (C g) Reads → Is (Bytes κ) s (bv s ∷ [])
+        → ent 𝓤 open-pre (WpFn 𝓤 H C Λ (open-code g) (bv s ∷ []) open-post)
     open-walk C Λ fm g known p =
         qed W (raw open-pre ∷ []) ∵ enter ! C Λ (open-code g) (bv s ∷ []) _ $
         alloc1 ! (λ l₀. alloc1 ! (λ l₁. alloc1 ! (λ l₂. alloc0 ! $ params1 ! $ pass1 ! (init ! 2 refl (shr-slice-lawful 𝓤 H A W (named 0) κ u8 .typed s (bv s ∷ []) p .0)) $ pass0 ! $
         move ! (6 ∷ []) $ use1 W (raw (Reads .pre open-at) ⊛ ‵ Lent) lends $ split ! $
         calls-at ! fm Reads known open-at (and-then ! (load ! (from ! (stop !)) (look ! 4 refl)) (no-more !)) (λ u.
-        use1 W (later (some (λ (r : Reading). (token 𝓤 κ q ⊛ ‵ (R.the-row .own r (u ∷ []))) ⊛ raw (ensured 𝓤 H A reader.ended (reader.clauses 𝓤 H A mem run) (κ, tt) (s, tt) tt r)))) (id⊢ 𝓤 _) $ await ! tt $ pick ! (λ r.
+        use1 W (later (some (λ (r : Reading). (token 𝓤 κ q ⊛ ‵ (R.the-row .own r (u ∷ []))) ⊛ raw (ensured 𝓤 H A reader.ended (reader.clauses 𝓤 H A mem run) (κ, tt) (s, tt) tt r)))) (id⊢ 𝓤 _) $
+        await ! tt $ pick ! (λ r.
         split ! $ move ! (1 ∷ []) $ use1 W (raw (fact 𝓤 (r ≡ reading (now s)))) (learns 𝓤 H A reader.ended (κ, tt) (s, tt) _) $ heard ! (r ≡ reading (now s)) (λ e. split ! $ move ! (1 ∷ []) $
         -- [what the reading owns; the token; what the bytes own; room for _2; …; _1; …; room for _0; …]
         peeks ! R.the-row (Is R.the-row) (shows 𝓤 H A R.the-row) r (u ∷ []) (λ is.
@@ -165,7 +167,8 @@ module _ {M : Type 1} (𝓤 : URA M) (H : Heap 𝓤) (A : Atoms 𝓤) (mem : Mem
         rewrite ! 3 (λ (y : Val). ‵ (fat fullShare R′.mir l₂ 0 y)) (spelled r u is) refl $ rewrite ! 0 (λ (y : Val). ‵ (R.the-row .own r (y ∷ []))) (spelled r u is) refl $
         assigns ! (agg ! (and-then ! (load ! (from ! (stop !)) (look ! 5 refl)) (and-then ! (load ! (from ! (stop !)) (look ! 3 refl)) (no-more !)))) (from ! (stop !))
         (init ! 7 refl (LL.lawful (D κ) (L κ) 𝓤 H A W .typed (made r) _ (LL.owes (D κ) (L κ) (made r) (p, (again r u is, tt))) .0)) $
-        returns ! (look ! 7 refl) $ forget ! 3 refl $ forget ! 5 refl $ forget ! 7 refl $ move ! (7 ∷ 8 ∷ []) $ free1 ! $ move ! (5 ∷ 6 ∷ []) $ free1 ! $ move ! (3 ∷ 4 ∷ []) $ free1 ! $ free0 ! $ by ! (open-exits r e))))))))
+        returns ! (look ! 7 refl) $ forget ! 3 refl $ forget ! 5 refl $ forget ! 7 refl $
+        move ! (7 ∷ 8 ∷ []) $ free1 ! $ move ! (5 ∷ 6 ∷ []) $ free1 ! $ move ! (3 ∷ 4 ∷ []) $ free1 ! $ free0 ! $ by ! (open-exits r e))))))))
 
 module _ {M : Type 1} (𝓤 : URA M) (H : Heap 𝓤) (𝓜 : Model 𝓤 H) (𝓖 : GhostRules 𝓤 H) (𝓡 : Running 𝓤 H 𝓜) (env : Env) (k g : Name) (r : Routine) where
   pub opens-meets : Closed 𝓤 H (tables 𝓤 H 𝓜 𝓡 env .C) (tables 𝓤 H 𝓜 𝓡 env .Λ) k (open-code g) → env g ≡ r
@@ -231,36 +234,38 @@ module _ (part : List ℕ → Reading → List ℕ) {M : Type 1} (𝓤 : URA M) 
       abbrev show-post : Val → SProp 𝓤
       show-post = walkOf 𝓤 H A showing show-stay Shows .post show-at
 
-      abbrev Held : Fml
-      Held = B (κ, tt) .own d (vv κ d ∷ [])
+      abbrev Metadata : Fml
+      Metadata = B (κ, tt) .own d (vv κ d ∷ [])
 
       -- what the view owns gives what the callee asks, and is kept
-      apart : Is R.the-row (d .reading) (rv (d .reading) ∷ []) → ent 𝓤 show-pre (sep 𝓤 (Found .pre find-at) (sem 𝓤 H A Held))
+      apart : Is R.the-row (d .reading) (rv (d .reading) ∷ []) → ent 𝓤 show-pre (sep 𝓤 (Found .pre find-at) (sem 𝓤 H A Metadata))
       apart is-read =
           qed W (token 𝓤 κ q ∷ ‵ (owns (B (κ, tt) ∷ []) (d, tt) (vv κ d ∷ [], tt)) ∷ []) ∵
-          move ! (1 ∷ []) $ fsplit ! $ move ! (1 ∷ []) $ drop ! $ use1 W (‵ Held ⊛ ‵ Held) (LL.copy (D κ) (T′.the-copy (namedLft 1 0 tt (κ, tt))) 𝓤 H A W .twice d (vv κ d ∷ [])) $ split ! $
+          move ! (1 ∷ []) $ fsplit ! $ move ! (1 ∷ []) $ drop ! $ use1 W (‵ Metadata ⊛ ‵ Metadata) (LL.copy (D κ) (T′.the-copy (namedLft 1 0 tt (κ, tt))) 𝓤 H A W .twice d (vv κ d ∷ [])) $ split ! $
           use1 W (given (vv κ d ∷ [] ≡ vv κ d ∷ []) (‵ (all-own (D κ .parts) (L κ) vd))) (own-open 𝓤 H A W (D κ) (L κ) vd (vv κ d)) $ learn ! (λ _.
           use1 W (‵ (ownAt (D κ .parts) (L κ) 0 (d .received)) ⊛ ‵ (rest (D κ .parts) (L κ) 0 vd)) (own-out 𝓤 H A W (D κ .parts) (L κ) 0 vd) $ split ! $
           -- [what the bytes own; what the reading owns; what the view owns; the token]
           move ! (1 ∷ []) $ drop ! $ nothing ! $ owned ! R.the-row (Is R.the-row) ((EL.makes R.the-type R′.the-plain) 𝓤 H A) (d .reading) _ is-read $ fjoin ! $ move ! (1 ∷ 0 ∷ []) $ fjoin ! $
           move ! (2 ∷ 0 ∷ []) $ use2 W (raw (Found .pre find-at)) (asks 𝓤 _) $ frame ! $ done !)
 
-      show-exits : (r : RefT (List ℕ)) (u : Val) → now r ≡ shown → ent 𝓤 (⋆ 𝓤 H A (‵ (Bytes κ .own r (u ∷ [])) ∷ token 𝓤 κ q ∷ ‵ Held ∷ [])) (show-post u)
+      show-exits : (r : RefT (List ℕ)) (u : Val) → now r ≡ shown → ent 𝓤 (⋆ 𝓤 H A (‵ (Bytes κ .own r (u ∷ [])) ∷ token 𝓤 κ q ∷ ‵ Metadata ∷ [])) (show-post u)
       show-exits r u e =
-          qed W (‵ (Bytes κ .own r (u ∷ [])) ∷ token 𝓤 κ q ∷ ‵ Held ∷ []) ∵
+          qed W (‵ (Bytes κ .own r (u ∷ [])) ∷ token 𝓤 κ q ∷ ‵ Metadata ∷ []) ∵
           suffices ! _ (ends-at 𝓤 H A showing show-stay Shows W show-at u r (tt, tt) (tt, tt)) $ says ! e $
           move ! (1 ∷ []) $ frame ! $ nothing ! $ move ! (2 ∷ 0 ∷ []) $ fjoin ! $ frame ! $ done !
 
-      show-walk : (C : Calls 𝓤 H) (Λ : Loops 𝓤 H) → FmC 𝓤 H (W .laws) C → (g : Name) → Triple 𝓤 (C g) Found → Is (B (κ, tt)) d (vv κ d ∷ []) → ent 𝓤 show-pre (WpFn 𝓤 H C Λ (show-code g) (vv κ d ∷ []) show-post)
+      show-walk : (C : Calls 𝓤 H) (Λ : Loops 𝓤 H) → FmC 𝓤 H (W .laws) C → (g : Name) → Triple 𝓤 (C g) Found → Is (B (κ, tt)) d (vv κ d ∷ [])
+          → ent 𝓤 show-pre (WpFn 𝓤 H C Λ (show-code g) (vv κ d ∷ []) show-post)
       show-walk C Λ fm g known is =
           let fields = LL.owed (D κ) (L κ) d _ is in
           qed W (raw show-pre ∷ []) ∵ enter ! C Λ (show-code g) (vv κ d ∷ []) _ $
           alloc1 ! (λ l₀. alloc1 ! (λ l₁. alloc1 ! (λ l₂. alloc1 ! (λ l₃. alloc0 ! $ params1 ! $ pass1 ! (init ! 4 refl (LL.lawful (D κ) (L κ) 𝓤 H A W .typed d _ is .0)) $ pass0 ! $
-          assigns ! (of-opd ! (load ! (from ! (fld ! {τ = bytesTy (named 0)} {d = 0} refl (stop !))) (look-in ! 4 {τ = bytesTy (named 0)} (sub ! {τs = fieldTys} 0 {τ = bytesTy (named 0)} {d = 0} refl (whole !))))) (from ! (stop !))
+          assigns ! (of-opd ! (load ! (from ! (fld ! {τ = bytesTy (named 0)} {d = 0} refl (stop !)))
+          (look-in ! 4 {τ = bytesTy (named 0)} (sub ! {τs = fieldTys} 0 {τ = bytesTy (named 0)} {d = 0} refl (whole !))))) (from ! (stop !))
           (init ! 2 refl (shr-slice-lawful 𝓤 H A W (named 0) κ u8 .typed (d .received) (bv (d .received) ∷ []) (fields .0) .0)) $
           assigns ! (of-opd ! (load ! (from ! (fld ! {τ = R′.mir} {d = 16} refl (stop !))) (look-in ! 4 {τ = R′.mir} (sub ! {τs = fieldTys} 1 {τ = R′.mir} {d = 16} refl (whole !))))) (from ! (stop !))
           (init ! 0 refl (EL.lawful R.the-type R′.the-laws 𝓤 H A W tt .typed (d .reading) _ (fields .1 .0) .0)) $
-          move ! (8 ∷ []) $ use1 W (raw (Found .pre find-at) ⊛ ‵ Held) (apart (fields .1 .0)) $ split ! $
+          move ! (8 ∷ []) $ use1 W (raw (Found .pre find-at) ⊛ ‵ Metadata) (apart (fields .1 .0)) $ split ! $
           calls-at ! fm Found known find-at (and-then ! (load ! (from ! (stop !)) (look ! 4 refl)) (and-then ! (load ! (from ! (stop !)) (look ! 2 refl)) (no-more !))) (λ u.
           use1 W (later (some (λ (r : RefT (List ℕ)). (token 𝓤 κ q ⊛ ‵ (Bytes κ .own r (u ∷ []))) ⊛ raw (ensured 𝓤 H A finding Finds (κ, tt) vd tt r)))) (id⊢ 𝓤 _) $ await ! tt $ pick ! (λ r.
           split ! $ move ! (1 ∷ []) $ use1 W (raw (fact 𝓤 (now r ≡ shown))) (learns 𝓤 H A finding (κ, tt) vd _) $ heard ! (now r ≡ shown) (λ e. split ! $ move ! (1 ∷ []) $
@@ -268,7 +273,8 @@ module _ (part : List ℕ → Reading → List ℕ) {M : Type 1} (𝓤 : URA M) 
           peeks ! (Bytes κ) (Is (Bytes κ)) (shows 𝓤 H A (Bytes κ)) r (u ∷ []) (λ is-r.
           land ! (from ! (stop !)) (init ! 9 refl (shr-slice-lawful 𝓤 H A W (named 0) κ u8 .typed r (u ∷ []) is-r .0)) $
           returns ! (look ! 9 refl) $ forget ! 3 refl $ forget ! 5 refl $ forget ! 7 refl $ forget ! 9 refl $
-          move ! (9 ∷ 10 ∷ []) $ free1 ! $ move ! (7 ∷ 8 ∷ []) $ free1 ! $ move ! (5 ∷ 6 ∷ []) $ free1 ! $ move ! (3 ∷ 4 ∷ []) $ free1 ! $ free0 ! $ by ! (show-exits r u e)))))))))
+          move ! (9 ∷ 10 ∷ []) $ free1 ! $
+          move ! (7 ∷ 8 ∷ []) $ free1 ! $ move ! (5 ∷ 6 ∷ []) $ free1 ! $ move ! (3 ∷ 4 ∷ []) $ free1 ! $ free0 ! $ by ! (show-exits r u e)))))))))
 
   module _ (𝓜 : Model 𝓤 H) (𝓖 : GhostRules 𝓤 H) (𝓡 : Running 𝓤 H 𝓜) (env : Env) (k g : Name) (r : Routine) where
     pub shows-meets : Closed 𝓤 H (tables 𝓤 H 𝓜 𝓡 env .C) (tables 𝓤 H 𝓜 𝓡 env .Λ) k (show-code g) → env g ≡ r

@@ -3,7 +3,6 @@ use mathlib.Core.Path.{refl}
 use Rattle.rules.proofs.body_ok.Statement.{statement}
 use Rattle.rules.proofs.body_ok.Tie as tie
 
--- src/lib.rt:124:1
 returns : tie.Need-returns
 unfolding bodyOk
 returns c = refl

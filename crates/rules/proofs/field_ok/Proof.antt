@@ -4,28 +4,22 @@ use borrow.Author.Needs.{needs}
 use Rattle.rules.proofs.field_ok.Statement.{statement}
 use Rattle.rules.proofs.field_ok.Tie as tie
 
--- src/lib.rt:71:9
 returns : tie.Need-returns
 unfolding fieldOk
 returns c = simp (lt-leb _ _ ((c .if1) .taken))
 
--- src/lib.rt:73:9
 byte-requires : tie.Need-byte-requires
 byte-requires c κs = search needs
 
--- src/lib.rt:74:16
 be16-requires : tie.Need-be16-requires
 be16-requires c κs = search needs
 
--- src/lib.rt:74:16
 cast-size : tie.Need-cast-size
 cast-size c = search needs
 
--- src/lib.rt:75:40
 sub-result : tie.Need-sub-result
 sub-result c = search needs
 
--- src/lib.rt:67:1
 returns-2 : tie.Need-returns-2
 unfolding fieldOk
 returns-2 c = simp (le-leb _ _ ((c .before .before .if1) .left), (c .before .byte) .ensures, (c .be16) .ensures)

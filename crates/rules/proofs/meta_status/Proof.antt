@@ -21,11 +21,19 @@ too-large-requires c κs = search needs
 
 returns-2 : tie.Need-returns-2
 unfolding metaStatus
-returns-2 c = simp (← c .before .before .before .before .before .with-meta .ensures, ← c .before .before .before .before .with-meta-ok .ensures, c .before .before .before .if1 .left, ← c .before .too-large .ensures, c .if2 .taken)
+returns-2 c =
+    let p3 = c .before .before .before in
+    let p4 = p3 .before in
+    let p5 = p4 .before in
+    simp (← p5 .with-meta .ensures, ← p4 .with-meta-ok .ensures, p3 .if1 .left, ← c .before .too-large .ensures, c .if2 .taken)
 
 returns-3 : tie.Need-returns-3
 unfolding metaStatus
-returns-3 c = simp (← c .before .before .before .before .before .with-meta .ensures, ← c .before .before .before .before .with-meta-ok .ensures, c .before .before .before .if1 .left, ← c .before .too-large .ensures, c .if2 .left)
+returns-3 c =
+    let p3 = c .before .before .before in
+    let p4 = p3 .before in
+    let p5 = p4 .before in
+    simp (← p5 .with-meta .ensures, ← p4 .with-meta-ok .ensures, p3 .if1 .left, ← c .before .too-large .ensures, c .if2 .left)
 
 pub meta-status-spec : {M : Type 1} → statement M
 meta-status-spec =

@@ -1,27 +1,22 @@
-use Rattle.rules.specs.WithMeta.{numbersOf}
+use Rattle.rules.specs.WithMeta.{carriedNumbers}
 use borrow.Author.Needs.{needs}
 use Rattle.rules.proofs.numbers_of.Statement.{statement}
 use Rattle.rules.proofs.numbers_of.Tie as tie
 
--- src/lib.rt:28:16
 be32-requires : tie.Need-be32-requires
 be32-requires c κs = search needs
 
--- src/lib.rt:29:17
 be32-requires-2 : tie.Need-be32-requires-2
 be32-requires-2 c κs = search needs
 
--- src/lib.rt:30:28
 be64-requires : tie.Need-be64-requires
 be64-requires c κs = search needs
 
--- src/lib.rt:31:18
 be64-requires-2 : tie.Need-be64-requires-2
 be64-requires-2 c κs = search needs
 
--- src/lib.rt:24:1
 returns : tie.Need-returns
-unfolding numbersOf
+unfolding carriedNumbers
 returns c = simp ((c .before .before .before .be32) .ensures, (c .before .before .be322) .ensures, (c .before .be64) .ensures, (c .be642) .ensures)
 
 pub numbers-of-spec : {M : Type 1} → statement M

@@ -3,7 +3,6 @@ use mathlib.Core.Path.{refl}
 use Rattle.rules.proofs.numbers_ok.Statement.{statement}
 use Rattle.rules.proofs.numbers_ok.Tie as tie
 
--- src/lib.rt:112:1
 returns : tie.Need-returns
 unfolding numbersOk
 returns c = refl

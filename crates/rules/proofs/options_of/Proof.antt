@@ -4,16 +4,13 @@ use borrow.Author.Needs.{needs}
 use Rattle.rules.proofs.options_of.Statement.{statement}
 use Rattle.rules.proofs.options_of.Tie as tie
 
--- src/lib.rt:39:9
 be32-requires : tie.Need-be32-requires
 be32-requires c κs = search needs
 
--- src/lib.rt:39:9
 returns : tie.Need-returns
 unfolding optionsOf
 returns c = simp (le-leb _ _ ((c .before .if1) .taken)) ((c .be32) .ensures)
 
--- src/lib.rt:35:1
 returns-2 : tie.Need-returns-2
 unfolding optionsOf
 returns-2 c = simp (lt-leb _ _ ((c .if1) .left))

@@ -4,25 +4,20 @@ use borrow.Author.Needs.{needs}
 use Rattle.rules.proofs.section_of.Statement.{statement}
 use Rattle.rules.proofs.section_of.Tie as tie
 
--- src/lib.rt:48:9
 be16-requires : tie.Need-be16-requires
 be16-requires c κs = search needs
 
--- src/lib.rt:48:9
 returns : tie.Need-returns
 unfolding sectionOf
 returns c = simp (eq-eqb _ _ ((c .before .if1) .taken)) ((c .be16) .ensures)
 
--- src/lib.rt:51:9
 be16-requires-2 : tie.Need-be16-requires-2
 be16-requires-2 c κs = search needs
 
--- src/lib.rt:51:9
 returns-2 : tie.Need-returns-2
 unfolding sectionOf
 returns-2 c = simp (ne-eqb _ _ ((c .before .before .if1) .left), eq-eqb _ _ ((c .before .if2) .taken)) ((c .be162) .ensures)
 
--- src/lib.rt:44:1
 returns-3 : tie.Need-returns-3
 unfolding sectionOf
 returns-3 c = simp (ne-eqb _ _ ((c .before .if1) .left), ne-eqb _ _ ((c .if2) .left))

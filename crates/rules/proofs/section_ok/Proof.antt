@@ -3,19 +3,15 @@ use borrow.Author.Needs.{needs}
 use Rattle.rules.proofs.section_ok.Statement.{statement}
 use Rattle.rules.proofs.section_ok.Tie as tie
 
--- src/lib.rt:96:28
 rest-requires : tie.Need-rest-requires
 rest-requires c κs = search needs
 
--- src/lib.rt:96:9
 fields-ok-requires : tie.Need-fields-ok-requires
 fields-ok-requires c κs = search needs
 
--- src/lib.rt:97:24
 byte-requires : tie.Need-byte-requires
 byte-requires c κs = search needs
 
--- src/lib.rt:93:1
 returns : tie.Need-returns
 unfolding sectionOk
 returns c = simp ((c .before .fields-ok) .ensures, (c .before .before .rest) .ensures, (c .byte) .ensures)

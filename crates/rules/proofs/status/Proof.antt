@@ -4,15 +4,12 @@ use borrow.Author.Needs.{needs}
 use Rattle.rules.proofs.status.Statement.{statement}
 use Rattle.rules.proofs.status.Tie as tie
 
--- src/lib.rt:193:11
 shape-of-requires : tie.Need-shape-of-requires
 shape-of-requires c κs = search needs
 
--- src/lib.rt:193:5
 judge-requires : tie.Need-judge-requires
 judge-requires c κs = search needs
 
--- src/lib.rt:190:1
 returns : tie.Need-returns
 unfolding status
 returns c = (c .judge) .ensures ∙ simp ((c .before .shape-of) .ensures)

@@ -5,11 +5,9 @@ use mathlib.Core.Path.{refl, sym}
 use Rattle.rules.proofs.too_large.Statement.{statement}
 use Rattle.rules.proofs.too_large.Tie as tie
 
--- src/lib.rt:166:9
 returns : tie.Need-returns
 returns c = sym (le-ltb 1024 (c .before .args .len - c .before .args .meta) (omega (arith, (c .if1) .taken)))
 
--- src/lib.rt:162:1
 returns-2 : tie.Need-returns-2
 returns-2 c = refl
 

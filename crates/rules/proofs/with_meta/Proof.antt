@@ -3,19 +3,15 @@ use borrow.Author.Needs.{needs}
 use Rattle.rules.proofs.with_meta.Statement.{statement}
 use Rattle.rules.proofs.with_meta.Tie as tie
 
--- src/lib.rt:60:18
 numbers-of-requires : tie.Need-numbers-of-requires
 numbers-of-requires c κs = search needs
 
--- src/lib.rt:61:18
 options-of-requires : tie.Need-options-of-requires
 options-of-requires c κs = search needs
 
--- src/lib.rt:62:18
 section-of-requires : tie.Need-section-of-requires
 section-of-requires c κs = search needs
 
--- src/lib.rt:56:1
 returns : tie.Need-returns
 unfolding withMeta
 returns c = simp ((c .before .before .numbers-of) .ensures, (c .before .options-of) .ensures, (c .section-of) .ensures)

@@ -17,71 +17,69 @@ Inv-loop b₀ clock run out₀ at₀ filled₀ tally₀ b out at filled tally =
 abbrev μ-loop : tie.MeasureT-loop
 μ-loop b₀ clock run out₀ at₀ filled₀ tally₀ b out at filled tally = length run - at
 
--- src/lib.rt:62:5
 loop-holds : tie.Need-loop-holds Inv-loop μ-loop
 loop-holds c = (refl, (refl, (omega arith, (omega arith, (λ k. c .before .before .slice-known .given k .fits, refl)))))
 
--- src/lib.rt:63:44
 rest-requires : tie.Need-rest-requires Inv-loop μ-loop
 rest-requires c κs = search needs
 
--- src/lib.rt:63:67
 sub-serve-one : tie.Need-sub-serve-one Inv-loop μ-loop
 sub-serve-one c = c .before .before .loop .inv .1 .1 .1 .0
 
--- src/lib.rt:63:67
 part-serve-one-start : tie.Need-part-serve-one-start Inv-loop μ-loop
 part-serve-one-start c = search needs
 
--- src/lib.rt:63:67
 part-serve-one-end : tie.Need-part-serve-one-end Inv-loop μ-loop
 part-serve-one-end c = search needs
 
--- src/lib.rt:63:13
 serve-one-requires : tie.Need-serve-one-requires Inv-loop μ-loop
 serve-one-requires c κs = search needs
 
--- src/lib.rt:65:29
 enum-known-r : tie.Need-enum-known-r Inv-loop μ-loop
 enum-known-r c = search needs
 
--- src/lib.rt:66:22
 add-at : tie.Need-add-at Inv-loop μ-loop
 add-at c =
     let l = c .before .before .before .before .before .before .before .before .before .before .before .loop in
     let a = c .before .before .before .before .before .before .before .before .before .before .before .before .before .before .before .args in
-    let w = turn-told (a .clock) (a .run .now) (l .b) (l .out) (l .tally) (l .at) (l .filled) (l .inv .1 .1 .1 .0) _ (c .before .before .before .before .before .before .before .before .before .rest .ensures) _ _ _ (c .before .before .before .before .before .before .before .serve-one .ensures) _ _ _ (c .before .r .given .1) in
+    let rest = c .before .before .before .before .before .before .before .before .before .rest .ensures in
+    let one = c .before .before .before .before .before .before .before .serve-one .ensures in
+    let w = turn-told (a .clock) (a .run .now) (l .b) (l .out) (l .tally) (l .at) (l .filled) (l .inv .1 .1 .1 .0) _ rest _ _ _ one _ _ _ (c .before .r .given .1) in
     let d = length-drop (l .at) (a .run .now) in
     omega (arith, w .inside, d, l .inv .1 .1 .0)
 
--- src/lib.rt:67:26
 add-filled : tie.Need-add-filled Inv-loop μ-loop
 add-filled c =
     let l = c .before .before .before .before .before .before .before .before .before .before .before .loop in
     let a = c .before .before .before .before .before .before .before .before .before .before .before .before .before .before .before .args in
-    let w = turn-told (a .clock) (a .run .now) (l .b) (l .out) (l .tally) (l .at) (l .filled) (l .inv .1 .1 .1 .0) _ (c .before .before .before .before .before .before .before .before .before .rest .ensures) _ _ _ (c .before .before .before .before .before .before .before .serve-one .ensures) _ _ _ (c .before .r .given .1) in
+    let rest = c .before .before .before .before .before .before .before .before .before .rest .ensures in
+    let one = c .before .before .before .before .before .before .before .serve-one .ensures in
+    let w = turn-told (a .clock) (a .run .now) (l .b) (l .out) (l .tally) (l .at) (l .filled) (l .inv .1 .1 .1 .0) _ rest _ _ _ one _ _ _ (c .before .r .given .1) in
     let d = length-drop (l .at) (a .run .now) in
     omega (arith, w .fits (l .inv .1 .1 .1 .1 .0), l .inv .1 .1 .1 .0, l .inv .1 .0)
 
--- src/lib.rt:68:17
 counted-requires : tie.Need-counted-requires Inv-loop μ-loop
 counted-requires c κs = search needs
 
--- src/lib.rt:62:5
 loop-less : tie.Need-loop-less Inv-loop μ-loop
 loop-less c =
     let l = c .before .before .before .before .before .before .before .before .before .before .before .before .loop in
     let a = c .before .before .before .before .before .before .before .before .before .before .before .before .before .before .before .before .args in
-    let w = turn-told (a .clock) (a .run .now) (l .b) (l .out) (l .tally) (l .at) (l .filled) (l .inv .1 .1 .1 .0) _ (c .before .before .before .before .before .before .before .before .before .before .rest .ensures) _ _ _ (c .before .before .before .before .before .before .before .before .serve-one .ensures) _ _ _ (c .before .before .r .given .1) in
+    let rest = c .before .before .before .before .before .before .before .before .before .before .rest .ensures in
+    let one = c .before .before .before .before .before .before .before .before .serve-one .ensures in
+    let w = turn-told (a .clock) (a .run .now) (l .b) (l .out) (l .tally) (l .at) (l .filled) (l .inv .1 .1 .1 .0) _ rest _ _ _ one _ _ _ (c .before .before .r .given .1) in
     let d = length-drop (l .at) (a .run .now) in
     omega (arith, w .least, w .inside, d, l .inv .1 .1 .0)
 
--- src/lib.rt:62:5
 loop-again : tie.Need-loop-again Inv-loop μ-loop
 loop-again c =
     let l = c .before .before .before .before .before .before .before .before .before .before .before .before .loop in
     let a = c .before .before .before .before .before .before .before .before .before .before .before .before .before .before .before .before .args in
-    let w = turn-told (a .clock) (a .run .now) (l .b) (l .out) (l .tally) (l .at) (l .filled) (l .inv .1 .1 .1 .0) _ (c .before .before .before .before .before .before .before .before .before .before .rest .ensures) _ _ _ (c .before .before .before .before .before .before .before .before .serve-one .ensures) _ _ _ (c .before .before .r .given .1) in
+    let rest = c .before .before .before .before .before .before .before .before .before .before .rest .ensures in
+    let one = c .before .before .before .before .before .before .before .before .serve-one .ensures in
+    let w = turn-told (a .clock) (a .run .now) (l .b) (l .out) (l .tally) (l .at) (l .filled) (l .inv .1 .1 .1 .0) _ rest _ _ _ one _ _ _ (c .before .before .r .given .1) in
+    let more = turn-on (a .clock) (a .run .now) (l .b) (l .out) (l .tally) (l .at) (l .filled) (l .inv .1 .1 .1 .0) _ rest _ _ _ one
+    _ _ _ (c .before .before .r .given .1) _ (c .counted .ensures) in
     let d = length-drop (l .at) (a .run .now) in (
       c .before .before .before .before .before .before .before .b .given ∙ l .inv .0,
       (
@@ -92,31 +90,30 @@ loop-again c =
             omega (arith, w .fits (l .inv .1 .1 .1 .1 .0), c .before .before .before .before .before .out .given .1, l .inv .1 .1 .1 .0),
             (
               λ k. c .before .before .before .before .before .before .slice-known3 .given k .fits,
-              sym (turn-on (a .clock) (a .run .now) (l .b) (l .out) (l .tally) (l .at) (l .filled) (l .inv .1 .1 .1 .0) _ (c .before .before .before .before .before .before .before .before .before .before .rest .ensures) _ _ _ (c .before .before .before .before .before .before .before .before .serve-one .ensures) _ _ _ (c .before .before .r .given .1) _ (c .counted .ensures)) ∙ l .inv .1 .1 .1 .1 .1,
+              sym more ∙ l .inv .1 .1 .1 .1 .1,
             ),
           ),
         ),
       ),
     )
 
--- src/lib.rt:72:29
 enum-told : tie.Need-enum-told Inv-loop μ-loop
 enum-told c = search needs
 
--- src/lib.rt:71:17
 same-length : tie.Need-same-length Inv-loop μ-loop
 same-length c = c .before .before .before .before .before .b .given ∙ c .before .before .before .before .before .before .before .before .before .before .loop .inv .0
 
--- src/lib.rt:71:17
 same-length-2 : tie.Need-same-length-2 Inv-loop μ-loop
 same-length-2 c = c .before .before .before .out .given .1 ∙ c .before .before .before .before .before .before .before .before .before .before .loop .inv .1 .0
 
--- src/lib.rt:71:17
 returns : tie.Need-returns Inv-loop μ-loop
 returns c =
     let l = c .before .before .before .before .before .before .before .before .before .before .loop in
     let a = c .before .before .before .before .before .before .before .before .before .before .before .before .before .before .args in
-    turn-ends (a .clock) (a .run .now) (l .b) (l .out) (l .tally) (l .at) (l .filled) (l .inv .1 .1 .1 .0) _ (c .before .before .before .before .before .before .before .before .rest .ensures) _ _ _ (c .before .before .before .before .before .before .serve-one .ensures) _ _ (c .enum-told .given .1) (begun (a .b .now) (a .out .now) (a .t)) (l .inv .1 .1 .1 .1 .1)
+    let rest = c .before .before .before .before .before .before .before .before .rest .ensures in
+    let one = c .before .before .before .before .before .before .serve-one .ensures in
+    turn-ends (a .clock) (a .run .now) (l .b) (l .out) (l .tally) (l .at) (l .filled) (l .inv .1 .1 .1 .0) _ rest _ _ _ one
+    _ _ (c .enum-told .given .1) (begun (a .b .now) (a .out .now) (a .t)) (l .inv .1 .1 .1 .1 .1)
 
 pub serve-run-spec : {M : Type 1} → statement M
 serve-run-spec =

@@ -4,11 +4,8 @@ use borrow.Author.Needs.{needs}
 use Rattle.serve.proofs.decided.Statement.{statement}
 use Rattle.serve.proofs.decided.Tie as tie
 
-held-by-requires : tie.Need-held-by-requires
-held-by-requires c κs = search needs
-
-is-place-requires : tie.Need-is-place-requires
-is-place-requires c κs = search needs
+has-place-requires : tie.Need-has-place-requires
+has-place-requires c κs = search needs
 
 parse-requires : tie.Need-parse-requires
 parse-requires c κs = search needs
@@ -18,9 +15,15 @@ decide-requires c κs = search needs
 
 returns : tie.Need-returns
 returns c =
-    let a = c .before .before .before .before .before .args in
-    c .decide .ensures ∙ (λ i. decision (a .head) (c .before .before .before .held-by .ensures i) (c .before .before .is-place .ensures i) (a .clock) (c .before .parse .ensures i) (a .ask))
+    let a = c .before .before .before .before .args in
+    c .decide .ensures ∙ (λ i. decision (record {
+      head = a .head;
+      row = a .l .stored;
+      free = c .before .before .has-place .ensures i;
+      clock =
+          a .clock;
+      number = c .before .parse .ensures i;
+    }) (a .ask))
 
 pub decided-spec : {M : Type 1} → statement M
-decided-spec =
-    tie.close (tie.spec held-by-requires is-place-requires parse-requires decide-requires returns)
+decided-spec = tie.close (tie.spec has-place-requires parse-requires decide-requires returns)

@@ -1,131 +1,140 @@
-use Rattle.serve.proofs.Joint.{refused-by}
-use Rattle.serve.proofs.Parts.{extras-cut, key-cut, value-cut, broken-status, whole-goes, whole-ask, whole-value}
-use Rattle.serving.specs.Serve.{goesOn}
-use Rattle.rules.proofs.RuleLaws.{form-lengths}
-use Rattle.rules.specs.Rules.{formStatus}
-use Rattle.shape.specs.declared.Shape.{Shape}
+use Rattle.octets.specs.Parts.{Bytes}
 use native.Mathlib.Omega.{arith}
-use mathlib.Core.Path.{_≡_, sym, ap, _∙_}
+use mathlib.Core.Path.{sym, ap, _∙_}
 use denote.Ref.{now}
 use borrow.Author.Needs.{needs}
+use Rattle.shape.specs.declared.Shape.{Shape}
+use Rattle.rules.specs.Rules.{formStatus}
+use Rattle.serving.specs.Serve.{reachesDecision}
+use Rattle.serve.proofs.Joint.{refused-by}
+use Rattle.serve.proofs.Parts.{within, extras-cut, key-cut, value-cut, broken-status, whole-goes, whole-ask, whole-value}
 use Rattle.serve.proofs.serve_parts.Statement.{statement}
 use Rattle.serve.proofs.serve_parts.Tie as tie
-use Rattle.serve.proofs.serve_parts.Reads as reads
-use Rattle.serve.proofs.serve_parts.Lts as lts
-use Rattle.asks.proofs.asked_by.Reads as asked-by-reads
-use Rattle.serve.proofs.refused.Reads as refused-reads
-use Rattle.serve.proofs.serve_formed.Reads as serve-formed-reads
 
--- src/lib.rt:167:18
-cast-a : tie.Need-cast-a
-cast-a c = search needs
+layout-of-requires : tie.Need-layout-of-requires
+layout-of-requires c κs = search needs
 
--- src/lib.rt:167:13
-add-a : tie.Need-add-a
-add-a c = search needs
-
--- src/lib.rt:168:17
-cast-k : tie.Need-cast-k
-cast-k c = search needs
-
--- src/lib.rt:168:13
-add-k : tie.Need-add-k
-add-k c = search needs
-
--- src/lib.rt:169:20
-cast-end : tie.Need-cast-end
-cast-end c = search needs
-
--- src/lib.rt:169:15
-add-end : tie.Need-add-end
-add-end c = search needs
-
--- src/lib.rt:170:18
 sub-extras : tie.Need-sub-extras
-sub-extras c = search needs
+sub-extras c =
+    let p = c in
+    let w = within _ _ _ _ (p .layout-of .ensures) (p .before .before .before .before .pre .1 .1 .0) (p .before .before .before .before .pre .1 .1 .1) in
+    w .extras
 
--- src/lib.rt:170:18
 part-extras-start : tie.Need-part-extras-start
-part-extras-start c = search needs
+part-extras-start c =
+    let p = c in
+    let w = within _ _ _ _ (p .layout-of .ensures) (p .before .before .before .before .pre .1 .1 .0) (p .before .before .before .before .pre .1 .1 .1) in
+    w .extras
 
--- src/lib.rt:170:18
 part-extras-end : tie.Need-part-extras-end
-part-extras-end c = omega (arith, form-lengths _ _ ((c .before .before .before .before .before .before .pre) .1 .1 .0), (c .before .before .before .before .before .before .pre) .1 .1 .1)
+part-extras-end c =
+    let p = c in
+    let w = within _ _ _ _ (p .layout-of .ensures) (p .before .before .before .before .pre .1 .1 .0) (p .before .before .before .before .pre .1 .1 .1) in
+    omega (arith, w .key, w .value, w .end)
 
--- src/lib.rt:171:15
 sub-key : tie.Need-sub-key
-sub-key c = search needs
+sub-key c =
+    let p = c .before in
+    let w = within _ _ _ _ (p .layout-of .ensures) (p .before .before .before .before .pre .1 .1 .0) (p .before .before .before .before .pre .1 .1 .1) in
+    w .key
 
--- src/lib.rt:171:15
 part-key-start : tie.Need-part-key-start
-part-key-start c = search needs
+part-key-start c =
+    let p = c .before in
+    let w = within _ _ _ _ (p .layout-of .ensures) (p .before .before .before .before .pre .1 .1 .0) (p .before .before .before .before .pre .1 .1 .1) in
+    w .key
 
--- src/lib.rt:171:15
 part-key-end : tie.Need-part-key-end
-part-key-end c = omega (arith, form-lengths _ _ ((c .before .before .before .before .before .before .before .pre) .1 .1 .0), (c .before .before .before .before .before .before .before .pre) .1 .1 .1)
+part-key-end c =
+    let p = c .before in
+    let w = within _ _ _ _ (p .layout-of .ensures) (p .before .before .before .before .pre .1 .1 .0) (p .before .before .before .before .pre .1 .1 .1) in
+    omega (arith, w .value, w .end)
 
--- src/lib.rt:172:17
 sub-value : tie.Need-sub-value
-sub-value c = omega (arith, form-lengths _ _ ((c .before .before .before .before .before .before .before .before .pre) .1 .1 .0))
+sub-value c =
+    let p = c .before .before in
+    let w = within _ _ _ _ (p .layout-of .ensures) (p .before .before .before .before .pre .1 .1 .0) (p .before .before .before .before .pre .1 .1 .1) in
+    w .value
 
--- src/lib.rt:172:17
 part-value-start : tie.Need-part-value-start
-part-value-start c = omega (arith, form-lengths _ _ ((c .before .before .before .before .before .before .before .before .pre) .1 .1 .0))
+part-value-start c =
+    let p = c .before .before in
+    let w = within _ _ _ _ (p .layout-of .ensures) (p .before .before .before .before .pre .1 .1 .0) (p .before .before .before .before .pre .1 .1 .1) in
+    w .value
 
--- src/lib.rt:172:17
 part-value-end : tie.Need-part-value-end
-part-value-end c = omega (arith, (c .before .before .before .before .before .before .before .before .pre) .1 .1 .1)
+part-value-end c =
+    let p = c .before .before in
+    let w = within _ _ _ _ (p .layout-of .ensures) (p .before .before .before .before .pre .1 .1 .0) (p .before .before .before .before .pre .1 .1 .1) in
+    w .end
 
--- src/lib.rt:173:11
-asked-by-requires : tie.Need-asked-by-requires
-asked-by-requires c κs = search needs
+decoded-by-requires : tie.Need-decoded-by-requires
+decoded-by-requires c κs = search needs
 
--- src/lib.rt:174:34
 enum-told : tie.Need-enum-told
 enum-told c = search needs
 
--- src/lib.rt:174:26
 refused-requires : tie.Need-refused-requires
-refused-requires c κs = (c .before .before .before .before .before .before .before .before .before .before .before .before .before .pre) .0 .1 .1
+refused-requires c κs = search needs
 
--- src/lib.rt:175:22
 enum-known-ask : tie.Need-enum-known-ask
 enum-known-ask c = search needs
 
--- src/lib.rt:175:30
 serve-formed-requires : tie.Need-serve-formed-requires
-serve-formed-requires c κs = let s = now ((c .before .before .before .before .before .before .before .before .before .before .before .before .before .before .before .args) .s) in let h = (c .before .before .before .before .before .before .before .before .before .before .before .before .before .before .before .args) .h in let f = sym (ap (λ (x : Shape). formStatus x h) ((c .before .before .before .before .before .before .before .before .before .before .before .before .before .before .before .pre) .1 .0)) ∙ (c .before .before .before .before .before .before .before .before .before .before .before .before .before .before .before .pre) .1 .1 .0 in let w = (c .before .before .before .before .before .before .before .before .before .before .before .before .before .before .before .pre) .1 .1 .1 in ((c .before .before .before .before .before .before .before .before .before .before .before .before .before .before .before .pre) .0, (whole-goes s h w f _ _ _ _ ((c .before .before .before .before .before .before .before .before .before .before .before .before .before .before .before .pre) .1 .0) (extras-cut s h) (value-cut s h) ((c .before .before .before .before .before .asked-by) .ensures) _ ((c .before .before .before .ask) .given .1), (whole-ask s h w f _ _ _ _ ((c .before .before .before .before .before .before .before .before .before .before .before .before .before .before .before .pre) .1 .0) (extras-cut s h) (value-cut s h) ((c .before .before .before .before .before .asked-by) .ensures) _ ((c .before .before .before .ask) .given .1) (omega arith), (key-cut s h, whole-value s h w f _ _ _ _ ((c .before .before .before .before .before .before .before .before .before .before .before .before .before .before .before .pre) .1 .0) (extras-cut s h) (value-cut s h) ((c .before .before .before .before .before .asked-by) .ensures) _ ((c .before .before .before .ask) .given .1)))))
+serve-formed-requires c κs =
+    let p = c .before .before .before .before .before .before .before .before .before .before .before .before .before in
+    let s = now (p .args .s) in
+    let h = p .args .h in
+    let l = c .before .before .before .before .before .before .before .before .before .layout-of in
+    let form = sym (ap (λ (x : Shape). formStatus x h) (p .pre .1 .0)) ∙ p .pre .1 .1 .0 in
+    let whole = p .pre .1 .1 .1 in
+    let extras = extras-cut s h (l .result) (l .ensures) in
+    let value = value-cut s h (l .result) (l .ensures) in
+    let decoded = c .before .before .before .before .before .decoded-by .ensures in
+    let ask = c .before .before .before .ask .given .1 in (
+      p .pre .0,
+      (
+        whole-goes s h whole form _ _ _ _ (p .pre .1 .0) extras value decoded _ ask,
+        (
+          whole-ask s h whole form _ _ _ _ (p .pre .1 .0) extras value decoded _ ask,
+          (key-cut s h (l .result) (l .ensures), (whole-value s h whole form _ _ _ _ (p .pre .1 .0) extras value decoded _ ask, whole)),
+        ),
+      ),
+    )
 
--- src/lib.rt:152:1
 same-length : tie.Need-same-length
 same-length c = search needs
 
--- src/lib.rt:152:1
 returns : tie.Need-returns
-returns c = let s = now ((c .before .before .before .before .before .before .before .before .before .before .before .before .before .before .before .before .args) .s) in let h = (c .before .before .before .before .before .before .before .before .before .before .before .before .before .before .before .before .args) .h in let f = sym (ap (λ (x : Shape). formStatus x h) ((c .before .before .before .before .before .before .before .before .before .before .before .before .before .before .before .before .pre) .1 .0)) ∙ (c .before .before .before .before .before .before .before .before .before .before .before .before .before .before .before .before .pre) .1 .1 .0 in let e = broken-status s h ((c .before .before .before .before .before .before .before .before .before .before .before .before .before .before .before .before .pre) .1 .1 .1) f _ _ _ _ ((c .before .before .before .before .before .before .before .before .before .before .before .before .before .before .before .before .pre) .1 .0) (extras-cut s h) (value-cut s h) ((c .before .before .before .before .before .before .asked-by) .ensures) ((c .before .before .before .before .enum-told) .given .1) in refused-by (now ((c .before .before .before .before .before .before .before .before .before .before .before .before .before .before .before .before .args) .b)) s ((c .before .before .before .before .before .before .before .before .before .before .before .before .before .before .before .before .args) .clock) h (ap goesOn (sym e)) 0x04 _ _ _ e ((c .before .before .refused) .ensures .0) ((c .before .before .refused) .ensures .1)
+returns c =
+    let p = c .before .before .before .before .before .before .before .before .before .before .before .before .before .before in
+    let s = now (p .args .s) in
+    let h = p .args .h in
+    let l = c .before .before .before .before .before .before .before .before .before .before .layout-of in
+    let form = sym (ap (λ (x : Shape). formStatus x h) (p .pre .1 .0)) ∙ p .pre .1 .1 .0 in
+    let whole = p .pre .1 .1 .1 in
+    let extras = extras-cut s h (l .result) (l .ensures) in
+    let value = value-cut s h (l .result) (l .ensures) in
+    let decoded = c .before .before .before .before .before .before .decoded-by .ensures in
+    let e = broken-status s h whole form _ _ _ _ (p .pre .1 .0) extras value decoded (c .before .before .before .before .enum-told .given .1) in
+    let r = c .before .before .refused .ensures in
+    let y : Bytes (now (p .args .b)) = λ i. c .before .before .before .before .before .before .before .before .before .before .before .before .before .slice-known .given i .fits in
+    refused-by (now (p .args .b)) s (p .args .clock) h (ap reachesDecision (sym e)) 0x04 _ _ _ y (p .pre .0 .0) e (r .0) (r .1)
 
--- src/lib.rt:152:1
 same-length-2 : tie.Need-same-length-2
 same-length-2 c = search needs
 
--- src/lib.rt:152:1
 same-length-3 : tie.Need-same-length-3
 same-length-3 c = search needs
 
--- src/lib.rt:152:1
 returns-2 : tie.Need-returns-2
-returns-2 c = (c .before .before .before .before .serve-formed) .ensures
+returns-2 c = c .before .before .before .before .serve-formed .ensures
 
 pub serve-parts-spec : {M : Type 1} → statement M
 serve-parts-spec =
     tie.close
     (tie.spec
-    cast-a
-    add-a
-    cast-k
-    add-k
-    cast-end
-    add-end
+    layout-of-requires
     sub-extras
     part-extras-start
     part-extras-end
@@ -135,7 +144,7 @@ serve-parts-spec =
     sub-value
     part-value-start
     part-value-end
-    asked-by-requires
+    decoded-by-requires
     enum-told
     refused-requires
     enum-known-ask

@@ -1,3 +1,4 @@
+use Rattle.octets.specs.Parts.{Bytes}
 use Rattle.serve.proofs.Joint.{refused-by}
 use Rattle.serve.proofs.Parts.{other-status, other-stops}
 use Rattle.rules.specs.Rules.{formStatus}
@@ -8,48 +9,45 @@ use denote.Ref.{now}
 use borrow.Author.Needs.{needs}
 use Rattle.serve.proofs.serve_whole.Statement.{statement}
 use Rattle.serve.proofs.serve_whole.Tie as tie
-use Rattle.serve.proofs.serve_whole.Reads as reads
-use Rattle.serve.proofs.serve_whole.Lts as lts
-use Rattle.rules.proofs.form_status.Reads as form-status-reads
-use Rattle.serve.proofs.refused.Reads as refused-reads
-use Rattle.serve.proofs.serve_parts.Reads as serve-parts-reads
-use Rattle.shape.proofs.shape_of.Reads as shape-of-reads
 
--- src/lib.rt:185:9
 shape-of-requires : tie.Need-shape-of-requires
 shape-of-requires c κs = search needs
 
--- src/lib.rt:186:9
 form-status-requires : tie.Need-form-status-requires
 form-status-requires c κs = search needs
 
--- src/lib.rt:188:9
 serve-parts-requires : tie.Need-serve-parts-requires
-serve-parts-requires c κs = (((c .before .before .before .before .before .before .before .before .pre) .0, ((c .before .before .before .before .before .before .before .before .pre) .1 .0, (c .before .before .before .before .before .before .before .before .pre) .1 .1 .0)), ((c .before .before .before .before .shape-of) .ensures, (sym ((c .before .before .before .form-status) .ensures) ∙ (c .before .before .if1) .taken, (c .before .before .before .before .before .before .before .before .pre) .1 .1 .1)))
+serve-parts-requires c κs =
+    let m = c .before .before in
+    let p = m .before .before .before .before .before .before .pre in
+    ((p .0, (p .1 .0, p .1 .1 .0)), (m .before .before .shape-of .ensures, (sym (m .before .form-status .ensures) ∙ m .if1 .taken, p .1 .1 .1)))
 
--- src/lib.rt:188:9
 same-length : tie.Need-same-length
 same-length c = search needs
 
--- src/lib.rt:188:9
 same-length-2 : tie.Need-same-length-2
 same-length-2 c = search needs
 
--- src/lib.rt:188:9
 returns : tie.Need-returns
-returns c = (c .before .before .before .before .serve-parts) .ensures
+returns c = c .before .before .before .before .serve-parts .ensures
 
--- src/lib.rt:190:5
 refused-requires : tie.Need-refused-requires
-refused-requires c κs = (c .before .before .before .before .before .before .before .pre) .1 .1 .0
+refused-requires c κs = search needs
 
--- src/lib.rt:179:1
 same-length-3 : tie.Need-same-length-3
 same-length-3 c = search needs
 
--- src/lib.rt:179:1
 returns-2 : tie.Need-returns-2
-returns-2 c = let s = now ((c .before .before .before .before .before .before .before .before .before .before .args) .s) in let h = (c .before .before .before .before .before .before .before .before .before .before .args) .h in let e = (c .before .before .before .before .before .form-status) .ensures ∙ ap (λ (x : Shape). formStatus x h) ((c .before .before .before .before .before .before .shape-of) .ensures) in let z : formStatus (shapeOf (h .opcode)) h ≡ 0 → ⊥ = λ q. (c .before .before .before .before .if1) .left (e ∙ q) in refused-by (now ((c .before .before .before .before .before .before .before .before .before .before .args) .b)) s ((c .before .before .before .before .before .before .before .before .before .before .args) .clock) h (other-stops s h z) _ _ _ _ (e ∙ other-status s h z) ((c .before .before .refused) .ensures .0) ((c .before .before .refused) .ensures .1)
+returns-2 c =
+    let m = c .before .before .before .before in
+    let f = m .before .before .before .before .before .before in
+    let s = now (f .args .s) in
+    let h = f .args .h in
+    let done = c .before .before .refused .ensures in
+    let e = m .before .form-status .ensures ∙ ap (λ (x : Shape). formStatus x h) (m .before .before .shape-of .ensures) in
+    let z : formStatus (shapeOf (h .opcode)) h ≡ 0 → ⊥ = λ q. m .if1 .left (e ∙ q) in
+    let y : Bytes (now (f .args .b)) = λ i. m .before .before .before .before .before .slice-known .given i .fits in
+    refused-by (now (f .args .b)) s (f .args .clock) h (other-stops s h z) _ _ _ _ y (f .pre .0) (e ∙ other-status s h z) (done .0) (done .1)
 
 pub serve-whole-spec : {M : Type 1} → statement M
 serve-whole-spec =

@@ -31,16 +31,22 @@ put-bytes-requires-2 c κs = search needs
 
 add-result : tie.Need-add-result
 add-result c =
-    let e : c .before .before .before .before .before .before .before .before .before .before .before .put-number .result ≡ length (digits (c .before .before .before .before .before .before .before .before .before .before .before .before .before .before .before .args .n)) = c .before .before .before .before .before .before .before .before .before .before .before .put-number .ensures .0 in
-    record { fits = omega (arith, digits-most (c .before .before .before .before .before .before .before .before .before .before .before .before .before .before .before .args .n)) }
+    let c10 = c .before .before .before .before .before .before .before .before .before .before in
+    let args = c10 .before .before .before .before .before .args in
+    let put-number = c10 .before .put-number in
+    let e : put-number .result ≡ length (digits (args .n)) = put-number .ensures .0 in
+    record { fits = omega (arith, digits-most (args .n)) }
 
 same-length : tie.Need-same-length
 same-length c = search needs
 
 returns : tie.Need-returns
 returns c =
-    let e : c .before .before .before .before .before .before .before .before .before .before .before .put-number .result ≡ length (digits (c .before .before .before .before .before .before .before .before .before .before .before .before .before .before .before .args .n)) = c .before .before .before .before .before .before .before .before .before .before .before .put-number .ensures .0 in
-    omega (arith, digits-most (c .before .before .before .before .before .before .before .before .before .before .before .before .before .before .before .args .n))
+    let c10 = c .before .before .before .before .before .before .before .before .before .before in
+    let args = c10 .before .before .before .before .before .args in
+    let put-number = c10 .before .put-number in
+    let e : put-number .result ≡ length (digits (args .n)) = put-number .ensures .0 in
+    omega (arith, digits-most (args .n))
 
 pub put-count-spec : {M : Type 1} → statement M
 put-count-spec =

@@ -66,15 +66,18 @@ same-length-3 c = search needs
 
 returns : tie.Need-returns
 returns c =
-    let a = c .before .before .before .before .before .before .before .before .before .before .before .before .before .before .before .before .before .before .before .before .before .before .args in
-    let ran = c .before .before .before .before .before .before .before .before .before .before .before .before .before .before .serve-run in
+    let c10 = c .before .before .before .before .before .before .before .before .before .before in
+    let c20 = c10 .before .before .before .before .before .before .before .before .before .before in
+    let args = c20 .before .before .args in
+    let pre = c20 .before .before .pre in
+    let part = c10 .before .before .before .before .before .before .part in
+    let serve-run = c10 .before .before .before .before .serve-run in
+    let write-all = c .before .before .before .before .before .before .before .write-all in
+    let a = args in
+    let ran = serve-run in
     let k = c .before .before .before .keep in
-    goes (a .clock) (a .held) (k .result) (a .table .now) (ran .last .0) (a .received .now) (k .last .0) (c .before .before .before .before .before .before .before .before .before .before .before .before .before .before .before .before .part .result .now) (a .replies .now) (a .t) (ran .result) (c .next-after .result) (c .before .before .before .before .before .before .before .write-all .result)
-    (c .before .before .before .before .before .before .before .before .before .before .before .before .before .before .before .before .before .before .before .before .before .before .pre)
-    (c .before .before .before .before .before .before .before .before .before .before .before .before .before .before .before .before .part .ensures)
-    (ran .ensures .0)
-    (ran .ensures .1 .0)
-    (k .ensures)
+    goes (a .clock) (a .held) (k .result) (a .table .now) (ran .last .0) (a .received .now) (k .last .0) (part .result .now) (a .replies .now) (a .t)
+    (ran .result) (c .next-after .result) (write-all .result) pre (part .ensures) (ran .ensures .0) (ran .ensures .1 .0) (k .ensures)
     (c .next-after .ensures)
 
 pub serve-held-spec : {M : Type 1} → statement M

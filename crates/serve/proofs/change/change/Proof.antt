@@ -1,5 +1,8 @@
-use Rattle.serving.proofs.Storing.{stored-none}
-use mathlib.Core.Path.{sym}
+use Rattle.serve.proofs.Joint.{storing}
+use Rattle.commands.specs.Decide.{bytesFrom}
+use mathlib.Core.List.{List, []}
+use mathlib.Core.Path.{ap, _∙_}
+use Prim.Native.Nat.{ℕ}
 use borrow.Author.Needs.{needs}
 use Rattle.serve.proofs.change.change.Statement.{statement}
 use Rattle.serve.proofs.change.change.Tie as tie
@@ -7,8 +10,11 @@ use Rattle.serve.proofs.change.change.Tie as tie
 enum-known-store : tie.Need-enum-known-store
 enum-known-store c = search needs
 
-store-used-requires : tie.Need-store-used-requires
-store-used-requires c κs = search needs
+put-head-requires : tie.Need-put-head-requires
+put-head-requires c κs = search needs
+
+store-from-requires : tie.Need-store-from-requires
+store-from-requires c κs = search needs
 
 enum-told : tie.Need-enum-told
 enum-told c = search needs
@@ -17,14 +23,24 @@ same-length : tie.Need-same-length
 same-length c = search needs
 
 returns : tie.Need-returns
-returns c = rw (c .before .before .before .before .before .store .given .1) (c .before .before .store-used .ensures)
+returns c =
+    let w = c .before .before .before .before .before .before in
+    let a = w .before .before .before .before .before .before .before .before .before .args in
+    let m = c .before .before .before .before .before .before .before .before .before .store .given .0 in
+    let head = ap (λ (x : List ℕ). storing x (a .l) (a .key .now) (m .0) (bytesFrom (a .d .source) (a .value .now))) (w .put-head .ensures) in
+    rw (c .before .before .before .before .before .before .before .before .before .store .given .1) (c .before .before .store-from .ensures ∙ head)
 
 returns-2 : tie.Need-returns-2
-returns-2 c =
-    let a = c .before .before .before .before .before .before .args in
-    rw (c .enum-told .given .1) (sym (stored-none (a .b .now) (a .place) (a .key .now) (a .d .head .mark .0)))
+returns-2 c = rw (c .enum-told .given .1)
 
 pub change-spec : {M : Type 1} → statement M
 change-spec =
     tie.close
-    (tie.spec enum-known-store store-used-requires enum-told same-length returns returns-2)
+    (tie.spec
+    enum-known-store
+    put-head-requires
+    store-from-requires
+    enum-told
+    same-length
+    returns
+    returns-2)

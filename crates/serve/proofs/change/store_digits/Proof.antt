@@ -1,4 +1,4 @@
-use Rattle.serve.proofs.Storing.{storing, read-back}
+use Rattle.serve.proofs.Joint.{storing, read-back}
 use Rattle.digits.specs.Decimal.{digits}
 use mathlib.Core.Path.{ap, _∙_}
 use borrow.Author.Needs.{needs}
@@ -17,16 +17,18 @@ slice-aggregate-part c = search needs
 part-requires : tie.Need-part-requires
 part-requires c κs = search needs
 
-put-requires : tie.Need-put-requires
-put-requires c κs = c .before .before .before .before .before .before .before .before .pre
+store-requires : tie.Need-store-requires
+store-requires c κs = search needs
 
 same-length : tie.Need-same-length
 same-length c = search needs
 
 returns : tie.Need-returns
 returns c =
-    let a = c .before .before .before .before .before .before .before .before .before .before .before .args in
-    c .before .before .put .ensures ∙ ap (storing (a .b .now) (a .i) (a .key .now) (a .d) (a .mark .0)) (read-back _ (digits (a .n)) _ _ _ (c .before .before .before .before .before .before .before .put-number .ensures .0) (c .before .before .before .before .before .before .before .put-number .ensures .1) (c .before .before .before .part .ensures))
+    let p = c .before .before .before .before .before .before .before in
+    let a = p .before .before .before .before .args in
+    let text = read-back _ (digits (a .n)) _ _ _ (p .put-number .ensures .0) (p .put-number .ensures .1) (c .before .before .before .part .ensures) in
+    c .before .before .store .ensures ∙ ap (storing (a .b .now) (a .l) (a .key .now) (a .m)) text
 
 pub store-digits-spec : {M : Type 1} → statement M
 store-digits-spec =
@@ -36,6 +38,6 @@ store-digits-spec =
     put-number-requires
     slice-aggregate-part
     part-requires
-    put-requires
+    store-requires
     same-length
     returns)

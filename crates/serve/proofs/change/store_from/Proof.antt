@@ -1,4 +1,4 @@
-use Rattle.serve.proofs.Storing.{storing}
+use Rattle.serve.proofs.Joint.{storing}
 use mathlib.Core.Path.{ap, _∙_}
 use borrow.Author.Needs.{needs}
 use Rattle.serve.proofs.change.store_from.Statement.{statement}
@@ -10,32 +10,20 @@ enum-told c = search needs
 part-requires : tie.Need-part-requires
 part-requires c κs = search needs
 
-put-requires : tie.Need-put-requires
-put-requires c κs =
-    let p = c .before .before .before .before .before .before .before .pre in
-    (p .0, p .1 .0)
+store-requires : tie.Need-store-requires
+store-requires c κs = search needs
 
 enum-told-2 : tie.Need-enum-told-2
 enum-told-2 c = search needs
 
-put-requires-2 : tie.Need-put-requires-2
-put-requires-2 c κs =
-    let p = c .before .before .before .before .before .before .pre in
-    (p .0, p .1 .0)
+store-requires-2 : tie.Need-store-requires-2
+store-requires-2 c κs = search needs
 
 enum-known-source : tie.Need-enum-known-source
 enum-known-source c = search needs
 
 store-digits-requires : tie.Need-store-digits-requires
-store-digits-requires c κs =
-    let p = c .before .before .before .before .before .before .before .pre in
-    (p .0, p .1 .0)
-
-enum-told-3 : tie.Need-enum-told-3
-enum-told-3 c = search needs
-
-store-kept-requires : tie.Need-store-kept-requires
-store-kept-requires c κs = c .before .before .before .before .before .before .pre
+store-digits-requires c κs = search needs
 
 same-length : tie.Need-same-length
 same-length c = search needs
@@ -43,13 +31,14 @@ same-length c = search needs
 returns : tie.Need-returns
 returns c =
     let a = c .before .before .before .before .before .before .before .before .before .before .args in
-    rw (c .before .before .before .before .before .enum-told .given .1) (c .before .before .put .ensures ∙ ap (storing (a .b .now) (a .i) (a .key .now) (a .d) (a .mark .0)) (c .before .before .before .part .ensures))
+    let empty = ap (storing (a .b .now) (a .l) (a .key .now) (a .m)) (c .before .before .before .part .ensures) in
+    rw (c .before .before .before .before .before .enum-told .given .1) (c .before .before .store .ensures ∙ empty)
 
 same-length-2 : tie.Need-same-length-2
 same-length-2 c = search needs
 
 returns-2 : tie.Need-returns-2
-returns-2 c = rw (c .before .before .before .before .enum-told2 .given .1) (c .before .before .put2 .ensures)
+returns-2 c = rw (c .before .before .before .before .enum-told2 .given .1) (c .before .before .store2 .ensures)
 
 same-length-3 : tie.Need-same-length-3
 same-length-3 c = search needs
@@ -57,30 +46,20 @@ same-length-3 c = search needs
 returns-3 : tie.Need-returns-3
 returns-3 c = rw (c .before .before .before .before .before .source .given .1) (c .before .before .store-digits .ensures)
 
-same-length-4 : tie.Need-same-length-4
-same-length-4 c = search needs
-
-returns-4 : tie.Need-returns-4
-returns-4 c = rw (c .before .before .before .before .enum-told3 .given .1) (c .before .before .store-kept .ensures)
-
 pub store-from-spec : {M : Type 1} → statement M
 store-from-spec =
     tie.close
     (tie.spec
     enum-told
     part-requires
-    put-requires
+    store-requires
     enum-told-2
-    put-requires-2
+    store-requires-2
     enum-known-source
     store-digits-requires
-    enum-told-3
-    store-kept-requires
     same-length
     returns
     same-length-2
     returns-2
     same-length-3
-    returns-3
-    same-length-4
-    returns-4)
+    returns-3)

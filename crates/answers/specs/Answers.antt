@@ -1,0 +1,121 @@
+-- The answers as C takes them: a struct of numbers for each, in which outcomes and statuses are document 01's. What an answer doesn't have is 0.
+use Prim.Native.Nat.{ℕ}
+use Rattle.numbers.specs.declared.Numbers.{Numbers}
+use Rattle.request.specs.declared.Span.{Span}
+use Rattle.request.specs.declared.Frame.{Frame}
+use Rattle.request.specs.declared.Fields.{Fields}
+use Rattle.request.specs.declared.Reading.{Reading}
+use Rattle.request.specs.declared.Reading.the-variants.{Outcome, Status, Accepted}
+use Rattle.request.specs.declared.Written.{Written}
+use Rattle.request.specs.declared.Written.the-variants.{Refused as NotWritten, NoRoom, Wrote}
+use Rattle.request.specs.Writing.{statusNo, outcomeNo}
+use Rattle.serving.specs.declared.Served.{Served}
+use Rattle.serving.specs.declared.Served.the-variants.{Refused, Done}
+use Rattle.owner.specs.declared.Document.{Document}
+use Rattle.owner.specs.declared.Document.the-variants.{Damaged, Missing, Live}
+use Rattle.owner.specs.declared.Purged.{Purged}
+use Rattle.owner.specs.declared.Purged.the-variants.{Damaged as NotPurged, Freed}
+use Rattle.owner.specs.Owner.{readOutcome, readStatus, purgeOutcome}
+use Rattle.run.specs.declared.Ran.{Ran}
+use Rattle.answers.specs.declared.Part.{Part}
+use Rattle.answers.specs.declared.ServedAnswer.{ServedAnswer}
+use Rattle.answers.specs.declared.RanAnswer.{RanAnswer}
+use Rattle.answers.specs.declared.DocumentAnswer.{DocumentAnswer}
+use Rattle.answers.specs.declared.PurgedAnswer.{PurgedAnswer}
+use Rattle.answers.specs.declared.RequestAnswer.{RequestAnswer}
+use Rattle.answers.specs.declared.WrittenAnswer.{WrittenAnswer}
+
+abbrev pub servedAnswer : Served → ServedAnswer
+servedAnswer (Refused n need) = record { outcome = n; status = 0; used = 0; reply = 0; needed = need }
+servedAnswer (Done n used len) = record { outcome = 0; status = n; used = used; reply = len; needed = 0 }
+
+-- a run stops at a refused call: why, and what was consumed and answered before it
+abbrev pub ranAnswer : Ran → RanAnswer
+ranAnswer r = record {
+  outcome = servedAnswer (r .stop) .outcome;
+  used = r .cursor .at;
+  reply = r .filled;
+  needed = servedAnswer (r .stop) .needed;
+}
+
+abbrev pub partOf : Span → Part
+partOf p = record { at = p .at; len = p .len }
+
+abbrev pub noPart : Part
+noPart = record { at = 0; len = 0 }
+
+-- a document's four numbers and where its value stands
+abbrev pub liveAnswer : Numbers → ℕ → ℕ → DocumentAnswer
+liveAnswer n at len = record {
+  outcome = 0;
+  status = 0;
+  flags = n .flags;
+  expiry = n .expiry;
+  revision = n .revision .0;
+  cas = n .cas .0;
+  value = record { at = at; len = len };
+}
+
+abbrev pub noDocument : ℕ → ℕ → DocumentAnswer
+noDocument outcome status = record {
+  outcome = outcome;
+  status = status;
+  flags = 0;
+  expiry = 0;
+  revision = 0;
+  cas = 0;
+  value = noPart;
+}
+
+abbrev pub documentAnswer : Document → DocumentAnswer
+documentAnswer Damaged = noDocument (readOutcome Damaged) (readStatus Damaged)
+documentAnswer Missing = noDocument (readOutcome Missing) (readStatus Missing)
+documentAnswer (Live n at len) = liveAnswer n at len
+
+abbrev pub purgedAnswer : Purged → PurgedAnswer
+purgedAnswer NotPurged = record { outcome = purgeOutcome NotPurged; freed = 0 }
+purgedAnswer (Freed n) = record { outcome = 0; freed = n }
+
+abbrev pub requestRefused : ℕ → ℕ → RequestAnswer
+requestRefused outcome status = record {
+  outcome = outcome;
+  status = status;
+  opcode = 0;
+  datatype = 0;
+  vbucket = 0;
+  opaque = 0;
+  cas = 0;
+  extras = noPart;
+  key = noPart;
+  value = noPart;
+  meta = 0;
+}
+
+abbrev pub requestShown : Frame → RequestAnswer
+requestShown f = record {
+  outcome = 0;
+  status = 0;
+  opcode = f .fields .opcode;
+  datatype = f .fields .datatype;
+  vbucket = f .fields .vbucket;
+  opaque = f .fields .opaque;
+  cas = f .fields .cas .0;
+  extras = partOf (f .extras);
+  key = partOf (f .key);
+  value = partOf (f .value);
+  meta = f .meta;
+}
+
+abbrev pub requestAnswer : Reading → RequestAnswer
+requestAnswer (Outcome n) = requestRefused n 0
+requestAnswer (Status n) = requestRefused 0 n
+requestAnswer (Accepted f) = requestShown f
+
+-- the header fields of a request to write
+abbrev pub fieldsFor : ℕ → ℕ → ℕ → ℕ → ℕ → Fields
+fieldsFor opcode datatype vbucket opaque cas = record { opcode = opcode; datatype = datatype; vbucket = vbucket; opaque = opaque; cas = record { 0 = cas } }
+
+abbrev pub writtenAnswer : Written → WrittenAnswer
+writtenAnswer NotWritten = record { outcome = outcomeNo NotWritten; status = statusNo NotWritten; len = 0 }
+writtenAnswer NoRoom = record { outcome = outcomeNo NoRoom; status = statusNo NoRoom; len = 0 }
+writtenAnswer (Wrote n) = record { outcome = 0; status = 0; len = n }

@@ -1,0 +1,250 @@
+// The answers as C takes them: structs of numbers, in which outcomes and statuses are document 01's. What an answer
+// doesn't have is 0.
+ghost use mathlib.Core.Path.{_≡_};
+ghost use Rattle.answers.specs.Answers.{servedAnswer, ranAnswer, partOf, liveAnswer, noDocument, documentAnswer, purgedAnswer, requestRefused, requestShown, requestAnswer, writtenAnswer};
+use numbers::Numbers;
+use owner::Document;
+use owner::Purged;
+use request::Frame;
+use request::Reading;
+use request::Span;
+use request::Written;
+use run::Ran;
+use serving::Served;
+use tally::Tally;
+
+// Bytes of a frame or of a table: a place counted from its first byte, and a length.
+#[repr(C)]
+pub struct Part {
+    pub at: usize,
+    pub len: usize,
+}
+
+#[repr(C)]
+pub struct ServedAnswer {
+    pub outcome: u8,
+    pub status: u8,
+    pub used: usize,
+    pub reply: usize,
+    pub needed: usize,
+}
+
+// Why a run stopped, and what was consumed and answered before.
+#[repr(C)]
+pub struct RanAnswer {
+    pub outcome: u8,
+    pub used: usize,
+    pub reply: usize,
+    pub needed: usize,
+}
+
+#[repr(C)]
+pub struct DocumentAnswer {
+    pub outcome: u8,
+    pub status: u8,
+    pub flags: u32,
+    pub expiry: u32,
+    pub revision: u64,
+    pub cas: u64,
+    pub value: Part,
+}
+
+#[repr(C)]
+pub struct PurgedAnswer {
+    pub outcome: u8,
+    pub freed: usize,
+}
+
+// The value ends with `meta` bytes of extended meta.
+#[repr(C)]
+pub struct RequestAnswer {
+    pub outcome: u8,
+    pub status: u8,
+    pub opcode: u8,
+    pub datatype: u8,
+    pub vbucket: u16,
+    pub opaque: u32,
+    pub cas: u64,
+    pub extras: Part,
+    pub key: Part,
+    pub value: Part,
+    pub meta: usize,
+}
+
+#[repr(C)]
+pub struct WrittenAnswer {
+    pub outcome: u8,
+    pub status: u8,
+    pub len: usize,
+}
+
+pub fn served_answer(r: Served) -> ServedAnswer
+    ensures { λ a. ⌜ a ≡ servedAnswer r ⌝ }
+{
+    match r {
+        Served::Refused(outcome, needed) => ServedAnswer {
+            outcome,
+            status: 0,
+            used: 0,
+            reply: 0,
+            needed,
+        },
+        Served::Done(status, used, reply) => ServedAnswer {
+            outcome: 0,
+            status,
+            used,
+            reply,
+            needed: 0,
+        },
+    }
+}
+
+pub fn ran_answer(r: Ran) -> RanAnswer
+    ensures { λ a. ⌜ a ≡ ranAnswer r ⌝ }
+{
+    let end = r.stop;
+    let stop = served_answer(end);
+    RanAnswer {
+        outcome: stop.outcome,
+        used: r.cursor.at,
+        reply: r.filled,
+        needed: stop.needed,
+    }
+}
+
+// The counts after a run.
+pub fn ran_tally(r: Ran) -> Tally
+    ensures { λ t. ⌜ t ≡ r .tally ⌝ }
+{
+    r.tally
+}
+
+fn part_of(p: Span) -> Part
+    ensures { λ a. ⌜ a ≡ partOf p ⌝ }
+{
+    Part {
+        at: p.at,
+        len: p.len,
+    }
+}
+
+fn live_answer(n: Numbers, at: usize, len: usize) -> DocumentAnswer
+    ensures { λ a. ⌜ a ≡ liveAnswer n at len ⌝ }
+{
+    DocumentAnswer {
+        outcome: 0,
+        status: 0,
+        flags: n.flags,
+        expiry: n.expiry,
+        revision: n.revision.0,
+        cas: n.cas.0,
+        value: Part { at, len },
+    }
+}
+
+fn no_document(outcome: u8, status: u8) -> DocumentAnswer
+    ensures { λ a. ⌜ a ≡ noDocument outcome status ⌝ }
+{
+    DocumentAnswer {
+        outcome,
+        status,
+        flags: 0,
+        expiry: 0,
+        revision: 0,
+        cas: 0,
+        value: Part { at: 0, len: 0 },
+    }
+}
+
+pub fn document_answer(d: Document) -> DocumentAnswer
+    ensures { λ a. ⌜ a ≡ documentAnswer d ⌝ }
+{
+    match d {
+        Document::Damaged => no_document(5, 0),
+        Document::Missing => no_document(0, 0x01),
+        Document::Live(n, at, len) => live_answer(n, at, len),
+    }
+}
+
+pub fn purged_answer(p: Purged) -> PurgedAnswer
+    ensures { λ a. ⌜ a ≡ purgedAnswer p ⌝ }
+{
+    match p {
+        Purged::Damaged => PurgedAnswer {
+            outcome: 5,
+            freed: 0,
+        },
+        Purged::Freed(n) => PurgedAnswer {
+            outcome: 0,
+            freed: n,
+        },
+    }
+}
+
+fn request_refused(outcome: u8, status: u8) -> RequestAnswer
+    ensures { λ a. ⌜ a ≡ requestRefused outcome status ⌝ }
+{
+    RequestAnswer {
+        outcome,
+        status,
+        opcode: 0,
+        datatype: 0,
+        vbucket: 0,
+        opaque: 0,
+        cas: 0,
+        extras: Part { at: 0, len: 0 },
+        key: Part { at: 0, len: 0 },
+        value: Part { at: 0, len: 0 },
+        meta: 0,
+    }
+}
+
+fn request_shown(f: Frame) -> RequestAnswer
+    ensures { λ a. ⌜ a ≡ requestShown f ⌝ }
+{
+    RequestAnswer {
+        outcome: 0,
+        status: 0,
+        opcode: f.fields.opcode,
+        datatype: f.fields.datatype,
+        vbucket: f.fields.vbucket,
+        opaque: f.fields.opaque,
+        cas: f.fields.cas.0,
+        extras: part_of(f.extras),
+        key: part_of(f.key),
+        value: part_of(f.value),
+        meta: f.meta,
+    }
+}
+
+pub fn request_answer(r: Reading) -> RequestAnswer
+    ensures { λ a. ⌜ a ≡ requestAnswer r ⌝ }
+{
+    match r {
+        Reading::Outcome(n) => request_refused(n, 0),
+        Reading::Status(n) => request_refused(0, n),
+        Reading::Accepted(f) => request_shown(f),
+    }
+}
+
+pub fn written_answer(w: Written) -> WrittenAnswer
+    ensures { λ a. ⌜ a ≡ writtenAnswer w ⌝ }
+{
+    match w {
+        Written::Refused => WrittenAnswer {
+            outcome: 0,
+            status: 0x04,
+            len: 0,
+        },
+        Written::NoRoom => WrittenAnswer {
+            outcome: 4,
+            status: 0,
+            len: 0,
+        },
+        Written::Wrote(n) => WrittenAnswer {
+            outcome: 0,
+            status: 0,
+            len: n,
+        },
+    }
+}

@@ -1,0 +1,56 @@
+use Rattle.commands.specs.Rules.{firstStatus, firstFailure}
+use Rattle.commands.proofs.status.first_status.Statement.{statement}
+use Rattle.commands.proofs.status.first_status.Tie as tie
+
+first-requires : tie.Need-first-requires
+first-requires c κs = tt
+
+first-requires-2 : tie.Need-first-requires-2
+first-requires-2 c κs = tt
+
+first-requires-3 : tie.Need-first-requires-3
+first-requires-3 c κs = tt
+
+first-requires-4 : tie.Need-first-requires-4
+first-requires-4 c κs = tt
+
+first-requires-5 : tie.Need-first-requires-5
+first-requires-5 c κs = tt
+
+first-requires-6 : tie.Need-first-requires-6
+first-requires-6 c κs = tt
+
+first-requires-7 : tie.Need-first-requires-7
+first-requires-7 c κs = tt
+
+first-requires-8 : tie.Need-first-requires-8
+first-requires-8 c κs = tt
+
+returns : tie.Need-returns
+unfolding firstStatus firstFailure
+returns c =
+    let a = c .before .before .before .before in
+    simp (
+      c .first8 .ensures,
+      c .before .first7 .ensures,
+      c .before .before .first6 .ensures,
+      c .before .before .before .first5 .ensures,
+      a .first4 .ensures,
+      a .before .first3 .ensures,
+      a .before .before .first2 .ensures,
+      a .before .before .before .first .ensures,
+    )
+
+pub first-status-spec : {M : Type 1} → statement M
+first-status-spec =
+    tie.close
+    (tie.spec
+    first-requires
+    first-requires-2
+    first-requires-3
+    first-requires-4
+    first-requires-5
+    first-requires-6
+    first-requires-7
+    first-requires-8
+    returns)

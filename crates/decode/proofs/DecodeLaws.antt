@@ -1,0 +1,182 @@
+-- What a whole frame's parts, cut out of it, ask for, against the field rules and the definition on the frame.
+use Prim.Native.Nat.{ℕ, _+_, _-_, _≤_, _<_}
+use mathlib.Core.Path.{_≡_, refl, sym, ap, _∙_}
+use mathlib.Core.Bool.{Bool, true, false, cond, _||_}
+use mathlib.Core.List.{List}
+use native.Mathlib.Nat.{sub-zero}
+use native.Mathlib.Omega.{arith}
+use lib.ListN.{length}
+use lib.Dec.{ltb, eqb}
+use lib.Seq.{take-take}
+use borrow.Author.Tests.{eqb-true, eqb-false}
+use Rattle.octets.specs.Parts.{part}
+use Rattle.octets.proofs.Choices.{cond-elim}
+use Rattle.octets.proofs.Lists.{part-length}
+use Rattle.shape.specs.Shapes.{commands, shapeOf}
+use Rattle.shape.proofs.ShapeLaws.{each-shape}
+use Rattle.shape.specs.declared.Shape.{Shape}
+use Rattle.header.specs.declared.Header.{Header}
+use Rattle.rules.specs.WithMeta.{withMeta}
+use Rattle.rules.specs.Rules.{withMetaOk, metaSize, metaStatus, fieldStatus}
+use Rattle.rules.proofs.RuleLaws.{field-meta, field-plain}
+use Rattle.request.specs.Reading.{extrasSpan, valueSpan, bytesIn}
+use Rattle.commands.specs.declared.Instruction.{Instruction}
+use Rattle.commands.specs.Decide.{instructionOf}
+use Rattle.decode.specs.declared.Family.{Family}
+use Rattle.decode.specs.declared.Family.the-variants.{Bare, Stored, Counted, Carried}
+use Rattle.decode.specs.declared.Decoded.{Decoded}
+use Rattle.decode.specs.declared.Decoded.the-variants.{Broken, Whole}
+use Rattle.decode.specs.Decode.{familyOf, commandBy, commandOf, bareValue, instructionWith, metaDecoded, decodedAs, decodedBy, requestOf}
+
+-- which of the two it is, and the ask of one that has one
+told : Decoded → ℕ
+told Broken = 0
+told (Whole a) = 1
+
+askIn : Instruction → Decoded → Instruction
+askIn other Broken = other
+askIn other (Whole a) = a
+
+-- too large or not, a request goes on
+goes : (b : Bool) → (eqb (cond b 0x03 0) 0 || eqb (cond b 0x03 0) 0x03) ≡ true
+goes true = refl
+goes false = refl
+
+-- a shape's meta is 0 unless its command is with meta
+plainly : Family → Bool
+plainly (Bare c) = true
+plainly (Stored k) = true
+plainly (Counted up) = true
+plainly (Carried k) = false
+
+metas : (op : ℕ) → eqb (shapeOf op .meta) 0 ≡ plainly (familyOf (shapeOf op .operation))
+unfolding commands plainly
+metas op =
+    each-shape (λ (s : Shape). eqb (s .meta) 0 ≡ plainly (familyOf (s .operation))) op (
+      (λ q. refl),
+      (
+        (λ q. refl),
+        (
+          (λ q. refl),
+          (
+            (λ q. refl),
+            (
+              (λ q. refl),
+              (
+                (λ q. refl),
+                (
+                  (λ q. refl),
+                  (
+                    (λ q. refl),
+                    ((λ q. refl), ((λ q. refl), ((λ q. refl), ((λ q. refl), ((λ q. refl), tt))))),
+                  ),
+                ),
+              ),
+            ),
+          ),
+        ),
+      ),
+    )
+    refl refl
+
+module _ (s : Shape) (h : Header) (extras value : List ℕ) where
+  abbrev made : Family → ℕ → Instruction
+  made f n = instructionWith s h (commandBy f extras) n
+
+  -- what is whole is a plain command, or one with meta whose field rules are kept
+  by-family {ℓ} : {X : Type ℓ} (f : Family) (a : Instruction) → decodedAs f s h extras value ≡ Whole a
+      → (plainly f ≡ true → made f (length value) ≡ a → X)
+      → (plainly f ≡ false → withMetaOk (s .meta) (withMeta extras) value ≡ true → made f (length value - withMeta extras .section) ≡ a → X)
+      → X
+  unfolding metaDecoded plainly told askIn
+  by-family (Bare c) a e p m = p refl (ap (askIn a) e)
+  by-family (Stored k) a e p m = p refl (ap (askIn a) e)
+  by-family (Counted up) a e p m = p refl (ap (askIn a) e)
+  by-family (Carried k) a e p m =
+      cond-elim (withMetaOk (s .meta) (withMeta extras) value) _ _ _ e
+      (λ u z. m refl u (ap (askIn a) z))
+      (λ u z. absurd (omega (arith, ap told z)))
+
+  -- what is broken is one with meta whose field rules are not kept
+  broken : (f : Family) → decodedAs f s h extras value ≡ Broken → (plainly f ≡ false) × (withMetaOk (s .meta) (withMeta extras) value ≡ false)
+  unfolding metaDecoded plainly told
+  broken (Bare c) e = absurd (omega (arith, ap told e))
+  broken (Stored k) e = absurd (omega (arith, ap told e))
+  broken (Counted up) e = absurd (omega (arith, ap told e))
+  broken (Carried k) e =
+      cond-elim (withMetaOk (s .meta) (withMeta extras) value) _ _ _ e
+      (λ u z. absurd (omega (arith, ap told z)))
+      (λ u z. (refl, u))
+
+module _ (h : Header) (extras value : List ℕ) where
+  abbrev shape : Shape
+  shape = shapeOf (h .opcode)
+
+  abbrev family : Family
+  family = familyOf (shape .operation)
+
+  pub asked-broken : decodedBy shape h extras value ≡ Broken → fieldStatus shape extras value ≡ 0x04
+  unfolding decodedBy metaStatus
+  asked-broken e =
+      let (t, u) = broken shape h extras value family e in
+      field-meta shape extras value (eqb-false (shape .meta) 0 (metas (h .opcode) ∙ t)) ∙ rw u
+
+  by-kind {ℓ} : {X : Type ℓ} (a : Instruction) → decodedBy shape h extras value ≡ Whole a
+      → (eqb (shape .meta) 0 ≡ true → instructionWith shape h (commandOf (shape .operation) extras) (length value) ≡ a → X)
+      → (eqb (shape .meta) 0 ≡ false → withMetaOk (shape .meta) (withMeta extras) value ≡ true
+      → instructionWith shape h (commandOf (shape .operation) extras) (length value - withMeta extras .section) ≡ a → X)
+      → X
+  unfolding decodedBy commandOf
+  by-kind a e p m =
+      by-family shape h extras value family a e
+      (λ t z. p (metas (h .opcode) ∙ t) z)
+      (λ t u z. m (metas (h .opcode) ∙ t) u z)
+
+  pub asked-goes : (a : Instruction) → decodedBy shape h extras value ≡ Whole a → (eqb (fieldStatus shape extras value) 0 || eqb (fieldStatus shape extras value) 0x03) ≡ true
+  unfolding metaStatus
+  asked-goes a e =
+      by-kind a e
+      (λ t z. rw (field-plain shape extras value (eqb-true (shape .meta) 0 t)) (goes (ltb 1024 (length value))))
+      (λ t u z. rw (field-meta shape extras value (eqb-false (shape .meta) 0 t), u) (goes (ltb 1024 (length value - withMeta extras .section))))
+
+  -- the ask is of the definition's command, and of what is left of the value
+  asked-with : (a : Instruction) → decodedBy shape h extras value ≡ Whole a
+      → a ≡ instructionWith shape h (commandOf (shape .operation) extras) (length value - metaSize shape extras)
+  unfolding metaSize withMeta
+  asked-with a e =
+      let sizing : ℕ → Instruction = λ n. instructionWith shape h (commandOf (shape .operation) extras) n in
+      by-kind a e
+      (λ t z. sym z ∙ ap sizing (rw t (sym (sub-zero (length value)))))
+      (λ t u z. sym z ∙ ap sizing (rw t))
+
+module _ (s : List ℕ) (h : Header) (whole : 24 + h .body ≤ length s) (inside : h .extlen + h .keylen ≤ h .body) where
+  abbrev extras : List ℕ
+  extras = bytesIn s (extrasSpan h)
+
+  abbrev value : List ℕ
+  value = bytesIn s (valueSpan h)
+
+  abbrev len : ℕ
+  len = valueSpan h .len
+
+  abbrev left : ℕ
+  left = len - metaSize (shapeOf (h .opcode)) extras
+
+  fits : (n : ℕ) → n ≤ len → length (part s (valueSpan h .at) n) ≡ n
+  unfolding valueSpan
+  fits n l = part-length s (valueSpan h .at) n (omega arith)
+
+  sized : length value - metaSize (shapeOf (h .opcode)) extras ≡ left
+  sized = ap (λ (n : ℕ). n - metaSize (shapeOf (h .opcode)) extras) (fits len (omega arith))
+
+  module _ (a : Instruction) (e : decodedBy (shapeOf (h .opcode)) h extras value ≡ Whole a) where
+    abbrev asks : ℕ → Instruction
+    asks n = instructionWith (shapeOf (h .opcode)) h (commandOf (shapeOf (h .opcode) .operation) extras) n
+
+    pub asked-whole : a ≡ instructionOf (requestOf s h)
+    unfolding requestOf bareValue
+    asked-whole = asked-with h extras value a e ∙ ap asks (sized ∙ sym (fits left (omega arith)))
+
+    pub asked-value : part value 0 (a .size) ≡ bareValue s h
+    unfolding bareValue
+    asked-value = rw (ap (λ (x : Instruction). x .size) (asked-with h extras value a e) ∙ sized, take-take left len _ (omega arith))

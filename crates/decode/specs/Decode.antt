@@ -1,0 +1,114 @@
+-- What a whole frame asks for: the command that its opcode and extras spell, with key and value.
+use Prim.Native.Nat.{ℕ, _-_, _/_, _%_}
+use mathlib.Core.Bool.{Bool, true, false, cond}
+use mathlib.Core.List.{List}
+use lib.ListN.{length}
+use lib.Dec.{eqb}
+use Rattle.octets.specs.Parts.{part}
+use Rattle.octets.specs.BigEndian.{num}
+use Rattle.shape.specs.Shapes.{shapeOf}
+use Rattle.shape.specs.declared.Shape.{Shape}
+use Rattle.shape.specs.declared.Operation.{Operation}
+use Rattle.shape.specs.declared.Operation.the-variants as Operations
+use Rattle.header.specs.declared.Header.{Header}
+use Rattle.rules.specs.WithMeta.{withMeta}
+use Rattle.rules.specs.declared.WithMeta.{WithMeta}
+use Rattle.rules.specs.Rules.{withMetaOk, metaSize}
+use Rattle.request.specs.Reading.{extrasSpan, keySpan, valueSpan, bytesIn}
+use Rattle.commands.specs.declared.Kind.{Kind}
+use Rattle.commands.specs.declared.Kind.the-variants.{Set, Add, Replace}
+use Rattle.commands.specs.declared.MetaKind.{MetaKind}
+use Rattle.commands.specs.declared.MetaKind.the-variants.{Set as SetMeta, Add as AddMeta, Delete as DeleteMeta}
+use Rattle.commands.specs.declared.Command.{Command}
+use Rattle.commands.specs.declared.Command.the-variants.{Get, Write, Delete, Count, Noop, Version, WithMeta as Metas}
+use Rattle.commands.specs.declared.Instruction.{Instruction}
+use Rattle.commands.specs.Decide.{Request}
+use Rattle.decode.specs.declared.Family.{Family}
+use Rattle.decode.specs.declared.Family.the-variants.{Bare, Stored, Counted, Carried}
+use Rattle.decode.specs.declared.Decoded.{Decoded}
+use Rattle.decode.specs.declared.Decoded.the-variants.{Broken, Whole}
+
+-- "8 extras (flags, expiry)"
+unfoldable pub plainOf : Kind → List ℕ → Command
+plainOf k extras = Write (record { kind = k; flags = num extras 0 4; expiry = num extras 4 4 })
+
+-- "20 extras (delta, initial, expiry)"
+unfoldable pub counterOf : Bool → List ℕ → Command
+counterOf up extras = Count (record { up = up; delta = num extras 0 8; initial = num extras 8 8; expiry = num extras 16 4 })
+
+-- the options' bits: 0x01, 0x02, 0x04, 0x08
+unfoldable pub metaCommand : MetaKind → WithMeta → Command
+metaCommand k w = Metas (record {
+  kind = k;
+  numbers = w .numbers;
+  force = eqb (w .options % 2) 1;
+  last = eqb (w .options / 2 % 2) 1;
+  regenerate = eqb (w .options / 4 % 2) 1;
+  skip = eqb (w .options / 8 % 2) 1;
+})
+
+-- how each operation's command is told, in 01's order: at once, or from its extras; "Set a2/a3, Add a4/a5, Delete a8/a9" carry their meta
+abbrev pub familyOf : Operation → Family
+familyOf Operations.Get = Bare (Get false)
+familyOf Operations.GetKey = Bare (Get true)
+familyOf Operations.Set = Stored Set
+familyOf Operations.Add = Stored Add
+familyOf Operations.Replace = Stored Replace
+familyOf Operations.Delete = Bare Delete
+familyOf Operations.Increment = Counted true
+familyOf Operations.Decrement = Counted false
+familyOf Operations.Noop = Bare Noop
+familyOf Operations.Version = Bare Version
+familyOf Operations.SetWithMeta = Carried SetMeta
+familyOf Operations.AddWithMeta = Carried AddMeta
+familyOf Operations.DeleteWithMeta = Carried DeleteMeta
+familyOf Operations.NotBuilt = Bare Noop
+familyOf Operations.Unknown = Bare Noop
+
+abbrev pub commandBy : Family → List ℕ → Command
+commandBy (Bare c) extras = c
+commandBy (Stored k) extras = plainOf k extras
+commandBy (Counted up) extras = counterOf up extras
+commandBy (Carried k) extras = metaCommand k (withMeta extras)
+
+-- the command that operation and extras spell
+unfoldable pub commandOf : Operation → List ℕ → Command
+unfolding plainOf counterOf metaCommand
+commandOf o extras = commandBy (familyOf o) extras
+
+-- the value before the extended meta
+unfoldable pub bareValue : List ℕ → Header → List ℕ
+bareValue s h = part s (valueSpan h .at) (valueSpan h .len - metaSize (shapeOf (h .opcode)) (bytesIn s (extrasSpan h)))
+
+-- an ask of a command and a value of this size; the rest is the header's and the opcode's
+abbrev pub instructionWith : Shape → Header → Command → ℕ → Instruction
+instructionWith s h command size = record { vbucket = h .vbucket; cas = h .cas; quiet = s .quiet; size = size; command = command }
+
+-- a with-meta command unless its fields break the rules
+unfoldable pub metaDecoded : Shape → Header → MetaKind → List ℕ → List ℕ → Decoded
+metaDecoded s h k extras value =
+    cond (withMetaOk (s .meta) (withMeta extras) value)
+    (Whole (instructionWith s h (metaCommand k (withMeta extras)) (length value - withMeta extras .section)))
+    Broken
+
+abbrev pub decodedAs : Family → Shape → Header → List ℕ → List ℕ → Decoded
+decodedAs (Bare c) s h extras value = Whole (instructionWith s h c (length value))
+decodedAs (Stored k) s h extras value = Whole (instructionWith s h (plainOf k extras) (length value))
+decodedAs (Counted up) s h extras value = Whole (instructionWith s h (counterOf up extras) (length value))
+decodedAs (Carried k) s h extras value = metaDecoded s h k extras value
+
+-- what a frame asks for unless it breaks the field rules, from its header, its opcode's shape, its extras and what follows its key
+unfoldable pub decodedBy : Shape → Header → List ℕ → List ℕ → Decoded
+unfolding metaDecoded
+decodedBy s h extras value = decodedAs (familyOf (s .operation)) s h extras value
+
+unfoldable pub requestOf : List ℕ → Header → Request
+unfolding bareValue commandOf
+requestOf s h = record {
+  vbucket = h .vbucket;
+  cas = h .cas;
+  quiet = shapeOf (h .opcode) .quiet;
+  key = bytesIn s (keySpan h);
+  value = bareValue s h;
+  command = commandOf (shapeOf (h .opcode) .operation) (bytesIn s (extrasSpan h));
+}

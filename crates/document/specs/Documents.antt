@@ -1,0 +1,24 @@
+-- Documents, apart from how memory holds them.
+use Prim.Native.Nat.{ℕ}
+use mathlib.Core.List.{List, []}
+use mathlib.Core.Bool.{Bool}
+use mathlib.Core.Option.{Option, none, some}
+use Rattle.numbers.specs.declared.Numbers.{Numbers}
+
+abbrev pub Key : Type 0
+Key = List ℕ
+
+-- what a used row holds for its key: "a document or a tombstone with its key: kind, value, flags, expiry, revision and CAS"
+pub record Doc : Type 0 where
+  pub tomb : Bool
+  pub value : List ℕ
+  pub numbers : Numbers
+
+pub record Entry : Type 0 where
+  pub key : Key
+  pub doc : Doc
+
+-- a key's value, empty without a document
+abbrev pub docValue : Option Doc → List ℕ
+docValue none = []
+docValue (some d) = d .value

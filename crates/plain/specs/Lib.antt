@@ -1,0 +1,7 @@
+pub mod Lookup
+pub mod Damage
+pub mod Plain
+pub mod Claims
+pub mod Purge
+pub mod Print
+pub mod Change

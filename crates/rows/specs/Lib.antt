@@ -1,0 +1,6 @@
+pub mod Row
+pub mod Table
+pub mod RowRules
+pub mod Good
+pub mod Find
+pub mod Over

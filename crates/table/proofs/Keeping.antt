@@ -1,0 +1,120 @@
+-- Storing, the head's writing and purging in the bytes of a good table.
+use Prim.Native.Nat.{ℕ, zero, suc, _+_, _*_, _≤_, _<_}
+use native.Mathlib.Omega.{arith}
+use mathlib.Core.Path.{_≡_, refl, sym, ap, _∙_}
+use mathlib.Core.Bool.{true}
+use mathlib.Core.List.{List, [], _∷_, _++_}
+use mathlib.Core.Option.{none, some}
+use lib.ListN.{length, take, drop, getD, length-append}
+use borrow.Author.Tests.{lt-ltb}
+use Rattle.octets.specs.Parts.{pasted}
+use Rattle.octets.proofs.Lists.{written-fits, pasted-over}
+use Rattle.document.specs.Documents.{Key, Doc, Entry}
+use Rattle.document.specs.Stored.{goneDoc}
+use Rattle.rows.specs.Row.{Row, rowBytes}
+use Rattle.rows.specs.Table.{Table, rowCount, rowAt, headBytes, rowsBytes, tableBytes}
+use Rattle.rows.specs.Good.{EntryGood}
+use Rattle.rows.specs.Over.{overBytes}
+use Rattle.rows.proofs.Over.{over-used, over-free}
+use Rattle.rows.proofs.Writes.{head-length}
+use Rattle.engine.specs.declared.Place.the-variants.{Into}
+use Rattle.plain.specs.declared.Found.{Found}
+use Rattle.plain.specs.declared.Found.the-variants.{At, Nothing}
+use Rattle.plain.specs.Lookup.{findIn, freeIn, freePlace, placeIn}
+use Rattle.plain.specs.Plain.{putRow}
+use Rattle.plain.specs.Change.{rowStored, purgeBytes, purgeCount}
+use Rattle.plain.specs.Claims.{Good}
+use Rattle.plain.proofs.Places.{founds, nothing-at, at-place, find-place, find-nothing, free-nothing}
+use Rattle.plain.proofs.TableLaws.{table-length, table-count}
+use Rattle.plain.proofs.ChangeLaws.{raise, row-put, put-good, purge-good}
+use Rattle.plain.proofs.PurgeBytes.{purge-bytes}
+use Rattle.table.specs.declared.Lookup.{Lookup}
+use Rattle.table.specs.Calls.{lookupOf, storedBy}
+use Rattle.table.specs.Claims.{StoresGood, HeadPut, HeadGood, PurgesGood}
+use Rattle.table.proofs.Looking.{absentAt, row-bytes, entry-good, entry-bytes, found-lookup, absent-lookup}
+
+free-there : (k i : ℕ) (ws : List Row) → freeIn k ws ≡ At i → (j : ℕ) × ((i ≡ k + j) × (getD ws j none ≡ none))
+free-there k i [] e = nothing-at i e
+free-there k i (none ∷ ws) e = let z : k ≡ i = cc in (0, (omega arith, refl))
+free-there k i (some x ∷ ws) e = let h = free-there (k + 1) i ws e in (suc (h .0), (omega (arith, h .1 .0), h .1 .1))
+
+module _ (t : Table) (key : Key) (d : Doc) (g : Good t) (k : EntryGood (t .head .mark .0) (record { key = key; doc = d })) where
+  abbrev e : Entry
+  e = record { key = key; doc = d }
+
+  abbrev b : List ℕ
+  b = tableBytes t
+
+  abbrev after : Table
+  after = record { head = t .head; rows = putRow (t .rows) key d }
+
+  -- over a row that then has the entry's own bytes
+  row-stored : (i old : ℕ) → placeIn key (t .rows) ≡ At i → overBytes (rowAt b i) e old ≡ rowBytes (some e) → rowStored b i e old ≡ tableBytes after
+  unfolding rowStored
+  row-stored i old p o =
+      let at = at-place key (t .rows) i p in
+      let h : i < rowCount b = omega (arith, at .below, table-count t g) in
+      rw (lt-ltb i (rowCount b) h, o)
+      (row-put t (t .head .mark .0) i (some e) k (g .rows) (at .below) ∙ ap (λ (ws : List Row). tableBytes (record { head = t .head; rows = ws })) (sym (at .put d)))
+
+  over-found : (i : ℕ) (f : findIn key 0 (t .rows) ≡ At i) → storedBy b (lookupOf true b key) e ≡ tableBytes after
+  unfolding storedBy
+  over-found i f =
+      let h = find-place key (t .rows) i f in
+      let x = h .entry in
+      ap (λ (l : Lookup). storedBy b l e) (found-lookup t g key true i f)
+      ∙ row-stored i (length (x .doc .value)) (rw f)
+      (ap (λ (r : List ℕ). overBytes r e (length (x .doc .value))) (entry-bytes t g i x (h .below) (h .there))
+      ∙ over-used (t .head .mark .0) e k x (entry-good t g i x (h .there)) (h .named))
+
+  into-free : (i : ℕ) → findIn key 0 (t .rows) ≡ Nothing → freeIn 0 (t .rows) ≡ At i → storedBy b (lookupOf true b key) e ≡ tableBytes after
+  unfolding storedBy
+  into-free i f q =
+      let p : placeIn key (t .rows) ≡ At i = rw (f, q) in
+      let at = at-place key (t .rows) i p in
+      let h = free-there 0 i (t .rows) q in
+      let z : h .0 ≡ i = omega (arith, h .1 .0) in
+      let n : getD (t .rows) i none ≡ none = ap (λ (j : ℕ). getD (t .rows) j none) (sym z) ∙ h .1 .1 in
+      let l : lookupOf true b key ≡ absentAt (Into i) = absent-lookup t g key true f ∙ ap (λ (q : Found). absentAt (freePlace q)) q in
+      ap (λ (l : Lookup). storedBy b l e) l
+      ∙ row-stored i 0 p (ap (λ (r : List ℕ). overBytes r e 0) (row-bytes t g i (at .below) ∙ ap rowBytes n) ∙ over-free (t .head .mark .0) e k)
+
+pub stores-good : StoresGood
+stores-good t key d g k room =
+    founds (findIn key 0 (t .rows))
+    (λ i f. record { bytes = over-found t key d g k i f; good = put-good t key d g k room })
+    (λ f. founds (freeIn 0 (t .rows))
+    (λ i q. record { bytes = into-free t key d g k i f q; good = put-good t key d g k room })
+    (λ q. absurd (omega (arith, room (find-nothing key 0 (t .rows) f), free-nothing 0 (t .rows) q))))
+
+pub head-put : HeadPut
+unfolding tableBytes
+head-put t h =
+    let l : length (headBytes (t .head)) ≡ length (headBytes h) = head-length (t .head) ∙ sym (head-length h) in
+    let n : length (tableBytes t) ≡ length (headBytes (t .head)) + length (rowsBytes (t .rows)) = length-append (headBytes (t .head)) (rowsBytes (t .rows)) in
+    written-fits (tableBytes t) 0 (headBytes h) (omega arith)
+    ∙ pasted-over (headBytes (t .head)) (rowsBytes (t .rows)) (headBytes h) l
+
+pub head-good : HeadGood
+head-good t m g l s = record {
+  least = g .least;
+  most = g .most;
+  state = g .state;
+  mode = g .mode;
+  vbucket = g .vbucket;
+  clock = g .clock;
+  mark = s;
+  rows = raise (t .head .mark .0) m (t .rows) l (g .rows);
+  keys = g .keys;
+}
+
+pub purges-good : PurgesGood
+purges-good t clock bound g =
+    let p = goneDoc clock bound in
+    let b = tableBytes t in
+    let q = purge-bytes p t g in
+    record {
+      bytes = ap (λ (n : ℕ). take 16 b ++ purgeBytes p n (drop 16 b)) (table-count t g) ∙ q .0;
+      count = ap (λ (n : ℕ). purgeCount p n (drop 16 b)) (table-count t g) ∙ q .1;
+      good = purge-good t p g;
+    }

@@ -1,9 +1,0 @@
--- The fingerprint of a row: its key's, 0 where it is free. Only speed hangs on it.
-use Prim.Native.Nat.{ℕ}
-use mathlib.Core.Option.{none, some}
-use Rattle.fingerprint.specs.Fingerprint.{fingerprint}
-use Rattle.table.specs.Row.{Row}
-
-abbrev pub rowPrint : Row → ℕ
-rowPrint none = 0
-rowPrint (some e) = fingerprint (e .key)
