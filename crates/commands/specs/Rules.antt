@@ -50,13 +50,13 @@ pub record Rule : Type 0 where
   -- the status at which the quiet form sends nothing
   pub silentOn : ℕ
 
--- Get, GetQ, GetK, GetKQ: "Not live: 0x01"; "The quiet two send nothing on 0x01. Header CAS ignored."
-abbrev pub getRule : Rule
-getRule = record {
+-- a command that stores nothing: whether it skips the vbucket test and needs a live document, and when its quiet form sends nothing
+abbrev pub readRule : Bool → Bool → ℕ → Rule
+readRule anywhere needs silentOn = record {
   fault = false;
-  anywhere = false;
+  anywhere = anywhere;
   standby = false;
-  needs = true;
+  needs = needs;
   fresh = false;
   guarded = false;
   beaten = false;
@@ -64,25 +64,16 @@ getRule = record {
   marks = false;
   revises = false;
   writes = false;
-  silentOn = 1;
+  silentOn = silentOn;
 }
+
+-- Get, GetQ, GetK, GetKQ: "Not live: 0x01"; "The quiet two send nothing on 0x01. Header CAS ignored."
+abbrev pub getRule : Rule
+getRule = readRule false true 1
 
 -- Noop, Version: they skip 0x07, and have no test of their own: "nothing after the header, whose CAS is ignored"
 abbrev pub noopRule : Rule
-noopRule = record {
-  fault = false;
-  anywhere = true;
-  standby = false;
-  needs = false;
-  fresh = false;
-  guarded = false;
-  beaten = false;
-  counts = false;
-  marks = false;
-  revises = false;
-  writes = false;
-  silentOn = 0;
-}
+noopRule = readRule true false 0
 
 -- all plain writes. "Header CAS not 0: not live 0x01, different 0x02"; "Quiet writes send nothing on status 0. Each plain write stores CAS mark + 1 [..]; its revision is the key's row's plus 1"
 abbrev pub plainRule : Bool → Bool → Bool → Bool → Rule

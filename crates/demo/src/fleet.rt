@@ -62,7 +62,7 @@ fn counted(name: &[u8], t: Tally) {
 
 fn row(boat: &[u8], i: usize) -> &[u8] {
     if i < frames::ROWS {
-        return octets::part(boat, 16 + i * 1312, 1312);
+        return octets::part(boat, rows::HEADER + i * rows::ROW, rows::ROW);
     }
     octets::part(boat, 0, 0)
 }
@@ -73,7 +73,11 @@ fn is_on(r: &[u8], other: &[u8]) -> bool {
     if slot.kind == 0 {
         return true;
     }
-    let l = table::find(other, octets::part(r, 32, slot.keylen as usize), false);
+    let l = table::find(
+        other,
+        octets::part(r, rows::FIXED, slot.keylen as usize),
+        false,
+    );
     let place = l.place;
     match place {
         Place::Over(i) => octets::same(r, row(other, i)),

@@ -12,9 +12,9 @@ const VBUCKET: u16 = 7;
 
 pub(crate) const ROWS: usize = 4;
 // What a table of so many rows needs, and what a reply may need.
-pub(crate) const SIZE: usize = 16 + ROWS * 1312;
+pub(crate) const SIZE: usize = rows::HEADER + ROWS * rows::ROW;
 
-pub(crate) const ROOM: usize = 1302;
+pub(crate) const ROOM: usize = serving::ROOM;
 
 // When a request is served, and what its header says.
 pub(crate) struct Call {

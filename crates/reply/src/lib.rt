@@ -14,6 +14,7 @@ use commands::Decision;
 use commands::Reply;
 use header::Header;
 use numbers::Cas;
+use serving::ROOM;
 
 fn shown_key(keyed: bool, key: &[u8]) -> &[u8]
     ensures { λ r. ⌜ now r ≡ cond keyed (now (key .entry)) [] ⌝ }
@@ -136,7 +137,7 @@ pub fn put_reply(out: &mut [u8], op: u8, opaque: u32, d: Decision, key: &[u8], o
     ensures { λ r. ⌜ (r ≡ length (fittingReply (length (now (out .entry))) op opaque d (now (key .entry)) (now (old .entry))))
         × (now (out .exit) ≡ written (now (out .entry)) 0 (fittingReply (length (now (out .entry))) op opaque d (now (key .entry)) (now (old .entry)))) ⌝ }
 {
-    if (out.len() < 1302) | (key.len() > 250) | (old.len() > 1024) {
+    if (out.len() < ROOM) | (key.len() > 250) | (old.len() > 1024) {
         return 0;
     }
     put_fitting(out, op, opaque, d, key, old)

@@ -28,6 +28,7 @@ use document::Head;
 use engine::Checked;
 use header::Header;
 use request::Gate;
+use serving::ROOM;
 use serving::Served;
 use shape::Shape;
 use table::Lookup;
@@ -136,7 +137,7 @@ fn serve_sound(b: &mut [u8], head: Head, clock: u32, s: &[u8], out: &mut [u8]) -
     requires { ⌜ (sound (now b) ≡ true) × (head ≡ headOf (now b)) ⌝ }
     ensures { λ r. ⌜ Serves (now (b .entry)) clock (now (s .entry)) (now (out .entry)) r (now (b .exit)) (now (out .exit)) ⌝ }
 {
-    if out.len() < 1302 {
+    if out.len() < ROOM {
         return Served::Refused(4, 0);
     }
     match request::gate_of(s) {

@@ -5,3 +5,6 @@ pub enum Served {
     Refused(u8, usize),
     Done(u8, usize, usize),
 }
+
+// The reply room that serving asks for, whatever the request: header, flags, key and value of the longest reply.
+pub const ROOM: usize = 1302;
