@@ -21,7 +21,7 @@ use Rattle.rules.specs.Rules.{withMetaOk, metaSize, metaStatus, fieldStatus}
 use Rattle.rules.proofs.RuleLaws.{field-meta, field-plain}
 use Rattle.request.specs.Reading.{extrasSpan, valueSpan, bytesIn}
 use Rattle.commands.specs.declared.Instruction.{Instruction}
-use Rattle.commands.specs.Decide.{instructionOf}
+use Rattle.decision.specs.Decide.{instructionOf}
 use Rattle.decode.specs.declared.Family.{Family}
 use Rattle.decode.specs.declared.Family.the-variants.{Bare, Stored, Counted, Carried}
 use Rattle.decode.specs.declared.Decoded.{Decoded}

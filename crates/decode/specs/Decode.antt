@@ -22,7 +22,7 @@ use Rattle.commands.specs.declared.MetaKind.the-variants.{Set as SetMeta, Add a
 use Rattle.commands.specs.declared.Command.{Command}
 use Rattle.commands.specs.declared.Command.the-variants.{Get, Write, Delete, Count, Noop, Version, WithMeta as Metas}
 use Rattle.commands.specs.declared.Instruction.{Instruction}
-use Rattle.commands.specs.Decide.{Request}
+use Rattle.decision.specs.Decide.{Request}
 use Rattle.decode.specs.declared.Family.{Family}
 use Rattle.decode.specs.declared.Family.the-variants.{Bare, Stored, Counted, Carried}
 use Rattle.decode.specs.declared.Decoded.{Decoded}

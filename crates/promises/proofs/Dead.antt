@@ -13,12 +13,13 @@ use Rattle.document.specs.declared.Stored.the-variants.{Used, Nothing}
 use Rattle.document.specs.Stored.{live, accepted}
 use Rattle.commands.specs.declared.Context.{Context}
 use Rattle.commands.specs.declared.Instruction.{Instruction}
-use Rattle.commands.specs.declared.Done.{Done}
+use Rattle.effects.specs.declared.Done.{Done}
 use Rattle.commands.specs.declared.Command.{Command}
 use Rattle.commands.specs.declared.Command.the-variants.{Get, Write, Delete, Count, Noop, Version, WithMeta}
 use Rattle.commands.specs.Rules.{Rule, ruleOf, testsOf, statusBy}
-use Rattle.commands.specs.Done.{decision, doneOf}
-use Rattle.commands.specs.Decide.{contextOf, decide, instructionOf}
+use Rattle.effects.specs.Done.{doneOf}
+use Rattle.decision.specs.Decision.{decision}
+use Rattle.decision.specs.Decide.{contextOf, decide, instructionOf}
 use Rattle.decode.specs.Decode.{requestOf}
 use Rattle.rows.specs.Find.{freeRows}
 use Rattle.serving.specs.Serve.{decisionOn, answerOn}

@@ -14,7 +14,7 @@ use Rattle.header.specs.Header.{headerOf}
 use Rattle.request.specs.declared.Gate.the-variants.{Whole}
 use Rattle.request.specs.Reading.{gateOf, frameStatus, keySpan, bytesIn}
 use Rattle.request.proofs.Gated.{whole-frame}
-use Rattle.commands.specs.Decide.{Effect, decide}
+use Rattle.decision.specs.Decide.{Effect, decide}
 use Rattle.decode.specs.Decode.{requestOf}
 use Rattle.rows.specs.Row.{Row}
 use Rattle.rows.specs.Table.{Table, tableOf, tableBytes}

@@ -10,7 +10,7 @@ use Rattle.document.specs.Documents.{Doc}
 use Rattle.header.specs.declared.Header.{Header}
 use Rattle.request.specs.Reading.{bytesIn, keySpan}
 use Rattle.commands.specs.declared.Command.the-variants.{Get}
-use Rattle.commands.specs.Decide.{Request, decide}
+use Rattle.decision.specs.Decide.{Request, decide}
 use Rattle.rows.specs.Table.{Table}
 use Rattle.rows.specs.Find.{findRow, freeRows}
 use Rattle.serving.specs.Serve.{decisionOn, answerOn}

@@ -17,7 +17,7 @@ use Rattle.header.specs.Header.{headerOf}
 use Rattle.rules.specs.WithMeta.{withMeta}
 use Rattle.request.specs.declared.Gate.the-variants.{Whole}
 use Rattle.request.specs.Reading.{gateOf, frameStatus, extrasSpan, bytesIn}
-use Rattle.commands.specs.Merging.{writeOf}
+use Rattle.decision.specs.Merging.{writeOf}
 use Rattle.decode.specs.Decode.{requestOf}
 use Rattle.rows.specs.Table.{tableOf}
 use Rattle.plain.specs.Damage.{sound}

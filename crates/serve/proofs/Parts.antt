@@ -15,7 +15,7 @@ use Rattle.rules.specs.Rules.{formStatus, fieldStatus, status}
 use Rattle.rules.proofs.RuleLaws.{judged-form, judged-other, form-lengths, form-stops}
 use Rattle.request.specs.Reading.{frameStatus, bytesIn, extrasSpan, keySpan, valueSpan}
 use Rattle.commands.specs.declared.Instruction.{Instruction}
-use Rattle.commands.specs.Decide.{instructionOf}
+use Rattle.decision.specs.Decide.{instructionOf}
 use Rattle.decode.specs.declared.Decoded.{Decoded}
 use Rattle.decode.specs.declared.Decoded.the-variants.{Broken, Whole}
 use Rattle.decode.specs.Decode.{decodedBy, requestOf, bareValue}

@@ -1,13 +1,13 @@
 // What a decision leaves in the table.
 ghost use mathlib.Core.Path.{_≡_};
 ghost use mathlib.Core.List.{[]};
-ghost use Rattle.commands.specs.Decide.{bytesFrom, docFrom};
+ghost use Rattle.decision.specs.Decide.{bytesFrom, docFrom};
 ghost use Rattle.table.specs.Calls.{storedBy};
 ghost use Rattle.serve.specs.Change.{storedWith};
-use commands::Done;
-use commands::Source;
 use document::Metadata;
 use document::Stored;
+use effects::Done;
+use effects::Source;
 use table::Lookup;
 
 // Stores decimal digits for a key.

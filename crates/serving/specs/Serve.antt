@@ -12,10 +12,11 @@ use Rattle.request.specs.declared.Gate.the-variants.{Stop, Whole}
 use Rattle.request.specs.Reading.{gateOf, frameStatus, bytesIn, keySpan}
 use Rattle.document.specs.declared.Head.{Head}
 use Rattle.commands.specs.declared.Context.{Context}
-use Rattle.commands.specs.declared.Decision.{Decision}
-use Rattle.commands.specs.declared.Reply.the-variants.{Bare}
-use Rattle.commands.specs.Done.{decision, nothing}
-use Rattle.commands.specs.Decide.{Effect, Answer, contextOf, instructionOf, answerOf}
+use Rattle.decision.specs.declared.Decision.{Decision}
+use Rattle.effects.specs.declared.Reply.the-variants.{Bare}
+use Rattle.effects.specs.Done.{nothing}
+use Rattle.decision.specs.Decision.{decision}
+use Rattle.decision.specs.Decide.{Effect, Answer, contextOf, instructionOf, answerOf}
 use Rattle.document.specs.Documents.{Key, Doc, docValue}
 use Rattle.engine.specs.Engine.{storeRow}
 use Rattle.decode.specs.Decode.{requestOf}
