@@ -170,8 +170,7 @@ unfolding requestOf
 dead-is-compared b clock s room d r at n e c unforced unskipped =
     let (k, asks) = carries (seen b clock s) (extrasIn s) (opcode s) e in
     let needs = not-missing b clock s (needless b clock s d at n c k asks unforced unskipped) c in
-    let x = compared b clock s d at n c k asks unforced unskipped in
-    (
+    let x = compared b clock s d at n c k asks unforced unskipped in (
       λ f. answers b clock s room r 0x02 (is-conflict b clock s room r needs (x ∙ ap not f)),
       λ t. (avoids b clock s room 0x01 (without-missing b clock s needs), avoids b clock s room 0x02 (without-conflict b clock s (x ∙ ap not t))),
     )

@@ -3,11 +3,13 @@ use Prim.Native.Nat.{ℕ}
 use mathlib.Core.Path.{_≡_, refl, sym, subst}
 use mathlib.Core.Bool.{Bool, true, false, _||_}
 use mathlib.Core.List.{List, [], _∷_, _++_}
+use mathlib.Core.Logic.{_⊎_, inl, inr}
 use lib.Dec.{eqb}
 use borrow.Author.Tests.{eqb-true}
 use Rattle.octets.specs.BigEndian.{num}
-use Rattle.octets.proofs.Choices.{cases}
-use Rattle.shape.specs.Shapes.{commands, unbuilt, among, lookUp, shapeOf}
+use Rattle.octets.proofs.Choices.{cases, neither}
+use Rattle.shape.specs.declared.Shape.{Shape}
+use Rattle.shape.specs.Shapes.{commands, unbuilt, among, shapeBy, lookUp, shapeOf, Command as Known}
 use Rattle.rules.specs.WithMeta.{withMeta}
 use Rattle.commands.specs.declared.MetaKind.{MetaKind}
 use Rattle.commands.specs.declared.MetaKind.the-variants.{Set as SetMeta, Add as AddMeta, Delete as DeleteMeta}
@@ -48,8 +50,55 @@ module _ (c : Context) (extras : List ℕ) where
   pub guarded : (n : ℕ) → among n keyed ≡ true → Guarded n
   unfolding shapeOf commandOf ruleOf plainOf counterOf metaCommand
   guarded n e =
-      at-opcode Guarded n keyed (refl, (refl, (refl, (refl, (refl, (refl, (refl, (refl, (refl, (refl, (refl, (refl, (refl, (refl, (refl, (refl,
-      (refl, (refl, (refl, (refl, (refl, (refl, tt)))))))))))))))))))))) e
+      at-opcode Guarded n keyed (
+        refl,
+        (
+          refl,
+          (
+            refl,
+            (
+              refl,
+              (
+                refl,
+                (
+                  refl,
+                  (
+                    refl,
+                    (
+                      refl,
+                      (
+                        refl,
+                        (
+                          refl,
+                          (
+                            refl,
+                            (
+                              refl,
+                              (
+                                refl,
+                                (
+                                  refl,
+                                  (
+                                    refl,
+                                    (
+                                      refl,
+                                      (refl, (refl, (refl, (refl, (refl, (refl, tt)))))),
+                                    ),
+                                  ),
+                                ),
+                              ),
+                            ),
+                          ),
+                        ),
+                      ),
+                    ),
+                  ),
+                ),
+              ),
+            ),
+          ),
+        ),
+      ) e
 
   -- a Get's whole rule
   abbrev Reads : ℕ → Type 0
@@ -93,3 +142,53 @@ module _ (c : Context) (extras : List ℕ) where
   carries n e =
       at-opcode Carries n withMetas
       ((SetMeta, refl), ((SetMeta, refl), ((AddMeta, refl), ((AddMeta, refl), ((DeleteMeta, refl), ((DeleteMeta, refl), tt)))))) e
+
+-- ---- commands but the with-meta ones
+abbrev pub IsPlain : Command → Type 0
+IsPlain (Get k) = Unit {0}
+IsPlain (Write p) = Unit {0}
+IsPlain Delete = Unit {0}
+IsPlain (Count k) = Unit {0}
+IsPlain Noop = Unit {0}
+IsPlain Version = Unit {0}
+IsPlain (WithMeta w) = ⊥
+
+module _ (op : ℕ) (extras : List ℕ) where
+  abbrev PlainShape : Shape → Type 0
+  PlainShape x = IsPlain (commandOf (x .operation) extras)
+
+  -- each is plain, or has another opcode
+  abbrev EachPlain : List Known → Type 0
+  EachPlain [] = Unit {0}
+  EachPlain (c ∷ cs) = (PlainShape (shapeBy (c .operation) (c .form) false) ⊎ ((eqb op (c .loud) ≡ false) × (among op (c .quiet) ≡ false))) × EachPlain cs
+
+  looked-up : (cs : List Known) (other : Shape) → EachPlain cs → PlainShape other → PlainShape (lookUp op cs other)
+  unfolding lookUp
+  looked-up [] other e p = p
+  looked-up (c ∷ cs) other (inl q, e) p =
+      cases (eqb op (c .loud)) (λ l. rw l q) (λ l. cases (among op (c .quiet)) (λ k. rw (l, k) q) (λ k. rw (l, k) (looked-up cs other e p)))
+  looked-up (c ∷ cs) other (inr (l, k), e) p = rw (l, k) (looked-up cs other e p)
+
+  pub plain-asked : among op withMetas ≡ false → PlainShape (shapeOf op)
+  unfolding shapeOf among commandOf plainOf counterOf
+  plain-asked e =
+      let (a2, e) = neither (eqb op 0xa2) _ e in
+      let (a3, e) = neither (eqb op 0xa3) _ e in
+      let (a4, e) = neither (eqb op 0xa4) _ e in
+      let (a5, e) = neither (eqb op 0xa5) _ e in
+      let (a8, e) = neither (eqb op 0xa8) _ e in
+      let (a9, e) = neither (eqb op 0xa9) _ e in
+      looked-up commands _ (
+        inl tt,
+        (
+          inl tt,
+          (
+            inl tt,
+            (
+              inl tt,
+              (inl tt, (inl tt, (inl tt, (inl tt, (inl tt, (inl tt, (inr (a2, rw a3), (inr (a4, rw a5), (inr (a8, rw a9), tt))))))))),
+            ),
+          ),
+        ),
+      )
+      (cases (among op unbuilt) (λ t. rw t tt) (λ t. rw t tt))

@@ -116,8 +116,7 @@ unfolding requestOf
 dead-is-written b clock s room n e z =
     let (needs, beaten) = writes (seen b clock s) (extrasIn s) (opcode s) e in
     let m = not-missing b clock s needs z in
-    let k = no-conflict b clock s n beaten z in
-    (
+    let k = no-conflict b clock s n beaten z in (
       avoids b clock s room 0x01 (refl, (refl, (refl, (refl, (refl, (refl, (refl, (m, (refl, (refl, (refl, (refl, refl)))))))))))),
       avoids b clock s room 0x02 (refl, (refl, (refl, (refl, (refl, (refl, (refl, (refl, (k, (refl, (refl, (refl, refl)))))))))))),
     )

@@ -7,6 +7,8 @@ pub mod Liveness
 pub mod Dead
 pub mod Counting
 pub mod Alive
+pub mod Alike
+pub mod Buried
 pub mod Judged
 pub mod Worked
 pub mod Candidates

@@ -1,4 +1,4 @@
--- "Expiry holds in every command", on bytes. When a document is live is said here in 01's words and numbers, and not by the definitions that decide it: a store that decides it otherwise, in one command or in all, doesn't meet these. Proved in proofs/Dead.antt, Buried.antt and Alive.antt.
+-- "Expiry holds in every command", on bytes. When a document is live is said here in 01's words and numbers, and not by the definitions that decide it: a store that decides it otherwise, in one command or in all, doesn't meet these. Proved in proofs/Dead.antt, Counting.antt, Buried.antt and Alive.antt.
 use Prim.Native.Nat.{ℕ, _+_, _/_, _%_, _≤_, _<_}
 use mathlib.Core.Path.{_≡_}
 use mathlib.Core.Bool.{Bool, true, false, not, cond, _&&_, _||_}
@@ -202,6 +202,14 @@ abbrev pub LiveIsFound : Type 0
 LiveIsFound =
     (b : List ℕ) (clock : ℕ) (s : List ℕ) (room : ℕ) (d : Doc) → Reaches b clock s room → docAt b (keyIn s) ≡ some d → Live clock d
     → (needsLive s || among (opcode s) adds) ≡ true → (Avoids b clock s room 0x01) × (readLive (readOf b clock (keyIn s)) ≡ true)
+
+-- a counter goes on counting: "flags and expiry stay"
+abbrev pub LiveCounts : Type 0
+LiveCounts =
+    (b : List ℕ) (clock : ℕ) (s : List ℕ) (room : ℕ) (d : Doc) → Bytes b → Bytes s → docAt b (keyIn s) ≡ some d → Live clock d
+    → among (opcode s) counters ≡ true → Answers b clock s room 0
+    → (e : Doc) × ((docAt (servedTable b clock s room) (keyIn s) ≡ some e)
+    × ((e .numbers .flags ≡ d .numbers .flags) × (e .numbers .expiry ≡ d .numbers .expiry)))
 
 -- a Get of any form, hit or miss, changes no table byte, whatever the memory
 abbrev pub GetKeeps : Type 0
