@@ -17,7 +17,7 @@ use Rattle.plain.specs.Purge.{picked, one, goneCount}
 use Rattle.plain.specs.Change.{purgeRow, purgeBytes, purgeCount}
 use Rattle.rows.proofs.RowLaws.{row-read}
 use Rattle.plain.proofs.TableLaws.{good-first, first-row, later-rows, rows-after}
-use Rattle.rows.proofs.Writes.{head-length}
+use Rattle.rows.proofs.Heads.{head-length}
 
 module _ (p : Doc → Bool) where
   -- one row, and those after it

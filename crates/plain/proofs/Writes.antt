@@ -15,9 +15,9 @@ use Rattle.octets.proofs.Lists.{length-pasted, written-fits}
 use Rattle.octets.proofs.Numbers.{length-bytes}
 use Rattle.document.specs.Documents.{Entry}
 use Rattle.rows.specs.Table.{rowCount, rowAt}
-use Rattle.rows.specs.Over.{overBytes, overRow}
+use Rattle.row_writer.specs.Over.{overBytes, overRow}
 use Rattle.rows.proofs.OneRow.{row-cut, row-there, row-size}
-use Rattle.rows.proofs.Writes.{length-over, over-one}
+use Rattle.row_writer.proofs.Writes.{length-over, over-one}
 use Rattle.plain.specs.Change.{rowStored}
 
 module _ (b : List ℕ) (i : ℕ) (e : Entry) where

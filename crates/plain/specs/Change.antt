@@ -8,7 +8,7 @@ use Rattle.octets.specs.Parts.{pasted}
 use Rattle.document.specs.Documents.{Doc, Entry}
 use Rattle.rows.specs.Row.{rowOf}
 use Rattle.rows.specs.Table.{rowCount, rowAt}
-use Rattle.rows.specs.Over.{overBytes}
+use Rattle.row_writer.specs.Over.{overBytes}
 use Rattle.plain.specs.Purge.{picked, one}
 
 -- an entry over the row at a place; unchanged where there is no such row

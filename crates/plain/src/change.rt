@@ -23,7 +23,7 @@ pub fn store(b: &mut [u8], i: usize, key: &[u8], m: Metadata, value: &[u8], old:
     }
     let at = HEADER + i * ROW;
     let end = at + ROW;
-    rows::row::put_row(&mut b[at..end], key, m, value, old);
+    row_writer::put_row(&mut b[at..end], key, m, value, old);
 }
 
 // Whether a purge frees a row.

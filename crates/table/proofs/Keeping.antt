@@ -14,9 +14,9 @@ use Rattle.document.specs.Stored.{goneDoc}
 use Rattle.rows.specs.Row.{Row, rowBytes}
 use Rattle.rows.specs.Table.{Table, rowCount, rowAt, headBytes, rowsBytes, tableBytes}
 use Rattle.rows.specs.Good.{EntryGood}
-use Rattle.rows.specs.Over.{overBytes}
-use Rattle.rows.proofs.Over.{over-used, over-free}
-use Rattle.rows.proofs.Writes.{head-length}
+use Rattle.row_writer.specs.Over.{overBytes}
+use Rattle.row_writer.proofs.Over.{over-used, over-free}
+use Rattle.rows.proofs.Heads.{head-length}
 use Rattle.engine.specs.declared.Place.the-variants.{Into}
 use Rattle.plain.specs.declared.Found.{Found}
 use Rattle.plain.specs.declared.Found.the-variants.{At, Nothing}

@@ -1,7 +1,7 @@
-use Rattle.rows.proofs.Writes.{head-unfit, head-put}
+use Rattle.row_writer.proofs.Writes.{head-unfit, head-put}
 use borrow.Author.Needs.{needs}
-use Rattle.rows.proofs.put_head.Statement.{statement}
-use Rattle.rows.proofs.put_head.Tie as tie
+use Rattle.row_writer.proofs.put_head.Statement.{statement}
+use Rattle.row_writer.proofs.put_head.Tie as tie
 
 returns : tie.Need-returns
 returns c = head-unfit ((c .before .before .args) .b .now) ((c .before .before .args) .h) ((c .if1) .taken)

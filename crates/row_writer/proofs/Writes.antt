@@ -13,13 +13,10 @@ use Rattle.octets.specs.BigEndian.{bytesOf}
 use Rattle.octets.proofs.Lists.{length-written, written-none, written-not, then, then-two}
 use Rattle.document.specs.Documents.{Entry}
 use Rattle.document.specs.declared.Head.{Head}
 use Rattle.rows.specs.Row.{sizeBytes, shortBytes, longBytes, slotBytes, slotFor}
 use Rattle.rows.specs.Table.{headBytes}
-use Rattle.rows.specs.Over.{overBytes, overRow}
-
-pub head-length : (h : Head) → length (headBytes h) ≡ 16
-unfolding headBytes bytesOf
-head-length h = refl
+use Rattle.rows.proofs.Heads.{head-length}
+use Rattle.row_writer.specs.Over.{overBytes, overRow}
 
 pub head-unfit : (s : List ℕ) (h : Head) → length s < 16 → s ≡ written s 0 (headBytes h)
 head-unfit s h l = let n = head-length h in sym (written-not s 0 (headBytes h) (omega arith))

@@ -1,4 +1,4 @@
--- For the code alone: an entry written over a row's bytes, of which only those that the value before it used become zero. On a row that keeps its rules this leaves the entry's own bytes (rows/proofs/Over.antt).
+-- For the code alone: an entry written over a row's bytes, of which only those that the value before it used become zero. On a row that keeps its rules this leaves the entry's own bytes (row_writer/proofs/Over.antt).
 use Prim.Native.Nat.{ℕ, _+_, _-_}
 use mathlib.Core.Bool.{cond}
 use mathlib.Core.List.{List, _++_}

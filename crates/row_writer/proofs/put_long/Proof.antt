@@ -3,10 +3,10 @@ use mathlib.Core.Path.{refl}
 use native.Mathlib.Omega.{arith}
 use Rattle.octets.proofs.Lists.{then}
 use Rattle.octets.specs.BigEndian.{bytesOf}
 use Rattle.rows.specs.Row.{longBytes}
 use borrow.Author.Needs.{needs}
-use Rattle.rows.proofs.row.put_long.Statement.{statement}
-use Rattle.rows.proofs.row.put_long.Tie as tie
+use Rattle.row_writer.proofs.put_long.Statement.{statement}
+use Rattle.row_writer.proofs.put_long.Tie as tie
 
 put-be-requires : tie.Need-put-be-requires
 put-be-requires c κs = search needs

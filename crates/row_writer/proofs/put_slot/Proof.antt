@@ -3,10 +3,10 @@ use mathlib.Core.Path.{refl}
 use native.Mathlib.Omega.{arith}
 use Rattle.octets.proofs.Lists.{then-two}
 use Rattle.octets.specs.BigEndian.{bytesOf}
 use Rattle.rows.specs.Row.{sizeBytes, shortBytes, longBytes, slotBytes}
 use borrow.Author.Needs.{needs}
-use Rattle.rows.proofs.row.put_slot.Statement.{statement}
-use Rattle.rows.proofs.row.put_slot.Tie as tie
+use Rattle.row_writer.proofs.put_slot.Statement.{statement}
+use Rattle.row_writer.proofs.put_slot.Tie as tie
 
 put-sizes-requires : tie.Need-put-sizes-requires
 put-sizes-requires c κs = search needs

@@ -3,8 +3,8 @@ use borrow.Author.Tests.{lt-leb}
 use native.Mathlib.Omega.{arith}
 use mathlib.Core.Path.{sym}
 use borrow.Author.Needs.{needs}
-use Rattle.rows.proofs.row.fits.Statement.{statement}
-use Rattle.rows.proofs.row.fits.Tie as tie
+use Rattle.row_writer.proofs.fits.Statement.{statement}
+use Rattle.row_writer.proofs.fits.Tie as tie
 
 returns : tie.Need-returns
 returns c = sym (lt-leb (c .before .args .k + (c .before .args) .v) 1280 (omega (arith, c .if1 .taken)))

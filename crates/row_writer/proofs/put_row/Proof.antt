@@ -1,10 +1,10 @@
 use Rattle.document.specs.Documents.{Entry}
 use mathlib.Core.Path.{sym, _∙_}
 use borrow.Author.Tests.{not-true, not-false, leb-true, leb-false}
-use Rattle.rows.proofs.Writes.{other-length, over-one, over-unfit}
+use Rattle.row_writer.proofs.Writes.{other-length, over-one, over-unfit}
 use borrow.Author.Needs.{needs}
-use Rattle.rows.proofs.row.put_row.Statement.{statement}
-use Rattle.rows.proofs.row.put_row.Tie as tie
+use Rattle.row_writer.proofs.put_row.Statement.{statement}
+use Rattle.row_writer.proofs.put_row.Tie as tie
 
 returns : tie.Need-returns
 returns c = let a = (c .before .before .before .before .args) in

@@ -15,11 +15,11 @@ use Rattle.octets.proofs.Choices.{both}
 use Rattle.octets.proofs.Lists.{written-fits, then}
 use Rattle.octets.proofs.Tests.{zeros-true, zeros-replicate}
 use Rattle.document.specs.Documents.{Entry}
 use Rattle.rows.specs.Row.{slotBytes, slotFor, usedBytes, rowBytes}
 use Rattle.rows.specs.Good.{EntryGood}
-use Rattle.rows.specs.Over.{overBytes}
-use Rattle.rows.proofs.Writes.{length-body}
+use Rattle.row_writer.specs.Over.{overBytes}
+use Rattle.row_writer.proofs.Writes.{length-body}
 use Rattle.rows.proofs.RowLaws.{row-length, after-value}
 
 pub zeros-drop : (n : ℕ) (s : List ℕ) → zeros s ≡ true → zeros (drop n s) ≡ true
 unfolding zeros

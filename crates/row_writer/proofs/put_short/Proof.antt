@@ -3,10 +3,10 @@ use mathlib.Core.Path.{refl}
 use native.Mathlib.Omega.{arith}
 use Rattle.octets.proofs.Lists.{then}
 use Rattle.octets.specs.BigEndian.{bytesOf}
 use Rattle.rows.specs.Row.{shortBytes}
 use borrow.Author.Needs.{needs}
-use Rattle.rows.proofs.row.put_short.Statement.{statement}
-use Rattle.rows.proofs.row.put_short.Tie as tie
+use Rattle.row_writer.proofs.put_short.Statement.{statement}
+use Rattle.row_writer.proofs.put_short.Tie as tie
 
 cast-put-be : tie.Need-cast-put-be
 cast-put-be c = search needs

@@ -3,11 +3,11 @@ use Prim.Native.Nat.{ℕ}
 use lib.ListN.{length}
 use mathlib.Core.Path.{ap, _∙_}
 use Rattle.octets.specs.Parts.{written}
 use Rattle.rows.specs.Row.{slotBytes, slotFor}
-use Rattle.rows.proofs.Writes.{row-zeroed, row-over}
+use Rattle.row_writer.proofs.Writes.{row-zeroed, row-over}
 use borrow.Author.Needs.{needs}
-use Rattle.rows.proofs.row.put_entry.Statement.{statement}
-use Rattle.rows.proofs.row.put_entry.Tie as tie
+use Rattle.row_writer.proofs.put_entry.Statement.{statement}
+use Rattle.row_writer.proofs.put_entry.Tie as tie
 
 kind-of-requires : tie.Need-kind-of-requires
 kind-of-requires c κs = search needs

@@ -3,10 +3,10 @@ use mathlib.Core.Path.{refl}
 use native.Mathlib.Omega.{arith}
 use Rattle.octets.proofs.Lists.{then-two}
 use Rattle.octets.specs.BigEndian.{bytesOf}
 use Rattle.rows.specs.Row.{sizeBytes}
 use borrow.Author.Needs.{needs}
-use Rattle.rows.proofs.row.put_sizes.Statement.{statement}
-use Rattle.rows.proofs.row.put_sizes.Tie as tie
+use Rattle.row_writer.proofs.put_sizes.Statement.{statement}
+use Rattle.row_writer.proofs.put_sizes.Tie as tie
 
 cast-put-be : tie.Need-cast-put-be
 cast-put-be c = search needs
