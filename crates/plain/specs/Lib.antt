@@ -4,4 +4,3 @@ pub mod Plain
 pub mod Claims
 pub mod Purge
 pub mod Print
-pub mod Change

@@ -22,12 +22,12 @@ use Rattle.plain.specs.declared.Found.{Found}
 use Rattle.plain.specs.declared.Found.the-variants.{At, Nothing}
 use Rattle.plain.specs.Lookup.{findIn, freeIn, freePlace, placeIn}
 use Rattle.plain.specs.Plain.{putRow}
-use Rattle.plain.specs.Change.{rowStored, purgeBytes, purgeCount}
+use Rattle.plain_writer.specs.Change.{rowStored, purgeBytes, purgeCount}
 use Rattle.plain.specs.Claims.{Good}
 use Rattle.plain.proofs.Places.{founds, nothing-at, at-place, find-place, find-nothing, free-nothing}
 use Rattle.plain.proofs.TableLaws.{table-length, table-count}
 use Rattle.plain.proofs.ChangeLaws.{raise, row-put, put-good, purge-good}
-use Rattle.plain.proofs.PurgeBytes.{purge-bytes}
+use Rattle.plain_writer.proofs.PurgeBytes.{purge-bytes}
 use Rattle.table.specs.declared.Lookup.{Lookup}
 use Rattle.table.specs.Calls.{lookupOf, storedBy}
 use Rattle.table.specs.Claims.{StoresGood, HeadPut, HeadGood, PurgesGood}

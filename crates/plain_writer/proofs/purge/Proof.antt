@@ -4,12 +4,12 @@ use native.Mathlib.Omega.{arith}
 use mathlib.Core.List.{_++_}
 use lib.ListN.{take, drop}
 use Rattle.rows.specs.Table.{rowCount}
-use Rattle.plain.specs.Change.{purgeBytes, purgeCount}
+use Rattle.plain_writer.specs.Change.{purgeBytes, purgeCount}
 use Rattle.document.specs.Stored.{goneDoc}
-use Rattle.plain.proofs.Purging.{purge-none}
+use Rattle.plain_writer.proofs.Purging.{purge-none}
 use borrow.Author.Needs.{needs}
-use Rattle.plain.proofs.change.purge.Statement.{statement}
-use Rattle.plain.proofs.change.purge.Tie as tie
+use Rattle.plain_writer.proofs.purge.Statement.{statement}
+use Rattle.plain_writer.proofs.purge.Tie as tie
 
 returns : tie.Need-returns
 returns c = purge-none (goneDoc ((c .before .before .args) .clock) ((c .before .before .args) .bound .0)) ((c .before .before .args) .b .now) ((c .if1) .taken)

@@ -14,8 +14,8 @@ use Rattle.document.specs.Documents.{Doc}
 use Rattle.document.specs.Stored.{gone, goneDoc}
 use Rattle.rows.specs.Row.{slotOf, docOf, rowOf}
 use Rattle.rows.specs.Table.{rowCount}
 use Rattle.plain.specs.Purge.{picked, one}
-use Rattle.plain.specs.Change.{purgeRow, purgeBytes, purgeCount, purgedRows, freedRows}
+use Rattle.plain_writer.specs.Change.{purgeRow, purgeBytes, purgeCount, purgedRows, freedRows}
 
 -- the test of a row, by its fixed part
 pub gone-row : (clock bound : ℕ) (r : List ℕ)

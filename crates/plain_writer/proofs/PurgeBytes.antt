@@ -10,13 +10,13 @@ use Rattle.octets.proofs.Choices.{cases}
 use Rattle.document.specs.Documents.{Doc}
 use Rattle.rows.specs.Row.{Row, rowOf, rowBytes}
 use Rattle.rows.specs.Table.{Table, headBytes, rowsBytes, tableBytes}
 use Rattle.plain.specs.Plain.{purgeRows}
 use Rattle.plain.specs.Claims.{Good}
 use Rattle.rows.specs.Good.{AllGood}
 use Rattle.plain.specs.Purge.{picked, one, goneCount}
-use Rattle.plain.specs.Change.{purgeRow, purgeBytes, purgeCount}
+use Rattle.plain_writer.specs.Change.{purgeRow, purgeBytes, purgeCount}
 use Rattle.rows.proofs.RowLaws.{row-read}
 use Rattle.plain.proofs.TableLaws.{good-first, first-row, later-rows, rows-after}
 use Rattle.rows.proofs.Heads.{head-length}
 
 module _ (p : Doc → Bool) where

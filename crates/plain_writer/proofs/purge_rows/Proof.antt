@@ -1,6 +1,6 @@
-use Rattle.plain.proofs.Purging.{purge-step, count-step}
+use Rattle.plain_writer.proofs.Purging.{purge-step, count-step}
 use Rattle.plain.specs.Purge.{one}
-use Rattle.plain.specs.Change.{purgeBytes, purgeCount}
+use Rattle.plain_writer.specs.Change.{purgeBytes, purgeCount}
 use mathlib.Core.Logic.{⊎-elim}
 use Rattle.document.specs.Stored.{goneDoc}
 use mathlib.Core.List.{_++_}
@@ -9,8 +9,8 @@ use native.Mathlib.Omega.{arith}
 use Prim.Native.Nat.{_+_, _-_, _*_, _≤_}
 use mathlib.Core.Path.{_≡_, sym, ap, _∙_}
 use borrow.Author.Needs.{needs}
-use Rattle.plain.proofs.change.purge_rows.Statement.{statement}
-use Rattle.plain.proofs.change.purge_rows.Tie as tie
+use Rattle.plain_writer.proofs.purge_rows.Statement.{statement}
+use Rattle.plain_writer.proofs.purge_rows.Tie as tie
 
 abbrev Inv-loop : tie.InvT-loop
 Inv-loop s₀ n clock bound at₀ left₀ count₀ s at left count =

@@ -1,4 +1,5 @@
-// What changes rows: an entry stored in the row at a place, and a purge.
+// What changes the plain engine's rows: an entry stored in the row at a place, and a purge. Every public function is total on
+// any bytes.
 ghost use mathlib.Core.Path.{_≡_};
 ghost use mathlib.Core.List.{_++_};
 ghost use Prim.Native.Nat.{_+_, _*_, _≤_};
@@ -6,8 +7,8 @@ ghost use lib.ListN.{length, take, drop};
 ghost use Rattle.octets.specs.Parts.{part, pasted};
 ghost use Rattle.document.specs.Stored.{goneDoc};
 ghost use Rattle.rows.specs.Row.{rowOf};
 ghost use Rattle.plain.specs.Purge.{picked};
-ghost use Rattle.plain.specs.Change.{rowStored, purgeRow, purgeBytes, purgeCount, purgedRows, freedRows};
+ghost use Rattle.plain_writer.specs.Change.{rowStored, purgeRow, purgeBytes, purgeCount, purgedRows, freedRows};
 use document::Metadata;
 use numbers::Cas;
 use rows::HEADER;

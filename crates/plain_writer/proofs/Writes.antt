@@ -18,7 +18,7 @@ use Rattle.rows.specs.Table.{rowCount, rowAt}
 use Rattle.row_writer.specs.Over.{overBytes, overRow}
 use Rattle.rows.proofs.OneRow.{row-cut, row-there, row-size}
 use Rattle.row_writer.proofs.Writes.{length-over, over-one}
-use Rattle.plain.specs.Change.{rowStored}
+use Rattle.plain_writer.specs.Change.{rowStored}
 
 module _ (b : List ℕ) (i : ℕ) (e : Entry) where
   abbrev at : ℕ

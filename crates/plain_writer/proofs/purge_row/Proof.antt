@@ -4,12 +4,12 @@ use Prim.Native.Nat.{ℕ}
 use mathlib.Core.List.{List}
 use Rattle.octets.specs.Parts.{part}
 use Rattle.rows.specs.Row.{rowOf}
 use Rattle.plain.specs.Purge.{picked}
 use Rattle.document.specs.Stored.{goneDoc}
-use Rattle.plain.proofs.Purging.{freed, left}
+use Rattle.plain_writer.proofs.Purging.{freed, left}
 use borrow.Author.Needs.{needs}
-use Rattle.plain.proofs.change.purge_row.Statement.{statement}
-use Rattle.plain.proofs.change.purge_row.Tie as tie
+use Rattle.plain_writer.proofs.purge_row.Statement.{statement}
+use Rattle.plain_writer.proofs.purge_row.Tie as tie
 
 part-requires : tie.Need-part-requires
 part-requires c κs = search needs

@@ -1,4 +1,4 @@
--- For the code alone: what storing and purging do to the bytes of any memory. What they mean on a sound table is in Claims.antt.
+-- For the code alone: what storing and purging do to the bytes of any memory. What they mean on a sound table is in table/specs/Claims.antt.
 use Prim.Native.Nat.{ℕ, zero, suc, _+_, _*_}
 use mathlib.Core.List.{List, _++_}
 use mathlib.Core.Bool.{Bool, cond}

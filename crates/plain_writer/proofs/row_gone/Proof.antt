@@ -3,10 +3,10 @@ use mathlib.Core.Bool.{Bool, _&&_, not}
 use lib.Dec.{eqb}
 use Rattle.rows.specs.declared.Slot.{Slot}
 use Rattle.document.specs.Stored.{gone}
-use Rattle.plain.proofs.Purging.{gone-row}
+use Rattle.plain_writer.proofs.Purging.{gone-row}
 use borrow.Author.Needs.{needs}
-use Rattle.plain.proofs.change.row_gone.Statement.{statement}
-use Rattle.plain.proofs.change.row_gone.Tie as tie
+use Rattle.plain_writer.proofs.row_gone.Statement.{statement}
+use Rattle.plain_writer.proofs.row_gone.Tie as tie
 
 slot-requires : tie.Need-slot-requires
 slot-requires c κs = search needs

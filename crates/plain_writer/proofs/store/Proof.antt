@@ -1,8 +1,8 @@
 use Rattle.document.specs.Documents.{Entry}
-use Rattle.plain.proofs.Writes.{put-there, put-nowhere}
+use Rattle.plain_writer.proofs.Writes.{put-there, put-nowhere}
 use borrow.Author.Needs.{needs}
-use Rattle.plain.proofs.change.store.Statement.{statement}
-use Rattle.plain.proofs.change.store.Tie as tie
+use Rattle.plain_writer.proofs.store.Statement.{statement}
+use Rattle.plain_writer.proofs.store.Tie as tie
 
 rows-in-requires : tie.Need-rows-in-requires
 rows-in-requires c κs = search needs
