@@ -3,7 +3,5 @@ pub mod Places
 pub mod TableLaws
 pub mod ChangeLaws
 pub mod Rows
-pub mod Buckets
-pub mod Prints
 pub mod Checks
 pub mod Placing

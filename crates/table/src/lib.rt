@@ -34,14 +34,14 @@ pub struct Lookup {
 pub fn checked(b: &[u8]) -> Checked
     ensures { λ r. ⌜ r ≡ checkedOf (now (b .entry)) ⌝ }
 {
-    plain::damage::checked(b)
+    plain_damage::checked(b)
 }
 
 // Whether the memory is a table that is not damaged.
 pub fn is_sound(b: &[u8]) -> bool
     ensures { λ r. ⌜ r ≡ sound (now (b .entry)) ⌝ }
 {
-    plain::damage::is_sound(b)
+    plain_damage::is_sound(b)
 }
 
 // Whether there is such a place.

@@ -9,8 +9,8 @@ use Prim.Native.Nat.{ℕ, _+_, _-_, _*_}
 use borrow.Author.Needs.{needs}
 use native.Mathlib.Omega.{arith}
 use mathlib.Core.Path.{_≡_, sym, ap, _∙_}
-use Rattle.plain.proofs.damage.rows_sound.Statement.{statement}
-use Rattle.plain.proofs.damage.rows_sound.Tie as tie
+use Rattle.plain_damage.proofs.rows_sound.Statement.{statement}
+use Rattle.plain_damage.proofs.rows_sound.Tie as tie
 
 abbrev Inv-loop : tie.InvT-loop
 Inv-loop s n mark at₀ left₀ at left = (at + left * 1312 ≡ 16 + n * 1312) × (allSound mark (chunks n (drop 16 s)) ≡ allSound mark (chunks left (drop at s)))

@@ -9,14 +9,14 @@ use lib.Seq.{take-all}
 use Rattle.octets.specs.Parts.{part}
 use Rattle.fingerprint.proofs.Buckets.{bucket-lt}
 use Rattle.rows.specs.Row.{rowOf}
 use Rattle.plain.specs.Damage.{distinct}
 use Rattle.rows.specs.Table.{rowsOf}
-use Rattle.plain.specs.Print.{rowPrint}
-use Rattle.plain.proofs.Buckets.{seenIn}
-use Rattle.plain.proofs.Prints.{few-distinct, prints-next, apart-next, seen-next, apart-unseen}
+use Rattle.plain_damage.specs.Print.{rowPrint}
+use Rattle.plain_damage.proofs.Buckets.{seenIn}
+use Rattle.plain_damage.proofs.Prints.{few-distinct, prints-next, apart-next, seen-next, apart-unseen}
 use borrow.Author.Needs.{needs}
-use Rattle.plain.proofs.damage.rows_distinct.Statement.{statement}
-use Rattle.plain.proofs.damage.rows_distinct.Tie as tie
+use Rattle.plain_damage.proofs.rows_distinct.Statement.{statement}
+use Rattle.plain_damage.proofs.rows_distinct.Tie as tie
 
 abbrev Inv-loop : tie.InvT-loop
 Inv-loop s n prints₀ seen₀ at₀ later₀ apart₀ prints seen at later apart =

@@ -1,20 +1,21 @@
-use Rattle.plain.proofs.Rows.{distinct-free, distinct-used}
-use Rattle.plain.proofs.Prints.{distinct-unprinted}
+use Rattle.plain_damage.proofs.Passes.{rows-cut, distinct-free, distinct-used}
+use Rattle.plain_damage.proofs.Prints.{distinct-unprinted}
 use Rattle.plain.specs.Damage.{distinct}
 use Rattle.plain.specs.Lookup.{findIn, missing}
 use Rattle.rows.specs.Table.{rowsOf}
 use Rattle.fingerprint.specs.Fingerprint.{printAmong}
 use Rattle.octets.specs.BigEndian.{num}
 use Rattle.octets.specs.Parts.{part}
 use mathlib.Core.Bool.{Bool, false, _&&_}
 use borrow.Author.Tests.{not-true}
-use lib.ListN.{drop}
-use Prim.Native.Nat.{ℕ, _+_}
+use lib.ListN.{length, drop}
+use native.Mathlib.Omega.{arith}
+use Prim.Native.Nat.{ℕ, _+_, _/_}
 use mathlib.Core.List.{List}
 use mathlib.Core.Path.{_≡_, sym, ap, _∙_}
 use borrow.Author.Needs.{needs}
-use Rattle.plain.proofs.damage.first_distinct.Statement.{statement}
-use Rattle.plain.proofs.damage.first_distinct.Tie as tie
+use Rattle.plain_damage.proofs.first_distinct.Statement.{statement}
+use Rattle.plain_damage.proofs.first_distinct.Tie as tie
 
 part-requires : tie.Need-part-requires
 part-requires c κs = search needs
@@ -48,25 +49,37 @@ cast-part c = search needs
 part-requires-2 : tie.Need-part-requires-2
 part-requires-2 c κs = search needs
 
-add-find-from : tie.Need-add-find-from
-add-find-from c = search needs
+add-part : tie.Need-add-part
+add-part c = search needs
 
-find-from-requires : tie.Need-find-from-requires
-find-from-requires c κs = search needs
+mul-part : tie.Need-mul-part
+mul-part c = search needs
+
+part-requires-3 : tie.Need-part-requires-3
+part-requires-3 c κs = search needs
+
+find-in-requires : tie.Need-find-in-requires
+find-in-requires c κs = search needs
 
 is-missing-requires : tie.Need-is-missing-requires
 is-missing-requires c κs = search needs
 
 returns-3 : tie.Need-returns-3
 returns-3 c =
-    let a = c .before .before .before .before .before .before .before .before .before .before .before .args in
+    let at9 = c .before .before .before .before .before .before .before .before .before in
+    let at12 = at9 .before .before .before in
+    let a = at12 .args in
     let s = a .s .now in
-    let r = c .before .before .before .before .before .before .before .before .part .ensures in
-    let key = c .before .before .part2 .ensures ∙ (λ i. part (r i) 32 ((c .before .before .before .be162 .ensures ∙ ap (λ (x : List ℕ). num x 2 2) r) i)) in
+    let r = at9 .part .ensures in
+    let key = c .before .before .before .part2 .ensures ∙ (λ i. part (r i) 32 ((c .before .before .before .before .be162 .ensures ∙ ap (λ (x : List ℕ). num x 2 2) r) i)) in
+    let later = c .before .before .part3 .ensures in
     ap (λ (t : Bool). t && distinct (rowsOf (a .later) (drop (a .at + 1312) s)))
-    (c .is-missing .ensures ∙ ap missing (c .before .find-from .ensures ∙ ap (λ (k : List ℕ). findIn k 0 (rowsOf (a .later) (drop (a .at + 1312) s))) key))
-    ∙ distinct-used s (a .at) (a .later) (λ z. c .before .before .before .before .before .before .if1 .left
-    (c .before .before .before .before .before .before .before .be16 .ensures ∙ ap (λ (x : List ℕ). num x 0 2) r ∙ z))
+    (c .is-missing .ensures
+    ∙ ap missing (c .before .find-in .ensures
+    ∙ (λ i. findIn (key i) 0 (rowsOf (length (later i) / 1312) (later i)))
+    ∙ ap (findIn (part (part s (a .at) 1312) 32 (num (part s (a .at) 1312) 2 2)) 0) (rows-cut s (a .at + 1312) (a .later) (omega (arith, at12 .pre .0)))))
+    ∙ distinct-used s (a .at) (a .later) (λ z. c .before .before .before .before .before .before .before .if1 .left
+    (c .before .before .before .before .before .before .before .before .be16 .ensures ∙ ap (λ (x : List ℕ). num x 0 2) r ∙ z))
 
 pub first-distinct-spec : {M : Type 1} → statement M
 first-distinct-spec =
@@ -80,7 +93,9 @@ first-distinct-spec =
     be16-requires-2
     cast-part
     part-requires-2
-    add-find-from
-    find-from-requires
+    add-part
+    mul-part
+    part-requires-3
+    find-in-requires
     is-missing-requires
     returns-3)

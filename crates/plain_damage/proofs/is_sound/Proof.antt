@@ -1,8 +1,8 @@
 use mathlib.Core.Path.{sym, _∙_}
 use Rattle.plain.proofs.Checks.{checked-damaged, checked-sound}
 use borrow.Author.Needs.{needs}
-use Rattle.plain.proofs.damage.is_sound.Statement.{statement}
-use Rattle.plain.proofs.damage.is_sound.Tie as tie
+use Rattle.plain_damage.proofs.is_sound.Statement.{statement}
+use Rattle.plain_damage.proofs.is_sound.Tie as tie
 
 checked-requires : tie.Need-checked-requires
 checked-requires c κs = search needs

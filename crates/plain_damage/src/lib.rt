@@ -8,12 +8,12 @@ ghost use lib.ListN.{length, drop};
 ghost use Rattle.octets.specs.Parts.{part};
 ghost use Rattle.rows.specs.Row.{slotOf, rowOf};
 ghost use Rattle.rows.specs.Table.{chunks, rowCount, rowsOf};
-ghost use Rattle.plain.specs.Print.{rowPrint};
+ghost use Rattle.plain_damage.specs.Print.{rowPrint};
 ghost use Rattle.plain.specs.Lookup.{missing};
 ghost use Rattle.plain.specs.Damage.{distinct, sound, checkedOf};
 ghost use Rattle.rows.specs.RowRules.{sizeOk, headOk, usedOk, rowSound, allSound};
-use crate::Found;
 use engine::Checked;
+use plain::Found;
 use rows::FIXED;
 use rows::HEADER;
 use rows::ROW;
@@ -69,7 +69,7 @@ fn first_distinct(s: &[u8], at: usize, later: usize, p: u32, prints: &[u32]) -> 
         return true;
     }
     let key = octets::part(r, FIXED, octets::be16(r, 2) as usize);
-    is_missing(crate::lookup::find_from(s, key, at + ROW, later, 0))
+    is_missing(plain::lookup::find_in(octets::part(s, at + ROW, later * ROW), key))
 }
 
 // From the last row to the first; the fingerprints of the rows seen stand at the end of prints, and their buckets are marked

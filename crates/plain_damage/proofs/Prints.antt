@@ -17,12 +17,12 @@ use Rattle.octets.proofs.Tests.{same-true}
 use Rattle.fingerprint.specs.Fingerprint.{fingerprint, bucketOf, printAmong}
 use Rattle.rows.specs.Row.{Row, rowOf, keyOf, slotOf}
 use Rattle.rows.specs.Table.{rowsOf}
 use Rattle.plain.specs.Lookup.{findIn, missing}
 use Rattle.plain.specs.Damage.{distinct}
-use Rattle.plain.specs.Print.{rowPrint}
-use Rattle.plain.proofs.Rows.{distinct-free, distinct-used}
+use Rattle.plain_damage.specs.Print.{rowPrint}
+use Rattle.plain_damage.proofs.Passes.{distinct-free, distinct-used}
 use Rattle.rows.proofs.OneRow.{row-free, row-used, first-row}
-use Rattle.plain.proofs.Buckets.{seenIn, unseen}
+use Rattle.plain_damage.proofs.Buckets.{seenIn, unseen}
 
 module _ (r : List ℕ) where
   pub print-free : num r 0 2 ≡ 0 → rowPrint (rowOf r) ≡ 0

@@ -1,10 +1,10 @@
 use mathlib.Core.Path.{sym, ap, _∙_}
 use Rattle.octets.specs.Parts.{part}
 use Rattle.fingerprint.specs.Fingerprint.{fingerprint}
-use Rattle.plain.proofs.Prints.{print-free, print-used}
+use Rattle.plain_damage.proofs.Prints.{print-free, print-used}
 use borrow.Author.Needs.{needs}
-use Rattle.plain.proofs.damage.row_print.Statement.{statement}
-use Rattle.plain.proofs.damage.row_print.Tie as tie
+use Rattle.plain_damage.proofs.row_print.Statement.{statement}
+use Rattle.plain_damage.proofs.row_print.Tie as tie
 
 be16-requires : tie.Need-be16-requires
 be16-requires c κs = search needs

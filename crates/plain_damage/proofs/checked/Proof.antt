@@ -2,18 +2,18 @@ use mathlib.Core.Path.{_≡_, refl, sym, _∙_}
 use mathlib.Core.Bool.{true, _&&_}
 use lib.ListN.{length, drop}
 use lib.Seq.{length-take-le}
-use Rattle.plain.proofs.Rows.{sound-is}
+use Rattle.plain_damage.proofs.Passes.{sound-is}
 use Rattle.rows.proofs.OneRow.{size-is, size-most}
 use Rattle.plain.proofs.Checks.{damaged-checked, sound-checked}
 use Rattle.rows.proofs.Heads.{head-first}
 use Rattle.rows.specs.Table.{headOf, chunks, rowsOf}
 use Rattle.plain.specs.Damage.{distinct, sound}
 use Rattle.rows.specs.RowRules.{sizeOk, headOk, allSound}
 use borrow.Author.Tests.{not-true, not-false}
 use native.Mathlib.Omega.{arith}
 use borrow.Author.Needs.{needs}
-use Rattle.plain.proofs.damage.checked.Statement.{statement}
-use Rattle.plain.proofs.damage.checked.Tie as tie
+use Rattle.plain_damage.proofs.checked.Statement.{statement}
+use Rattle.plain_damage.proofs.checked.Tie as tie
 
 -- what is known after the size, and what is left to test after the head
 size : (c : tie.Else1) → sizeOk (length (c .before .before .before .before .args .s .now)) (c .before .before .rows-in .result) ≡ true
