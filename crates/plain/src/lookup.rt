@@ -1,11 +1,11 @@
 // Finding a key's row and the lowest free one.
 ghost use mathlib.Core.Path.{_≡_};
 ghost use mathlib.Core.Bool.{cond};
-ghost use Prim.Native.Nat.{_+_, _*_, _/_, _≤_};
+ghost use Prim.Native.Nat.{_+_, _*_, _≤_};
 ghost use lib.ListN.{length, drop};
 ghost use Rattle.rows.specs.Row.{rowOf};
 ghost use Rattle.rows.specs.Table.{rowsOf, tableOf};
-ghost use Rattle.plain.specs.Lookup.{holds, findIn, freeIn, freePlace, keyRow, placeBy};
+ghost use Rattle.plain.specs.Lookup.{holds, runRows, findIn, freeIn, freePlace, keyRow, placeBy};
 use crate::Found;
 use engine::Place;
 use rows::FIXED;
@@ -63,7 +63,7 @@ fn free_from(s: &[u8], at: usize, left: usize, i: usize) -> Found
 
 // The first row of a run of rows that holds the key.
 pub fn find_in(s: &[u8], key: &[u8]) -> Found
-    ensures { λ r. ⌜ r ≡ findIn (now (key .entry)) 0 (rowsOf (length (now (s .entry)) / 1312) (now (s .entry))) ⌝ }
+    ensures { λ r. ⌜ r ≡ findIn (now (key .entry)) 0 (runRows (now (s .entry))) ⌝ }
 {
     find_from(s, key, 0, s.len() / ROW, 0)
 }

@@ -12,7 +12,7 @@ use Rattle.octets.proofs.Lists.{part-length}
 use Rattle.document.specs.declared.Head.{Head}
 use Rattle.rows.specs.Row.{slotOf, keyOf, rowOf}
 use Rattle.rows.specs.Table.{headOf, chunks, rowCount, rowsOf}
-use Rattle.plain.specs.Lookup.{findIn, missing}
+use Rattle.plain.specs.Lookup.{runRows, findIn, missing}
 use Rattle.plain.specs.Damage.{distinct, sound}
 use Rattle.rows.specs.RowRules.{sizeOk, headOk, allSound}
 use Rattle.rows.proofs.OneRow.{row-free, row-used, first-row}
@@ -31,7 +31,7 @@ chunks-cut (suc n) b h =
     ∙ (λ i. take-at first later 1312 l i ∷ chunks n (drop-at first later 1312 l i))
     ∙ ap (λ (rs : List (List ℕ)). first ∷ rs) (chunks-cut n (drop 1312 b) (simp length-drop (omega arith)))
 
-pub rows-cut : (s : List ℕ) (at n : ℕ) → at + n * 1312 ≤ length s → rowsOf (length (part s at (n * 1312)) / 1312) (part s at (n * 1312)) ≡ rowsOf n (drop at s)
+pub rows-cut : (s : List ℕ) (at n : ℕ) → at + n * 1312 ≤ length s → runRows (part s at (n * 1312)) ≡ rowsOf n (drop at s)
 rows-cut s at n h =
     let l = part-length s at (n * 1312) h in
     let q : length (part s at (n * 1312)) / 1312 ≡ n = omega arith in

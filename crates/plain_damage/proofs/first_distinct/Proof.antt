@@ -1,16 +1,16 @@
 use Rattle.plain_damage.proofs.Passes.{rows-cut, distinct-free, distinct-used}
 use Rattle.plain_damage.proofs.Prints.{distinct-unprinted}
 use Rattle.plain.specs.Damage.{distinct}
-use Rattle.plain.specs.Lookup.{findIn, missing}
+use Rattle.plain.specs.Lookup.{runRows, findIn, missing}
 use Rattle.rows.specs.Table.{rowsOf}
 use Rattle.fingerprint.specs.Fingerprint.{printAmong}
 use Rattle.octets.specs.BigEndian.{num}
 use Rattle.octets.specs.Parts.{part}
 use mathlib.Core.Bool.{Bool, false, _&&_}
 use borrow.Author.Tests.{not-true}
-use lib.ListN.{length, drop}
+use lib.ListN.{drop}
 use native.Mathlib.Omega.{arith}
-use Prim.Native.Nat.{ℕ, _+_, _/_}
+use Prim.Native.Nat.{ℕ, _+_}
 use mathlib.Core.List.{List}
 use mathlib.Core.Path.{_≡_, sym, ap, _∙_}
 use borrow.Author.Needs.{needs}
@@ -76,7 +76,7 @@ returns-3 c =
     ap (λ (t : Bool). t && distinct (rowsOf (a .later) (drop (a .at + 1312) s)))
     (c .is-missing .ensures
     ∙ ap missing (c .before .find-in .ensures
-    ∙ (λ i. findIn (key i) 0 (rowsOf (length (later i) / 1312) (later i)))
+    ∙ (λ i. findIn (key i) 0 (runRows (later i)))
     ∙ ap (findIn (part (part s (a .at) 1312) 32 (num (part s (a .at) 1312) 2 2)) 0) (rows-cut s (a .at + 1312) (a .later) (omega (arith, at12 .pre .0)))))
     ∙ distinct-used s (a .at) (a .later) (λ z. c .before .before .before .before .before .before .before .if1 .left
     (c .before .before .before .before .before .before .before .before .be16 .ensures ∙ ap (λ (x : List ℕ). num x 0 2) r ∙ z))
