@@ -39,7 +39,7 @@ pub(crate) fn change(b: &mut [u8], l: Lookup, key: &[u8], d: Done, value: &[u8])
     let head = d.head;
     match store {
         Stored::Used(m) => {
-            rows::put_head(b, head);
+            row_writer::put_head(b, head);
             store_from(b, l, key, m, source, value);
         }
         Stored::Nothing => {}
