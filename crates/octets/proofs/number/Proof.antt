@@ -4,7 +4,6 @@ use Rattle.octets.proofs.Numbers.{be-room, be-bound, num-suc}
 use Rattle.octets.specs.BigEndian.{beFrom, be, num}
 use borrow.Author.Needs.{needs}
 use mathlib.Core.Path.{_≡_, refl, sym}
-use native.Mathlib.Numerals.{add-one}
 use native.Mathlib.Omega.{arith}
 use Rattle.octets.proofs.number.Statement.{statement}
 use Rattle.octets.proofs.number.Tie as tie
@@ -46,7 +45,7 @@ loop-again c =
     let l = p .loop in
     let a = p .before .before .args in (
       omega arith,
-      rw (c .wide .ensures .0, l .inv .1, add-one (l .i)) (sym (num-suc (a .s .now) (a .at) (l .i) (omega arith))),
+      rw (c .wide .ensures .0, l .inv .1) (sym (num-suc (a .s .now) (a .at) (l .i) (omega arith))),
       be-bound (l .v) (l .i) (c .wide .result) (l .inv .2) (omega arith),
     )
 
