@@ -28,10 +28,9 @@ little-append (x ∷ xs) ys =
     let e : 256 ^ suc (length xs) * little ys ≡ 256 * (256 ^ length xs * little ys) = rw pow-succ' (mul-assoc 256 (256 ^ length xs) (little ys)) in
     rw (little-append xs ys, e) (omega arith)
 
-module _ (s : List ℕ) (at : ℕ) where
-  -- a number of m + n bytes, by its first m bytes and the n after them: every width is read by this law
-  pub little-split : (m n : ℕ) → at + m ≤ length s → little (part s at (m + n)) ≡ little (part s at m) + 256 ^ m * little (part s (at + m) n)
-  little-split m n h = ap little (sym (glue s at m n)) ∙ little-append (part s at m) (part s (at + m) n) ∙ rw (part-length s at m h)
+-- a number of m + n bytes, by its first m bytes and the n after them: every width is read by this law
+pub little-split : (s : List ℕ) (at m n : ℕ) → at + m ≤ length s → little (part s at (m + n)) ≡ little (part s at m) + 256 ^ m * little (part s (at + m) n)
+little-split s at m n h = ap little (sym (glue s at m n)) ∙ little-append (part s at m) (part s (at + m) n) ∙ rw (part-length s at m h)
 
 -- one byte, and those after it
 little-suc : (s : List ℕ) (at n : ℕ) → at < length s → little (part s at (1 + n)) ≡ getD s at 0 + 256 * little (part s (at + 1) n)
