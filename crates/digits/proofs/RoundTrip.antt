@@ -1,7 +1,7 @@
 -- What is written for a number is read as that number: the claim of specs/Claims.antt, by the places that the digits may take.
 use Prim.Native.Nat.{ℕ, zero, suc, _+_, _-_, _*_, _/_, _%_, _≤_, _<_, _^_}
 use native.Mathlib.Omega.{arith}
-use mathlib.Core.Path.{_≡_, refl, _∙_}
+use mathlib.Core.Path.{_≡_, refl}
 use mathlib.Core.Bool.{true}
 use mathlib.Core.List.{List, [], _∷_, _++_}
 use lib.Dec.{ltb}
@@ -10,7 +10,7 @@ use borrow.Author.Tests.{lt-ltb, le-leb, ltb-true, ltb-false}
 use Rattle.octets.proofs.Choices.{cases, both}
 use Rattle.digits.specs.Decimal.{digitsIn, digits, valueFrom, isDigit, allDigits, numberFrom, numberOf}
 use Rattle.digits.specs.declared.Number.the-variants.{Value}
-use Rattle.digits.specs.Claims.{Says, WrittenSays}
+use Rattle.digits.specs.Claims.{WrittenSays}
 use Rattle.digits.proofs.DecimalLaws.{shorter, digits-most}
 
 -- one digit more at the end

@@ -11,8 +11,12 @@ use Rattle.request.specs.declared.Fields.{Fields}
 use Rattle.request.specs.declared.Frame.{Frame}
 use Rattle.request.specs.declared.Reading.the-variants.{Accepted}
 use Rattle.request.specs.declared.Written.the-variants.{Refused, Wrote}
-use Rattle.request.specs.Reading.{reading, bytesIn}
+use Rattle.request.specs.Reading.{gateOutcome, readingOutcome, gateOf, reading, bytesIn}
 use Rattle.request.specs.Writing.{frameBytes, lengthsHeld, refuses, writing, outputOf, FieldsFit}
+
+-- "outcomes and statuses kept apart": the reader's outcome is the gate's, and 0 where it gives a status
+abbrev pub GateDecides : Type 0
+GateDecides = (s : List ℕ) → readingOutcome (reading s) ≡ gateOutcome (gateOf s)
 
 -- these bytes are read as a request with these fields and these parts
 pub record Reads (s : List ℕ) (f : Fields) (extras key value : List ℕ) : Type 0 where

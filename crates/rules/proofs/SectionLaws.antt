@@ -1,7 +1,7 @@
 -- Laws of specs/Section.antt: the walk over the fields of an extended meta section, one field at a time.
 use Prim.Native.Nat.{ℕ, zero, suc, _-_, _≤_, _<_}
-use mathlib.Core.Path.{_≡_, refl, sym, _∙_}
-use mathlib.Core.List.{List, [], _∷_}
+use mathlib.Core.Path.{_≡_, refl, _∙_}
+use mathlib.Core.List.{List, []}
 use mathlib.Core.Bool.{true, false, _&&_, _||_, cond}
 use native.Mathlib.Omega.{arith}
 use lib.ListN.{length, drop, length-drop}
