@@ -28,7 +28,7 @@ shared-slice-read-wide : tie.Need-shared-slice-read-wide Inv-loop μ-loop
 shared-slice-read-wide c = search needs
 
 wide-requires : tie.Need-wide-requires Inv-loop μ-loop
-wide-requires c κs = search needs
+wide-requires c κs = tt
 
 add-v : tie.Need-add-v Inv-loop μ-loop
 add-v c = let l = c .before .before .before .loop in omega (arith, be-room (l .v) (l .i) (c .wide .result) (l .inv .2) (omega arith) (omega arith))

@@ -25,7 +25,7 @@ array-read-entry : tie.Need-array-read-entry
 array-read-entry c = search needs
 
 shape-by-requires : tie.Need-shape-by-requires
-shape-by-requires c κs = search needs
+shape-by-requires c κs = tt
 
 returns : tie.Need-returns
 unfolding table
