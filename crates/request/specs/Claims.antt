@@ -27,7 +27,7 @@ pub record Reads (s : List ℕ) (f : Fields) (extras key value : List ℕ) : Typ
   pub same-key : bytesIn s (frame .key) ≡ key
   pub same-value : bytesIn s (frame .value) ≡ value
 
--- "A request that our writer writes is read back as the same request": from the whole output, whatever stood in it before
+-- a request that our writer writes is read back as the same request: from the whole output, whatever stood in it before
 abbrev pub WrittenReads : Type 0
 WrittenReads =
     (f : Fields) (extras key value out : List ℕ) (n : ℕ) → FieldsFit f → writing f extras key value (length out) ≡ Wrote n
@@ -39,7 +39,7 @@ pub record Writes (s : List ℕ) (g : Frame) (n : ℕ) : Type 0 where
   pub same-bytes : frameBytes (g .fields) (bytesIn s (g .extras)) (bytesIn s (g .key)) (bytesIn s (g .value)) ≡ take n s
   pub accepted : (room : ℕ) → n ≤ room → writing (g .fields) (bytesIn s (g .extras)) (bytesIn s (g .key)) (bytesIn s (g .value)) room ≡ Wrote n
 
--- "one that was read, written again, is the same bytes": the frame ends where its value ends
+-- one that was read, written again, is the same bytes: the frame ends where its value ends
 abbrev pub ReadWrites : Type 0
 ReadWrites = (s : List ℕ) (g : Frame) → Bytes s → reading s ≡ Accepted g → Writes s g (g .value .at + g .value .len)
 
