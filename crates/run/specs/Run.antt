@@ -14,6 +14,11 @@ abbrev pub usedOf : Served → ℕ
 usedOf (Refused n need) = 0
 usedOf (Done status used len) = used
 
+-- what a cursor sees of a run
+abbrev pub seen : ℕ → List ℕ → List ℕ
+seen at run = drop at run
+
+-- "handed back advanced by what was consumed"
 unfoldable pub movedBy : ℕ → Served → Moved
 movedBy at r = record { cursor = record { at = at + usedOf r }; served = r }
 
@@ -27,13 +32,13 @@ pub record Stand : Type 0 where
   pub filled : ℕ
 
 abbrev pub calledOn : ℕ → List ℕ → Stand → Served
-calledOn clock run x = served (x .table) clock (drop (x .at) run) (length (x .reply) - x .filled)
+calledOn clock run x = served (x .table) clock (seen (x .at) run) (length (x .reply) - x .filled)
 
 -- after one more call that was not refused
 abbrev pub further : ℕ → List ℕ → Stand → ℕ → ℕ → ℕ → Stand
 further clock run x status used len = record {
-  table = servedTable (x .table) clock (drop (x .at) run) (length (x .reply) - x .filled);
-  reply = take (x .filled) (x .reply) ++ servedReply (x .table) clock (drop (x .at) run) (drop (x .filled) (x .reply));
+  table = servedTable (x .table) clock (seen (x .at) run) (length (x .reply) - x .filled);
+  reply = take (x .filled) (x .reply) ++ servedReply (x .table) clock (seen (x .at) run) (drop (x .filled) (x .reply));
   tally = countedOf (x .tally) (Done status used len);
   at = x .at + used;
   filled = x .filled + len;
