@@ -6,3 +6,4 @@ pub mod Dead
 pub mod Judged
 pub mod Worked
 pub mod Candidates
+pub mod Replies
