@@ -13,11 +13,9 @@ use Rattle.octets.specs.BigEndian.{be, beFrom, num, bytesOf}
 use Rattle.octets.proofs.Choices.{cases}
 use Rattle.octets.proofs.Lists.{written-fits, length-written}
 use Rattle.octets.proofs.Numbers.{num-back}
-use Rattle.shape.specs.declared.Operation.{Operation}
-use Rattle.shape.specs.declared.Operation.the-variants.{NotBuilt, Unknown}
 use Rattle.shape.specs.declared.Shape.{Shape}
-use Rattle.shape.specs.Shapes.{Form, Command, commands, unbuilt, shapeBy, refused, among, lookUp, shapeOf}
-use Rattle.shape.proofs.ShapeLaws.{Each, any-shape}
+use Rattle.shape.specs.Shapes.{commands, unbuilt, shapeBy, among, lookUp, shapeOf}
+use Rattle.shape.proofs.ShapeLaws.{Each, looked-up, any-shape}
 use Rattle.header.specs.declared.Header.{Header}
 use Rattle.header.specs.Header.{headerOf, frontBytes, middleBytes, backBytes, headerBytes}
 use Rattle.header.proofs.HeaderLaws.{length-header, after-header}
@@ -37,10 +35,11 @@ use Rattle.decode.specs.Decode.{plainOf, counterOf, metaCommand, commandOf, req
 use Rattle.rows.specs.Table.{Table, tableOf}
 use Rattle.rows.specs.Find.{findRow}
 use Rattle.serving.specs.declared.Served.the-variants.{Done}
-use Rattle.serving.specs.Reply.{headerWith, replyHeader, replyBytes}
+use Rattle.serving.specs.Reply.{replyHeader, replyBytes}
 use Rattle.serving.specs.Serve.{reachesDecision, contextOn, decisionOn, answerOn, frameReply, answerBy, replyBy, gateAll, served, servedReply}
 use Rattle.serving.proofs.Formed.{by-cond, no}
 use Rattle.serving.proofs.Gated.{was-open}
+use Rattle.reply.specs.Fitting.{bareHeader}
 use Rattle.reply.proofs.Frames.{reply-most}
 use Rattle.promises.specs.Replies.{Fits, ReplyFits, bareReply, silentMiss, statusReply, StatusReply}
 
@@ -82,14 +81,6 @@ module _ (c : Context) (extras : List ℕ) (op st : ℕ) (z : eqb st 0 ≡ false
   abbrev Speaks : Shape → Type 0
   Speaks x = silentBy x ≡ false
 
-  looked-up : (cs : List Command) (other : Shape) → Each Speaks op cs → Speaks other → Speaks (lookUp op cs other)
-  unfolding lookUp
-  looked-up [] other e p = p
-  looked-up (c ∷ cs) other e p =
-      cases (eqb op (c .loud))
-      (λ l. rw l (e .0 false))
-      (λ l. cases (among op (c .quiet)) (λ q. rw (l, q) (e .0 true)) (λ q. rw (l, q) (looked-up cs other (e .1) p)))
-
   -- every command after the two Gets
   speaks : (q : Bool) → (q && eqb st 0) ≡ false
   speaks q = and-no q (eqb st 0) z
@@ -105,7 +96,7 @@ module _ (c : Context) (extras : List ℕ) (op st : ℕ) (z : eqb st 0 ≡ false
       (λ f₁. cases (eqb op 0x0d) (λ t. rw (eqb-true op 0x0d t))
       (λ f₂. cases (eqb op 0x00) (λ t. rw (eqb-true op 0x00 t))
       (λ f₃. cases (eqb op 0x0c) (λ t. rw (eqb-true op 0x0c t))
-      (λ f₄. rw (f₁, f₂, f₃, f₄) (looked-up (drop 2 commands) _ others (by-cond Speaks (among op unbuilt) _ _ (λ t. refl) (λ t. refl)))))))
+      (λ f₄. rw (f₁, f₂, f₃, f₄) (looked-up Speaks op (drop 2 commands) _ others (by-cond Speaks (among op unbuilt) _ _ (λ t. refl) (λ t. refl)))))))
 
 -- ---- the reader's own statuses: none of them is 0x01
 not-missing : (x : Shape) (h : Header) (extras value : List ℕ) → eqb (x .status) 0 ≡ true → eqb (judged x h extras value) 1 ≡ false
@@ -150,7 +141,7 @@ decides-alone t clock s h n =
 
 -- ---- its bytes
 bare-header : (s : List ℕ) (st : ℕ) → Bytes s → 24 ≤ length s
-    → headerBytes (headerWith (headerOf s .opcode) (headerOf s .opaque) st 0 0 0 (record { 0 = 0 })) ≡ bareReply st s
+    → headerBytes (bareHeader (headerOf s .opcode) (headerOf s .opaque) st) ≡ bareReply st s
 unfolding headerBytes frontBytes middleBytes backBytes headerOf bytesOf
 bare-header s st y l =
     let op = num-back s 1 1 y (omega arith) in
@@ -166,7 +157,7 @@ alone-reply s hd st key old y l =
 alone-size : (st : ℕ) (s : List ℕ) → Bytes s → 24 ≤ length s → length (statusReply st s) ≤ 24
 alone-size st s y l =
     by-cond (λ xs. length xs ≤ 24) (silentMiss (num s 1 1) st) [] (bareReply st s) (λ t. omega arith)
-    (λ f. let e = ap length (bare-header s st y l) in omega (arith, length-header (headerWith (headerOf s .opcode) (headerOf s .opaque) st 0 0 0 (record { 0 = 0 }))))
+    (λ f. let e = ap length (bare-header s st y l) in omega (arith, length-header (bareHeader (headerOf s .opcode) (headerOf s .opaque) st)))
 
 module _ (b : List ℕ) (clock : ℕ) (s : List ℕ) where
   abbrev StatusAlone : Header → Type 0

@@ -24,7 +24,7 @@ use Rattle.plain.specs.Damage.{sound}
 use Rattle.rows.specs.Find.{findRow, freeRows}
 use Rattle.merge.specs.Writes.{_∈_, Greatest, optionList, for, isWritten, newKeys, largestCas, verdicts, applied}
 use Rattle.merge.specs.Merge.{All}
-use Rattle.promises.specs.Calls.{Call, bytesAfter, answers, statusIn}
+use Rattle.promises.specs.Calls.{Call, bytesAfter, callOutcomes, callStatuses}
 
 -- a key's document in a table's memory: "what its row holds, expired or not"
 abbrev pub docAt : List ℕ → Key → Option Doc
@@ -71,9 +71,11 @@ pub record Merged (b : List ℕ) (cs : List Call) : Type 0 where
   pub winner : (k : Key) → isWritten k (writes cs) ≡ true
       → (d : Doc) × (docAt (bytesAfter b cs) k ≡ some d) × Greatest (modeAt b) d (candidates b cs k)
   pub others : (k : Key) → isWritten k (writes cs) ≡ false → docAt (bytesAfter b cs) k ≡ docAt b k
-  pub statuses : map statusIn (answers b cs) ≡ verdicts (modeAt b) (docAt b) [] (writes cs)
+  -- "each with outcome 0"
+  pub served : All (λ n. n ≡ 0) (callOutcomes b cs)
+  pub statuses : callStatuses b cs ≡ verdicts (modeAt b) (docAt b) [] (writes cs)
   pub mark : tableOf (bytesAfter b cs) .head
-      ≡ marked (tableOf b .head) (largestCas (tableOf b .head .mark .0) (applied (map statusIn (answers b cs)) (writes cs)))
+      ≡ marked (tableOf b .head) (largestCas (tableOf b .head .mark .0) (applied (callStatuses b cs) (writes cs)))
   pub mark-last : modeAt b ≡ LastWrite → tableOf (bytesAfter b cs) .head .mark .0 ≡ largestCas (tableOf b .head .mark .0) (writes cs)
   pub undamaged : sound (bytesAfter b cs) ≡ true
 

@@ -14,10 +14,10 @@ use Rattle.tally.specs.Counts.{countedOf}
 use Rattle.serving.specs.declared.Served.{Served}
 use Rattle.serving.specs.declared.Served.the-variants.{Refused, Done}
 use Rattle.serving.specs.Serves.{Serves}
-use Rattle.serving.specs.Serve.{gateAll, frameReply, answerBy, served, servedTable, servedReply}
+use Rattle.serving.specs.Serve.{servedUsed, gateAll, frameReply, answerBy, served, servedTable, servedReply}
 use Rattle.reply.proofs.Frames.{reply-most}
 use Rattle.serving.proofs.Gated.{was-open, refused-keeps}
-use Rattle.run.specs.Run.{usedOf, movedBy, Stand, calledOn, further, onDone, standAfter, runEnd, ranOf}
+use Rattle.run.specs.Run.{movedBy, Stand, calledOn, further, onDone, standAfter, runEnd, ranOf}
 use Rattle.run.specs.declared.Cursor.{Cursor}
 use Rattle.run.specs.declared.Moved.{Moved}
 use Rattle.run.specs.declared.Ran.{Ran}
@@ -114,9 +114,9 @@ module _ (clock : ℕ) (run b out : List ℕ) (t : Tally) (at filled : ℕ) (f :
   called = answer ∙ ap (served b clock (drop at run)) room
 
   -- where the cursor is handed back
-  moved-to : (r : Served) → m .served ≡ r → m .cursor ≡ record { at = at + usedOf r }
+  moved-to : (r : Served) → m .served ≡ r → m .cursor ≡ record { at = at + servedUsed r }
   unfolding movedBy
-  moved-to r e = ap (λ (x : Moved). x .cursor) moves ∙ (λ i. record { at = at + usedOf (e i) })
+  moved-to r e = ap (λ (x : Moved). x .cursor) moves ∙ (λ i. record { at = at + servedUsed (e i) })
 
   pub turn-told : (st used len : ℕ) → m .served ≡ Done st used len → Told b (drop at run) (length out - filled) used len
   turn-told st used len e = told clock run now st used len (sym called ∙ e)

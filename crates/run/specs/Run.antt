@@ -4,15 +4,11 @@ use mathlib.Core.List.{List, _++_}
 use lib.ListN.{length, take, drop}
 use Rattle.serving.specs.declared.Served.{Served}
 use Rattle.serving.specs.declared.Served.the-variants.{Refused, Done}
-use Rattle.serving.specs.Serve.{served, servedTable, servedReply}
+use Rattle.serving.specs.Serve.{servedUsed, served, servedTable, servedReply}
 use Rattle.tally.specs.declared.Tally.{Tally}
 use Rattle.tally.specs.Counts.{countedOf}
 use Rattle.run.specs.declared.Moved.{Moved}
 use Rattle.run.specs.declared.Ran.{Ran}
-
-abbrev pub usedOf : Served → ℕ
-usedOf (Refused n need) = 0
-usedOf (Done status used len) = used
 
 -- what a cursor sees of a run
 abbrev pub seen : ℕ → List ℕ → List ℕ
@@ -20,7 +16,7 @@ seen at run = drop at run
 
 -- "handed back advanced by what was consumed"
 unfoldable pub movedBy : ℕ → Served → Moved
-movedBy at r = record { cursor = record { at = at + usedOf r }; served = r }
+movedBy at r = record { cursor = record { at = at + servedUsed r }; served = r }
 
 -- ---- a run: one frame after another at the cursor, each reply after those before it, until a call is refused
 -- what stands between two calls

@@ -1,6 +1,7 @@
 // A cursor over a run of received frames, and a call that serves a whole run by it.
 ghost use mathlib.Core.Path.{_≡_};
-ghost use Rattle.run.specs.Run.{usedOf, seen, movedBy, begun, runEnd, ranOf};
+ghost use Rattle.run.specs.Run.{seen, movedBy, begun, runEnd, ranOf};
+ghost use Rattle.serving.specs.Serve.{servedUsed};
 ghost use Rattle.serving.specs.Serves.{Serves};
 ghost use Rattle.tally.specs.Serves.{ServesCounted};
 use serving::Served;
@@ -24,7 +25,7 @@ pub struct Ran {
 }
 
 fn used_of(r: Served) -> usize
-    ensures { λ n. ⌜ n ≡ usedOf r ⌝ }
+    ensures { λ n. ⌜ n ≡ servedUsed r ⌝ }
 {
     match r {
         Served::Done(_, used, _) => used,
