@@ -84,6 +84,11 @@ bareValue s h = part s (valueSpan h .at) (valueSpan h .len - metaSize (shapeOf (
 abbrev pub instructionWith : Shape → Header → Command → ℕ → Instruction
 instructionWith s h command size = record { vbucket = h .vbucket; cas = h .cas; quiet = s .quiet; size = size; command = command }
 
+-- 01's number for each answer: "any field rule below" is 0x04, and 0 where none is broken
+abbrev pub decodedStatus : Decoded → ℕ
+decodedStatus Broken = 0x04
+decodedStatus (Whole i) = 0
+
 -- a with-meta command unless its fields break the rules
 unfoldable pub metaDecoded : Shape → Header → MetaKind → List ℕ → List ℕ → Decoded
 metaDecoded s h k extras value =

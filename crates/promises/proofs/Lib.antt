@@ -12,3 +12,4 @@ pub mod Buried
 pub mod Judged
 pub mod Worked
 pub mod Candidates
+pub mod Replies
