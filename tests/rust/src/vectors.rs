@@ -66,8 +66,8 @@ impl Driver {
                 self.tally = Tally { served, refused, silent };
                 return Some(self.counts());
             }
-            ("serve", &[clock]) => return self.serve(clock as u32, &spelled(line.spelled)?),
-            ("run", &[clock]) => return self.run(clock as u32, &spelled(line.spelled)?),
+            ("serve", &[clock]) => return Some(self.step(clock as u32, &spelled(line.spelled)?).1),
+            ("run", &[clock]) => return Some(self.run(clock as u32, &spelled(line.spelled)?)),
             ("size", &[rows]) => format!("size {}", size(rows as usize)),
             ("make", &[lent, rows, state, mode, vbucket]) => {
                 self.lend(lent as usize)?;
@@ -178,24 +178,21 @@ impl Driver {
         }
     }
 
-    fn serve(&mut self, clock: u32, received: &[u8]) -> Option<String> {
-        Some(self.step(clock, received).1)
-    }
-
     /// A line for each frame, and one for the refusal that ends the run.
-    fn run(&mut self, clock: u32, received: &[u8]) -> Option<String> {
+    fn run(&mut self, clock: u32, received: &[u8]) -> String {
         let mut lines = Vec::new();
         let mut at = 0;
         loop {
             let (served, line) = self.step(clock, &received[at..]);
             lines.push(line);
             if served.outcome != 0 {
-                return Some(lines.join("\n"));
+                return lines.join("\n");
             }
             at += served.used;
         }
     }
 
+    /// Serves the frame at the start of the bytes.
     fn step(&mut self, clock: u32, received: &[u8]) -> (Served, String) {
         let mut reply = vec![FILL; self.room];
         let served = serve(&mut self.memory[..self.lent], clock, received, &mut reply, &mut self.tally);
@@ -225,25 +222,33 @@ fn hexadecimal(bytes: &[u8]) -> String {
     })
 }
 
-/// The bytes that a text spells: `xx`, or `xx*N` for N of them.
+/// The bytes that a text spells: two digits each, and `xx*N` for N of the last one.
 fn spelled(text: &str) -> Option<Vec<u8>> {
     let mut bytes = Vec::new();
     for word in text.split_ascii_whitespace() {
-        let (digits, times) = match word.split_once('*') {
-            Some((digits, times)) => (digits, times.parse().ok()?),
-            None => (word, 1),
-        };
-        let (single, repeated) = digits.split_at(digits.len().checked_sub(2)?);
-        bytes.extend(octets(single)?);
-        bytes.extend(octets(repeated)?.repeat(times));
+        let (digits, times) = word.split_once('*').unwrap_or((word, "1"));
+        bytes.extend(octets(digits)?);
+        let last = bytes.pop()?;
+        bytes.extend(std::iter::repeat_n(last, times.parse().ok()?));
     }
     Some(bytes).filter(|bytes| bytes.len() < SPACE)
 }
 
-/// Lower-case digits, two to a byte.
 fn octets(digits: &str) -> Option<Vec<u8>> {
-    if digits.len() % 2 != 0 || digits.bytes().any(|digit| !matches!(digit, b'0'..=b'9' | b'a'..=b'f')) {
-        return None;
+    digits.as_bytes().chunks(2).map(octet).collect()
+}
+
+fn octet(digits: &[u8]) -> Option<u8> {
+    match *digits {
+        [high, low] => Some(digit(high)? << 4 | digit(low)?),
+        _ => None,
     }
-    (0..digits.len()).step_by(2).map(|at| u8::from_str_radix(&digits[at..at + 2], 16).ok()).collect()
+}
+
+fn digit(byte: u8) -> Option<u8> {
+    match byte {
+        b'0'..=b'9' => Some(byte - b'0'),
+        b'a'..=b'f' => Some(byte - b'a' + 10),
+        _ => None,
+    }
 }

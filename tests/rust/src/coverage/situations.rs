@@ -260,14 +260,14 @@ pub fn of_frame(before: &[u8], clock: u32, frame: &[u8], served: &Served) -> Vec
         met.push(if served.reply == 0 { Situation::Silent(opcode) } else { Situation::Sent(opcode) });
     }
     match view(frame) {
-        Ok(request) if is_with_meta(request.shape.command) => {
-            with_meta(before, opcode, &request, served.status, &mut met)
+        Ok(request) => {
+            met.extend(add(before, clock, opcode, &request, served.status));
+            if is_with_meta(request.shape.command) {
+                with_meta(before, opcode, &request, served.status, &mut met);
+            }
         }
         Err(Status::Invalid) if WITH_META.contains(&opcode) => refused(frame, &mut met),
-        _ => {}
-    }
-    if let Ok(request) = view(frame) {
-        met.extend(add(before, clock, opcode, &request, served.status));
+        Err(_) => {}
     }
     met
 }
