@@ -1,35 +1,36 @@
-//! What the compared calls have met: every status of every opcode, every outcome, every way to win or lose.
+//! What the compared calls have met, and what of it a run must meet, and how often.
+
+mod contests;
+mod situations;
 
 use crate::generate::faults::Fault;
 use crate::generate::tables::Damage;
-use crate::generate::{Generator, BUILT};
-use crate::rendering::numbers::{Mode, Numbers};
-use crate::rendering::request::{first_frame, view, MetaExtras, FORCE, SKIP_CONFLICTS};
+use crate::generate::{Generator, Start, BUILT};
 use crate::rendering::shape::{shape, Command};
 use crate::rendering::status::Status;
-use crate::rendering::table::Table;
 use crate::session::{Answer, Call};
+use contests::Contest;
+use situations::Situation;
 use std::collections::BTreeMap;
-use std::fmt::Write;
+use std::fmt::{Debug, Write};
 
 const STATUSES: [u8; 11] = [0x00, 0x01, 0x02, 0x03, 0x04, 0x06, 0x07, 0x81, 0x82, 0x83, 0x84];
 
-/// The number that decides a comparison.
-#[derive(Clone, Copy, Debug, PartialEq, Eq, PartialOrd, Ord)]
-enum Decider {
-    Cas,
-    Revision,
-    Expiry,
-    Flags,
-    Nothing,
-}
+/// The table sizes between the small ones and the largest: some half of them are due at first, then each.
+const SIZES: std::ops::RangeInclusive<usize> = 13..=255;
+const ALL_SIZES_FROM: u64 = 5_000_000;
 
 #[derive(Default)]
 pub struct Coverage {
     calls: u64,
     statuses: BTreeMap<(u8, u8), u64>,
     answers: BTreeMap<String, u64>,
-    contests: BTreeMap<(&'static str, Decider, bool), u64>,
+    contests: BTreeMap<Contest, u64>,
+    situations: BTreeMap<Situation, u64>,
+    /// How many sessions began with a table of so many rows.
+    sizes: BTreeMap<usize, u64>,
+    /// What is wrong with the session's table.
+    damage: Option<Damage>,
 }
 
 impl Coverage {
@@ -38,43 +39,53 @@ impl Coverage {
         self.calls
     }
 
+    /// Counts the table that a session starts with.
+    pub fn start(&mut self, start: &Start) {
+        self.damage = start.damage;
+        *self.sizes.entry(situations::rows(&start.table)).or_default() += 1;
+        self.meet(situations::of_start(&start.table, start.damage));
+    }
+
     /// Counts a call on a table as it was before.
     pub fn count(&mut self, before: &[u8], call: &Call, answer: &Answer) {
         self.calls += 1;
         *self.answers.entry(name(answer)).or_default() += 1;
-        if let (Call::Serve { received, .. }, Answer::Served(served)) = (call, answer) {
-            if served.outcome == 0 {
-                *self.statuses.entry((received[1], served.status)).or_default() += 1;
-                self.count_contest(before, received, served.status);
+        if let Some(damage) = self.damage {
+            self.meet(situations::of_damage(before, damage, answer));
+        }
+        let (Call::Serve { clock, received, .. }, Answer::Served(served)) = (call, answer) else {
+            return;
+        };
+        if served.outcome == 0 {
+            let frame = &received[..served.used];
+            *self.statuses.entry((frame[1], served.status)).or_default() += 1;
+            self.meet(situations::of_frame(before, *clock, frame, served));
+            if let Some(contest) = contests::of_frame(before, *clock, frame, served.status) {
+                *self.contests.entry(contest).or_default() += 1;
             }
         }
     }
 
-    fn count_contest(&mut self, before: &[u8], received: &[u8], status: u8) {
-        let compared = status == 0 || status == Status::Exists as u8;
-        if let Some((mode, decider)) = contest(before, received).filter(|_| compared) {
-            *self.contests.entry((mode, decider, status == 0)).or_default() += 1;
+    fn meet(&mut self, met: Vec<Situation>) {
+        for situation in met {
+            *self.situations.entry(situation).or_default() += 1;
         }
     }
 
-    /// What should have been met and wasn't.
+    /// What should have been met and wasn't, or not often enough.
     pub fn missing(&self, generator: &Generator) -> Vec<String> {
-        let mut missing = Vec::new();
-        for (opcode, status) in expected_statuses() {
-            if !self.statuses.contains_key(&(opcode, status)) {
-                missing.push(format!("opcode {opcode:02x} with status {status:02x}"));
-            }
-        }
-        missing.extend(expected_answers().filter(|name| !self.answers.contains_key(*name)).map(String::from));
-        for contest in expected_contests() {
-            if !self.contests.contains_key(&contest) {
-                missing.push(format!("comparison {contest:?}"));
-            }
-        }
+        let often = self.calls / 50_000;
         let faults = BUILT.iter().flat_map(|&opcode| Fault::ALL.map(|fault| (opcode, fault)));
-        missing.extend(faults.filter(|met| !generator.faults.contains_key(met)).map(|met| format!("fault {met:x?}")));
-        let damages = Damage::ALL.iter().filter(|damage| !generator.damages.contains_key(damage));
-        missing.extend(damages.map(|damage| format!("damage {damage:?}")));
+        let mut missing = Vec::new();
+        missing.extend(lacking("opcode and status", &self.statuses, expected_statuses().map(|met| (met, often))));
+        missing.extend(lacking("answer", &self.answers, expected_answers().map(|met| (met.to_string(), often))));
+        missing.extend(lacking("comparison", &self.contests, contests::expected().map(|met| (met, often))));
+        missing.extend(lacking("fault", &generator.faults, faults.map(|met| (met, often))));
+        let due = situations::expected().into_iter().map(|met| (met, met.due(self.calls)));
+        missing.extend(lacking("situation", &self.situations, due));
+        let due = if self.calls < ALL_SIZES_FROM { SIZES.count() / 2 } else { SIZES.count() };
+        let sizes = self.sizes.range(SIZES).count();
+        missing.extend((sizes < due).then(|| format!("table sizes {SIZES:?}: {sizes} of {due}")));
         missing
     }
 
@@ -93,10 +104,9 @@ impl Coverage {
         for (name, count) in &self.answers {
             let _ = writeln!(text, "  {name:<32}{count:>9}");
         }
-        text.push_str("\ncompared with a stored row, by mode, deciding number and whether the write won\n\n");
-        for ((mode, decider, won), count) in &self.contests {
-            let _ = writeln!(text, "  {mode:<16} {:<10} {won:<5}{count:>8}", format!("{decider:?}"));
-        }
+        let _ = writeln!(text, "\n{} table sizes from 13 to 255 rows", self.sizes.range(SIZES).count());
+        text.push_str(&rarest("comparisons with a stored row", &self.contests, contests::expected()));
+        text.push_str(&rarest("situations", &self.situations, situations::expected().into_iter()));
         text
     }
 
@@ -106,6 +116,28 @@ impl Coverage {
         };
         STATUSES.map(|status| format!("{:>9}", sum(status))).concat()
     }
+}
+
+/// Those that were met less often than is due, or never.
+fn lacking<T: Ord + Debug>(
+    what: &str,
+    met: &BTreeMap<T, u64>,
+    expected: impl Iterator<Item = (T, u64)>,
+) -> Vec<String> {
+    let counted = expected.map(|(one, due)| (met.get(&one).copied().unwrap_or(0), due.max(1), one));
+    let lacking = counted.filter(|(count, due, _)| count < due);
+    lacking.map(|(count, due, one)| format!("{what} {one:x?}: {count} of {due}")).collect()
+}
+
+/// How many of those expected there are, and the rarest of them.
+fn rarest<T: Ord + Debug>(what: &str, met: &BTreeMap<T, u64>, expected: impl Iterator<Item = T>) -> String {
+    let mut counts: Vec<(u64, T)> = expected.map(|one| (met.get(&one).copied().unwrap_or(0), one)).collect();
+    counts.sort_unstable();
+    let mut text = format!("\n{} {what}; the rarest:\n\n", counts.len());
+    for (count, one) in counts.iter().take(5) {
+        let _ = writeln!(text, "  {count:>9}  {one:x?}");
+    }
+    text
 }
 
 /// An answer's kind: the call and its outcome or status, or what it found.
@@ -183,38 +215,4 @@ fn statuses_of(opcode: u8) -> &'static [u8] {
             &[0x00, 0x01, 0x02, 0x03, 0x04, 0x07, 0x82, 0x84]
         }
     }
-}
-
-fn expected_contests() -> impl Iterator<Item = (&'static str, Decider, bool)> {
-    let decided = [Decider::Cas, Decider::Revision, Decider::Expiry, Decider::Flags];
-    let both = decided.into_iter().flat_map(|decider| [(decider, true), (decider, false)]);
-    let all = both.chain([(Decider::Nothing, false)]);
-    all.flat_map(|(decider, won)| ["revision", "last-write-wins"].map(|mode| (mode, decider, won)))
-}
-
-/// The comparison that a set- or delete-with-meta comes to, if it comes to one.
-fn contest(before: &[u8], received: &[u8]) -> Option<(&'static str, Decider)> {
-    let request = view(first_frame(received).ok()?).ok()?;
-    if !matches!(request.shape.command, Command::SetWithMeta | Command::DeleteWithMeta) || request.cas != 0 {
-        return None;
-    }
-    let given = MetaExtras::read(request.extras);
-    let table = Table::read(before).ok()?;
-    let (_, row) = table.find(request.key)?;
-    if given.has(FORCE) || given.has(SKIP_CONFLICTS) {
-        return None;
-    }
-    Some(decider(given.numbers, row.numbers, table.head.mode))
-}
-
-fn decider(given: Numbers, stored: Numbers, mode: Mode) -> (&'static str, Decider) {
-    let cas = (given.cas != stored.cas).then_some(Decider::Cas);
-    let revision = (given.revision != stored.revision).then_some(Decider::Revision);
-    let expiry = (given.expiry != stored.expiry).then_some(Decider::Expiry);
-    let flags = (given.flags != stored.flags).then_some(Decider::Flags);
-    let (name, first) = match mode {
-        Mode::LastWriteWins => ("last-write-wins", cas.or(revision)),
-        Mode::Revision => ("revision", revision.or(cas)),
-    };
-    (name, first.or(expiry).or(flags).unwrap_or(Decider::Nothing))
 }
