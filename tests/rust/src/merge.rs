@@ -279,7 +279,7 @@ enum Met {
     TableFilled,
     NoRowLeft,
     TieOfDocumentAndTombstone,
-    AgreedTombstoneOverDocument,
+    TombstoneWithSmallerFlags,
     Repeat,
 }
 
@@ -289,7 +289,7 @@ const ALL_MET: [Met; 7] = [
     Met::TableFilled,
     Met::NoRowLeft,
     Met::TieOfDocumentAndTombstone,
-    Met::AgreedTombstoneOverDocument,
+    Met::TombstoneWithSmallerFlags,
     Met::Repeat,
 ];
 
@@ -331,7 +331,7 @@ fn has_met(met: Met, list: &List, end: &End) -> bool {
         Met::TableFilled => end.documents.len() == list.rows.len(),
         Met::NoRowLeft => end.statuses.contains(&NO_ROW),
         Met::TieOfDocumentAndTombstone => pair(&|one, other| one.numbers == other.numbers),
-        Met::AgreedTombstoneOverDocument => {
+        Met::TombstoneWithSmallerFlags => {
             pair(&|one, other| one.kind == Kind::Tombstone && beside(one, other) && list.greater(one, other))
         }
         Met::Repeat => (1..list.writes.len()).any(|number| list.writes[..number].contains(&list.writes[number])),
