@@ -189,7 +189,8 @@ module _ {M : Type 1} (𝓤 : URA M) (H : Heap 𝓤) (A : Atoms 𝓤) (W : Given
   said : (r : Served) (z : ServedAnswer) → ent 𝓤 (ensured 𝓤 H A answer.ended (answer.clauses 𝓤 H A mem run) tt (r, tt) tt z) (fact 𝓤 (z ≡ servedAnswer r))
   said r z = exE 𝓤 _ (λ ws. snd∗ 𝓤 (sem 𝓤 H A (lasts answer.ended tt (r, tt) ws)) (fact 𝓤 (z ≡ servedAnswer r)))
 
-  exits : (m : Moved) (z : ServedAnswer) (v : Val) (zs ws : List ℕ) (w : Tally) → Is S.the-row z (v ∷ []) → Said m zs ws w → length zs ≡ length ys → length ws ≡ length rs → z ≡ servedAnswer (m .served)
+  exits : (m : Moved) (z : ServedAnswer) (v : Val) (zs ws : List ℕ) (w : Tally) → Is S.the-row z (v ∷ []) → Said m zs ws w
+      → length zs ≡ length ys → length ws ≡ length rs → z ≡ servedAnswer (m .served)
       → ent 𝓤 (⋆ 𝓤 H A ((‵ (flft κ₀ q₀) ⊛ ‵ (flft κ₁ q₁) ⊛ ‵ (flft κ₂ q₂) ⊛ ‵ (flft κ₃ q₃) ⊛ ‵ ftrue) ∷ ‵ (fres γ″ (T.the-row .coded .code w)) ∷ ‵
       (finally u8 γ′ ws) ∷ ‵ (finally u8 γ zs) ∷ ‵ OwnF ∷ [])) (Post v)
   exits m z v zs ws w is e lz lw e′ =
@@ -242,9 +243,11 @@ module _ {M : Type 1} (𝓤 : URA M) (H : Heap 𝓤) (A : Atoms 𝓤) (W : Given
         move ! (27 ∷ []) $ fsplit ! $ move ! (1 ∷ []) $ fsplit ! $ drop ! $ fsplit ! $ use1 W (‵ OwnF ⊛ ‵ OwnF) (shr-slice-copy 𝓤 H A W (named 1) κ₁ u8 .twice fr (sf ∷ [])) $ split ! $
         -- [the frame's; the frame's; the reply's and t's; the table's; _12; …; the tokens]
         move ! (0 ∷ 2 ∷ []) $ fjoin ! $ owned ! u32 (Is u32) (uint-makes 𝓤 H A W w32) c _ (refl, c-fits) $ fjoin ! $ move ! (2 ∷ 0 ∷ []) $ fjoin ! $
-        owned ! Cu.the-row (Is Cu.the-row) ((LL.makes Cu.the-type Cu′.the-plain) 𝓤 H A) start _ start-is $ fjoin ! $ move ! (28 ∷ 0 ∷ []) $ use2 W (raw (Serve 𝓤 H A mem run .pre to-serve)) goes-serve $
+        owned ! Cu.the-row (Is Cu.the-row) ((LL.makes Cu.the-type Cu′.the-plain) 𝓤 H A) start _ start-is $ fjoin ! $
+        move ! (28 ∷ 0 ∷ []) $ use2 W (raw (Serve 𝓤 H A mem run .pre to-serve)) goes-serve $
         -- [what `Cursor::serve` asks; the frame's; _12; …]
-        calls-at ! fm (Serve 𝓤 H A mem run) known-serve to-serve (and-then ! (load ! (from ! (stop !)) (look ! 14 refl)) (and-then ! (load ! (from ! (stop !)) (look ! 8 refl)) (and-then ! (load ! (from !
+        calls-at ! fm (Serve 𝓤 H A mem run) known-serve to-serve
+        (and-then ! (load ! (from ! (stop !)) (look ! 14 refl)) (and-then ! (load ! (from ! (stop !)) (look ! 8 refl)) (and-then ! (load ! (from !
         (stop !)) (look ! 22 refl)) (and-then ! (load ! (from ! (stop !)) (look ! 20 refl)) (and-then ! (load ! (from ! (stop !)) (look ! 4 refl))
         (and-then ! (load ! (from ! (stop !)) (look ! 2 refl)) (no-more !))))))) (λ u.
         use1 W (later (some (λ (m : Moved). ((‵ (flft κ₀ q₀) ⊛ ‵ (flft κ₁ q₁) ⊛ ‵ (flft κ₂ q₂) ⊛ ‵ (flft κ₃ q₃) ⊛ ‵ ftrue) ⊛ ‵ (Mo.the-row .own m (u ∷

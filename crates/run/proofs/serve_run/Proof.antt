@@ -63,7 +63,8 @@ loop-again c =
     let one = c .before .before .before .before .before .before .before .before .before .step .ensures in
     let w = turn-told (a .clock) (a .run .now) (l .b) (l .out) (l .tally) (l .cursor .at) (l .filled) (l .inv .1 .1 .1 .0) _ _ _ (one .0) (one .1) _ _ _ (c .before .before .r .given .1) in
     let p = turn-at (a .clock) (a .run .now) (l .b) (l .out) (l .tally) (l .cursor .at) (l .filled) (l .inv .1 .1 .1 .0) _ _ _ (one .0) (one .1) _ _ _ (c .before .before .r .given .1) in
-    let more = turn-on (a .clock) (a .run .now) (l .b) (l .out) (l .tally) (l .cursor .at) (l .filled) (l .inv .1 .1 .1 .0) _ _ _ (one .0) (one .1) _ _ _ (c .before .before .r .given .1) _ (c .counted .ensures) in
+    let more = turn-on (a .clock) (a .run .now) (l .b) (l .out) (l .tally) (l .cursor .at) (l .filled) (l .inv .1 .1 .1 .0) _ _ _ (one .0) (one .1)
+    _ _ _ (c .before .before .r .given .1) _ (c .counted .ensures) in
     let d = length-drop (l .cursor .at) (a .run .now) in (
       c .before .before .before .before .before .before .before .before .b .given ∙ l .inv .0,
       (

@@ -179,7 +179,8 @@ module _ {M : Type 1} (𝓤 : URA M) (H : Heap 𝓤) (A : Atoms 𝓤) (W : Given
   goes-count : (r : Served) (u : Val) → ent 𝓤 (sep 𝓤 (sep 𝓤 (A .lft κ₃ q₃) (sem 𝓤 H A ftrue)) (sem 𝓤 H A (own-count r u))) (Count 𝓤 H A mem run .pre (to-count r u))
   goes-count r u = qed W ((‵ (flft κ₃ q₃) ⊛ ‵ ftrue) ∷ ‵ (own-count r u) ∷ []) ∵ join ! $ frame ! $ done !
 
-  exits : Is Cu.the-row k (kv ∷ []) → (m : Moved) (zs ws : List ℕ) (w : Tally) → Is Mo.the-row m (mv m ∷ []) → Said m zs ws → length zs ≡ length ys → length ws ≡ length rs → w ≡ countedOf h (m .served)
+  exits : Is Cu.the-row k (kv ∷ []) → (m : Moved) (zs ws : List ℕ) (w : Tally) → Is Mo.the-row m (mv m ∷ []) → Said m zs ws
+      → length zs ≡ length ys → length ws ≡ length rs → w ≡ countedOf h (m .served)
       → ent 𝓤 (⋆ 𝓤 H A ((‵ (flft κ₃ q₃) ⊛ ‵ ftrue) ∷ ‵ (fres γ″ (T.the-row .coded .code w)) ∷ (‵ (flft κ₀ q₀) ⊛ ‵ (flft κ₁ q₁) ⊛ ‵ (flft κ₂ q₂) ⊛ ‵
       ftrue) ∷ ‵ (finally u8 γ′ ws) ∷ ‵ (finally u8 γ zs) ∷ ‵ OwnF ∷ [])) (Post (mv m))
   exits is-k m zs ws w is e lz lw e′ =
@@ -204,7 +205,8 @@ module _ {M : Type 1} (𝓤 : URA M) (H : Heap 𝓤) (A : Atoms 𝓤) (W : Given
         enter ! C Λ code.function (kv ∷ sx ∷ vint w32 c ∷ sf ∷ sy ∷ vptr b″ o″ ∷ []) _ $
         alloc1 ! (λ l₀. alloc1 ! (λ l₁. alloc1 ! (λ l₂. alloc1 ! (λ l₃. alloc1 ! (λ l₄. alloc1 ! (λ l₅. alloc1 ! (λ l₆. alloc1 ! (λ l₇. alloc1 ! (λ
         l₈. alloc1 ! (λ l₉. alloc1 ! (λ lₐ. alloc1 ! (λ lᵦ. alloc1 ! (λ lᵧ. alloc1 ! (λ lᵟ. alloc0 ! $ params1 ! $
-        pass1 ! (init ! 24 refl (LL.lawful Cu.the-type Cu′.the-laws 𝓤 H A W .typed k _ is-k .0)) $ pass1 ! (init ! 22 refl (tt, (tt, (record { fits = room .0 }, tt)))) $ pass1 ! (init ! 20 refl (tt, record { fits = c-fits })) $ pass1 ! (init
+        pass1 ! (init ! 24 refl (LL.lawful Cu.the-type Cu′.the-laws 𝓤 H A W .typed k _ is-k .0)) $
+        pass1 ! (init ! 22 refl (tt, (tt, (record { fits = room .0 }, tt)))) $ pass1 ! (init ! 20 refl (tt, record { fits = c-fits })) $ pass1 ! (init
         ! 18 refl (shr-slice-lawful 𝓤 H A W (named 1) κ₁ u8 .typed fr (sf ∷ []) p .0)) $ pass1 ! (init ! 16 refl (
           tt,
           (
@@ -231,10 +233,12 @@ module _ {M : Type 1} (𝓤 : URA M) (H : Heap 𝓤) (A : Atoms 𝓤) (W : Given
         move ! (34 ∷ []) $ split ! $ move ! (1 ∷ []) $ split ! $ move ! (1 ∷ []) $ split ! $
         -- [[κ₂]; [κ₃] and true; [κ₁]; [κ₀]; t's; true; the reply's; the frame's; the frame's; the table's; _13; …]
         nothing ! $ move ! (7 ∷ 0 ∷ []) $ fjoin ! $ move ! (7 ∷ 0 ∷ []) $ fjoin ! $ owned ! u32 (Is u32) (uint-makes 𝓤 H A W w32) c _ (refl, c-fits) $ fjoin ! $ move ! (8 ∷ 0 ∷ []) $ fjoin ! $
-        owned ! Cu.the-row (Is Cu.the-row) ((LL.makes Cu.the-type Cu′.the-plain) 𝓤 H A) k _ is-k $ fjoin ! $ nothing ! $ move ! (2 ∷ 0 ∷ []) $ join ! $ move ! (3 ∷ 0 ∷ []) $ join ! $ move ! (3 ∷ 0 ∷ []) $ join ! $
+        owned ! Cu.the-row (Is Cu.the-row) ((LL.makes Cu.the-type Cu′.the-plain) 𝓤 H A) k _ is-k $ fjoin ! $
+        nothing ! $ move ! (2 ∷ 0 ∷ []) $ join ! $ move ! (3 ∷ 0 ∷ []) $ join ! $ move ! (3 ∷ 0 ∷ []) $ join ! $
         use2 W (raw (Step 𝓤 H A mem run .pre to-step)) goes-step $
         -- [what `step` asks; [κ₃] and true; t's; true; the frame's; _13; …]
-        calls-at ! fm (Step 𝓤 H A mem run) known-step to-step (and-then ! (load ! (from ! (stop !)) (look ! 29 refl)) (and-then ! (load ! (from ! (stop !)) (look ! 13 refl)) (and-then ! (load ! (from ! (stop
+        calls-at ! fm (Step 𝓤 H A mem run) known-step to-step
+        (and-then ! (load ! (from ! (stop !)) (look ! 29 refl)) (and-then ! (load ! (from ! (stop !)) (look ! 13 refl)) (and-then ! (load ! (from ! (stop
         !)) (look ! 25 refl)) (and-then ! (load ! (from ! (stop !)) (look ! 23 refl)) (and-then ! (load ! (from ! (stop !)) (look ! 9 refl))
         (no-more !)))))) (λ u.
         use1 W (later (some (λ (m : Moved). ((‵ (flft κ₀ q₀) ⊛ ‵ (flft κ₁ q₁) ⊛ ‵ (flft κ₂ q₂) ⊛ ‵ ftrue) ⊛ ‵ (Mo.the-row .own m (u ∷ []))) ⊛ raw
@@ -283,7 +287,8 @@ module _ {M : Type 1} (𝓤 : URA M) (H : Heap 𝓤) (A : Atoms 𝓤) (W : Given
   serve-walks : (C : Calls 𝓤 H) (Λ : Loops 𝓤 H) → FmC 𝓤 H (W .laws) C → Triple 𝓤 (C #step) (Step 𝓤 H A mem run)
       → Triple 𝓤 (C #tally·count) (Count 𝓤 H A mem run) → Walks 𝓤 H A f.ended stayed (WpFn 𝓤 H C Λ code.function) (f.clauses 𝓤 H A mem run)
   serve-walks C Λ fm known-step known-count =
-      walked 𝓤 H A f.ended stayed (f.clauses 𝓤 H A mem run) (WpFn 𝓤 H C Λ code.function) (λ κs. (LL.vals Cu.the-type Cu′.the-laws, (slice-vals, (uint-vals w32, (slice-vals, (slice-vals, (ptr-vals, tt)))))))
+      walked 𝓤 H A f.ended stayed (f.clauses 𝓤 H A mem run) (WpFn 𝓤 H C Λ code.function)
+      (λ κs. (LL.vals Cu.the-type Cu′.the-laws, (slice-vals, (uint-vals w32, (slice-vals, (slice-vals, (ptr-vals, tt)))))))
       (λ κs. (
         LL.tells Cu.the-type Cu′.the-laws,
         (
