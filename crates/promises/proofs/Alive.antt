@@ -43,7 +43,8 @@ use Rattle.serving.proofs.Change.{unchanged}
 use Rattle.serving.proofs.Formed.{no, by-cond}
 use Rattle.serving.proofs.Gated.{was-open}
 use Rattle.promises.specs.Merge.{docAt, modeAt}
-use Rattle.promises.specs.Expiry.{opcode, headerCas, extrasIn, keyIn, gets, adds, replaces, deletes, keyed, NotLive, needsLive, toldLive, readLive, Answers, Reaches, OneLiveness, LiveIsFound, DeadIsCompared, GetKeeps}
+use Rattle.promises.specs.Expiry.{opcode, headerCas, extrasIn, keyIn, gets, adds, replaces, deletes, keyed, needsLive, toldLive, readLive}
+use Rattle.promises.specs.Expiry.{NotLive, Answers, Reaches, OneLiveness, LiveIsFound, DeadIsCompared, GetKeeps}
 use Rattle.promises.proofs.Asks.{at-opcode, reads, carries, added}
 use Rattle.promises.proofs.Liveness.{dead, alive, later, status, answers, avoids, answered, Without, without}
 use Rattle.promises.proofs.Dead.{and-false, seen, command, rule, instruction, tests, sought, unguarded, not-missing, no-conflict}

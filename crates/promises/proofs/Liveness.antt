@@ -92,7 +92,9 @@ module _ (b : List ℕ) (clock : ℕ) (s : List ℕ) (room : ℕ) where
 
   pub answers : Reaches b clock s room → (n : ℕ) → status ≡ n → Answers b clock s room n
   unfolding served answerOn
-  answers r n e = (length (frameReply b clock s (headerOf s)), ap (answerBy b clock s) (opened r) ∙ ap (λ (x : ℕ). Done x (24 + headerOf s .body) (length (frameReply b clock s (headerOf s)))) (listed ∙ e))
+  answers r n e =
+      let len = length (frameReply b clock s (headerOf s)) in
+      (len, ap (answerBy b clock s) (opened r) ∙ ap (λ (x : ℕ). Done x (24 + headerOf s .body) len) (listed ∙ e))
 
   answered-by : (n used len : ℕ) (g : Gate) → gateAll b room s ≡ g → answerBy b clock s g ≡ Done n used len → decided ≡ n
   unfolding answerOn
