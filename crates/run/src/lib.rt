@@ -34,8 +34,8 @@ fn used_of(r: Served) -> usize
 }
 
 impl Cursor {
-    // Serves the frame at the cursor, which is handed back past it.
-    fn step(self, b: &mut [u8], clock: u32, run: &[u8], out: &mut [u8]) -> Moved
+    // Serves the frame at the cursor, uncounted. The cursor is handed back past it.
+    pub fn step(self, b: &mut [u8], clock: u32, run: &[u8], out: &mut [u8]) -> Moved
         ensures { λ r. ⌜ (r ≡ movedBy (self .at) (r .served))
             × Serves (now (b .entry)) clock (seen (self .at) (now (run .entry))) (now (out .entry)) (r .served) (now (b .exit)) (now (out .exit)) ⌝ }
     {
