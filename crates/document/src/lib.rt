@@ -36,13 +36,12 @@ pub fn raised(h: Head, cas: Cas) -> Head
     ensures { λ r. ⌜ r ≡ raised h (cas .0) ⌝ }
 {
     let mark = h.mark;
-    let mark = mark.larger(cas);
     Head {
         state: h.state,
         mode: h.mode,
         vbucket: h.vbucket,
         clock: h.clock,
-        mark,
+        mark: mark.larger(cas),
     }
 }
 
