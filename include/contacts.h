@@ -252,6 +252,10 @@ typedef struct contacts_purged {
  * Frees exactly the rows of tombstones and of documents expired at the clock whose CAS is at or below the bound, and
  * leaves all else of the table, the mark too. With UINT64_MAX as bound it frees them all.
  *
+ * WARNING: a freed row is forgotten. If an older copy of an erased or expired document may still arrive, as a with-meta
+ * write, it is then stored as new: the contact comes back. Choose as bound a CAS up to which every copy has arrived,
+ * and never one that was only just written.
+ *
  * Answers outcome 0 and the number of rows freed, or outcome 5 and 0 with nothing changed where the table is damaged.
  */
 contacts_purged contacts_purge(uint8_t *table, size_t table_len, uint32_t clock, uint64_t bound);

@@ -113,6 +113,9 @@ pub fn read<'t>(table: &'t [u8], clock: u32, key: &[u8]) -> Result<Option<Docume
 /// Frees exactly the tombstones and the documents expired at the clock whose CAS is at or below the bound, and says how
 /// many. All else of the table stays, the mark too.
 ///
+/// A freed row is forgotten: an older copy of an erased or expired document that arrives later, as a with-meta write, is
+/// stored as new, and the contact comes back. Choose as bound a CAS up to which every copy has arrived.
+///
 /// # Errors
 ///
 /// [`Damaged`] where the table is; it is then unchanged.

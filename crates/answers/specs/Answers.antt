@@ -8,14 +8,14 @@ use Rattle.request.specs.declared.Reading.{Reading}
 use Rattle.request.specs.declared.Reading.the-variants.{Outcome, Status, Accepted}
 use Rattle.request.specs.declared.Written.{Written}
 use Rattle.request.specs.declared.Written.the-variants.{Refused as NotWritten, NoRoom, Wrote}
+use Rattle.request.specs.Reading.{readingOutcome, readingStatus}
 use Rattle.request.specs.Writing.{statusNo, outcomeNo}
 use Rattle.serving.specs.declared.Served.{Served}
-use Rattle.serving.specs.declared.Served.the-variants.{Refused, Done}
+use Rattle.serving.specs.Serve.{servedOutcome, servedStatus, servedUsed, servedLength, servedNeeded}
 use Rattle.owner.specs.declared.Document.{Document}
 use Rattle.owner.specs.declared.Document.the-variants.{Damaged, Missing, Live}
 use Rattle.owner.specs.declared.Purged.{Purged}
-use Rattle.owner.specs.declared.Purged.the-variants.{Damaged as NotPurged, Freed}
-use Rattle.owner.specs.Owner.{readOutcome, readStatus, purgeOutcome}
+use Rattle.owner.specs.Owner.{readOutcome, readStatus, purgeOutcome, purgedCount}
 use Rattle.run.specs.declared.Ran.{Ran}
 use Rattle.answers.specs.declared.Part.{Part}
 use Rattle.answers.specs.declared.ServedAnswer.{ServedAnswer}
@@ -26,16 +26,15 @@ use Rattle.answers.specs.declared.RequestAnswer.{RequestAnswer}
 use Rattle.answers.specs.declared.WrittenAnswer.{WrittenAnswer}
 
 abbrev pub servedAnswer : Served → ServedAnswer
-servedAnswer (Refused n need) = record { outcome = n; status = 0; used = 0; reply = 0; needed = need }
-servedAnswer (Done n used len) = record { outcome = 0; status = n; used = used; reply = len; needed = 0 }
+servedAnswer r = record { outcome = servedOutcome r; status = servedStatus r; used = servedUsed r; reply = servedLength r; needed = servedNeeded r }
 
 -- a run stops at a refused call: why, and what was consumed and answered before it
 abbrev pub ranAnswer : Ran → RanAnswer
 ranAnswer r = record {
-  outcome = servedAnswer (r .stop) .outcome;
+  outcome = servedOutcome (r .stop);
   used = r .cursor .at;
   reply = r .filled;
-  needed = servedAnswer (r .stop) .needed;
+  needed = servedNeeded (r .stop);
 }
 
 abbrev pub partOf : Span → Part
@@ -47,8 +46,8 @@ noPart = record { at = 0; len = 0 }
 -- a document's four numbers and where its value stands
 abbrev pub liveAnswer : Numbers → ℕ → ℕ → DocumentAnswer
 liveAnswer n at len = record {
-  outcome = 0;
-  status = 0;
+  outcome = readOutcome (Live n at len);
+  status = readStatus (Live n at len);
   flags = n .flags;
   expiry = n .expiry;
   revision = n .revision .0;
@@ -73,8 +72,7 @@ documentAnswer Missing = noDocument (readOutcome Missing) (readStatus Missing)
 documentAnswer (Live n at len) = liveAnswer n at len
 
 abbrev pub purgedAnswer : Purged → PurgedAnswer
-purgedAnswer NotPurged = record { outcome = purgeOutcome NotPurged; freed = 0 }
-purgedAnswer (Freed n) = record { outcome = 0; freed = n }
+purgedAnswer p = record { outcome = purgeOutcome p; freed = purgedCount p }
 
 abbrev pub requestRefused : ℕ → ℕ → RequestAnswer
 requestRefused outcome status = record {
@@ -93,8 +91,8 @@ requestRefused outcome status = record {
 
 abbrev pub requestShown : Frame → RequestAnswer
 requestShown f = record {
-  outcome = 0;
-  status = 0;
+  outcome = readingOutcome (Accepted f);
+  status = readingStatus (Accepted f);
   opcode = f .fields .opcode;
   datatype = f .fields .datatype;
   vbucket = f .fields .vbucket;
@@ -107,8 +105,8 @@ requestShown f = record {
 }
 
 abbrev pub requestAnswer : Reading → RequestAnswer
-requestAnswer (Outcome n) = requestRefused n 0
-requestAnswer (Status n) = requestRefused 0 n
+requestAnswer (Outcome n) = requestRefused (readingOutcome (Outcome n)) (readingStatus (Outcome n))
+requestAnswer (Status n) = requestRefused (readingOutcome (Status n)) (readingStatus (Status n))
 requestAnswer (Accepted f) = requestShown f
 
 -- the header fields of a request to write
@@ -118,4 +116,4 @@ fieldsFor opcode datatype vbucket opaque cas = record { opcode = opcode; datatyp
 abbrev pub writtenAnswer : Written → WrittenAnswer
 writtenAnswer NotWritten = record { outcome = outcomeNo NotWritten; status = statusNo NotWritten; len = 0 }
 writtenAnswer NoRoom = record { outcome = outcomeNo NoRoom; status = statusNo NoRoom; len = 0 }
-writtenAnswer (Wrote n) = record { outcome = 0; status = 0; len = n }
+writtenAnswer (Wrote n) = record { outcome = outcomeNo (Wrote n); status = statusNo (Wrote n); len = n }

@@ -28,7 +28,7 @@ fn answer_request(line: &[u8], t: Context) {
         Decoded::Request(q) => {
             let head = t.head;
             show::text(b": ");
-            show::decision(head, commands::decide(t, q));
+            show::decision(head, decision::decide(t, q));
         }
         Decoded::Unknown => show::text(b": what?"),
     }

@@ -1,10 +1,10 @@
 // What is printed of a decision.
-use commands::Decision;
-use commands::Reply;
-use commands::Source;
+use decision::Decision;
 use document::Head;
 use document::Metadata;
 use document::Stored;
+use effects::Reply;
+use effects::Source;
 use numbers::Numbers;
 
 pub(crate) fn text(s: &[u8]) {

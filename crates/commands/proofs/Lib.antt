@@ -1,5 +1,1 @@
-pub mod Deciding
-pub mod Writing
-pub mod MergingLaws
 pub mod Passed
-pub mod Stores

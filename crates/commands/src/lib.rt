@@ -1,18 +1,9 @@
-// What a request does, decided by value from the table's head, the row of the request's key and whether a row is free.
-// Bytes stand apart: a decision says where a value comes from, and serving puts it in.
-//
-// A module for each family of commands: get, service (Noop and Version), mutate (Set, Add, Replace and Delete),
-// arithmetic (Increment and Decrement) and with_meta. status has what they share.
-mod arithmetic;
-mod get;
-mod mutate;
-mod service;
-mod status;
-mod with_meta;
+// What a request asks for, and the status it gets: decided by value from the table's head, the row of the request's key and
+// whether a row is free. Each family of commands has its tests; effects has what is done where none fails.
+pub mod status;
 
 ghost use mathlib.Core.Path.{_≡_};
 ghost use Rattle.commands.specs.Writes.{isMutation};
-ghost use Rattle.commands.specs.Done.{decision};
 use digits::Number;
 use document::Head;
 use document::Stored;
@@ -99,37 +90,6 @@ pub struct Tests {
     pub full: bool,
 }
 
-// Where a stored value comes from.
-pub enum Source {
-    Empty,
-    Frame,
-    Digits(u64),
-}
-
-// What a reply carries beside its CAS.
-pub enum Reply {
-    Bare,
-    // flags and the stored value, and the key where it is true
-    Found(u32, bool),
-    Counted(u64),
-    Version,
-}
-
-pub struct Done {
-    pub store: Stored,
-    pub source: Source,
-    pub reply: Reply,
-    pub cas: Cas,
-    // the whole new head
-    pub head: Head,
-}
-
-pub struct Decision {
-    pub status: u8,
-    pub silent: bool,
-    pub done: Done,
-}
-
 // Whether a command writes.
 pub fn writes(c: Command) -> bool
     ensures { λ r. ⌜ r ≡ isMutation c ⌝ }
@@ -142,20 +102,5 @@ pub fn writes(c: Command) -> bool
         Command::Noop => false,
         Command::Version => false,
         Command::WithMeta(_) => true,
-    }
-}
-
-pub fn decide(c: Context, i: Instruction) -> Decision
-    ensures { λ r. ⌜ r ≡ decision c i ⌝ }
-{
-    let command = i.command;
-    match command {
-        Command::Get(keyed) => get::get(c, i, keyed),
-        Command::Write(p) => mutate::write(c, i, p),
-        Command::Delete => mutate::delete(c, i),
-        Command::Count(k) => arithmetic::count(c, i, k),
-        Command::Noop => service::noop(c, i),
-        Command::Version => service::version(c, i),
-        Command::WithMeta(w) => with_meta::with_meta(c, i, w),
     }
 }

@@ -1,21 +1,15 @@
-// What the families of commands share: the statuses in 01's order, the tests that several make, and what is left of the table.
+// The status of each family of commands: its tests, in 01's order, first that applies.
 ghost use mathlib.Core.Path.{_≡_};
-ghost use mathlib.Core.Bool.{cond};
-ghost use Rattle.commands.specs.Rules.{firstStatus, isHere};
-ghost use Rattle.commands.specs.Done.{nothing, withStatus, storing, plainNumbers};
+ghost use mathlib.Core.Bool.{cond, false};
+ghost use Rattle.commands.specs.Rules.{firstStatus, isHere, isLast, isNumber, getRule, noopRule, plainRule, countRule, metaRule, statusBy};
 use crate::Context;
-use crate::Decision;
-use crate::Done;
+use crate::Counter;
 use crate::Instruction;
-use crate::Reply;
-use crate::Source;
+use crate::Meta;
 use crate::Tests;
+use digits::Number;
 use document::Head;
-use document::Metadata;
-use document::Stored;
-use numbers::Cas;
-use numbers::Numbers;
-use numbers::Revision;
+use numbers::Mode;
 
 // A test that fails gives its status, else the later ones decide.
 fn first(fails: bool, status: u8, rest: u8) -> u8
@@ -24,7 +18,7 @@ fn first(fails: bool, status: u8, rest: u8) -> u8
     if fails { status } else { rest }
 }
 
-pub(crate) fn first_status(x: Tests) -> u8
+fn first_status(x: Tests) -> u8
     ensures { λ r. ⌜ r ≡ firstStatus x ⌝ }
 {
     first(
@@ -51,72 +45,127 @@ pub(crate) fn first_status(x: Tests) -> u8
 }
 
 // The request is for this table, in its state. standby: replica and pending tables take it too.
-pub(crate) fn is_here(h: Head, vbucket: u16, standby: bool) -> bool
+fn is_here(h: Head, vbucket: u16, standby: bool) -> bool
     ensures { λ r. ⌜ r ≡ isHere h vbucket standby ⌝ }
 {
     (vbucket == h.vbucket) & ((h.state == 1) | (standby & ((h.state == 2) | (h.state == 3))))
 }
 
-pub(crate) fn nothing(h: Head, reply: Reply, cas: Cas) -> Done
-    ensures { λ r. ⌜ r ≡ nothing h reply cas ⌝ }
+pub fn get_status(c: Context, i: Instruction) -> u8
+    ensures { λ r. ⌜ r ≡ statusBy c i getRule ⌝ }
 {
-    Done {
-        store: Stored::Nothing,
-        source: Source::Empty,
-        reply,
-        cas,
-        head: h,
-    }
-}
-
-// What is done where the status is 0, and nothing where it isn't. on: the status at which the quiet form sends nothing.
-pub(crate) fn with_status(c: Context, i: Instruction, on: u8, status: u8, done: Done) -> Decision
-    ensures { λ r. ⌜ r ≡ withStatus c i on status done ⌝ }
-{
-    let silent = i.quiet & (status == on);
-    if status == 0 {
-        return Decision {
-            status,
-            silent,
-            done,
-        };
-    }
     let head = c.head;
-    let none = nothing(head, Reply::Bare, Cas(0));
-    Decision {
-        status,
-        silent,
-        done: none,
-    }
-}
-
-// The row is stored, and the mark raised to its CAS where lower.
-pub(crate) fn storing(h: Head, row: Metadata, source: Source, reply: Reply) -> Done
-    ensures { λ r. ⌜ r ≡ storing h row source reply ⌝ }
-{
-    let cas = row.numbers.cas;
-    let head = document::raised(h, cas);
-    Done {
-        store: Stored::Used(row),
-        source,
-        reply,
-        cas,
-        head,
-    }
-}
-
-// The numbers of a plain write.
-pub(crate) fn plain_numbers(c: Context, flags: u32, expiry: u32) -> Numbers
-    ensures { λ r. ⌜ r ≡ plainNumbers c flags expiry ⌝ }
-{
     let row = c.row;
+    let here = is_here(head, i.vbucket, false);
+    let live = document::live(row, c.clock);
+    first_status(Tests {
+        fault: false,
+        long: 1024 < i.size,
+        elsewhere: !here,
+        missing: !live,
+        conflict: false,
+        number: false,
+        spent: false,
+        full: false,
+    })
+}
+
+pub fn service_status(c: Context, i: Instruction) -> u8
+    ensures { λ r. ⌜ r ≡ statusBy c i noopRule ⌝ }
+{
+    if 1024 < i.size { 0x03 } else { 0 }
+}
+
+// fault: the expiry passes 2^32 - 1; needs: a live document is needed; fresh: a live document is refused.
+pub fn write_status(c: Context, i: Instruction, fault: bool, needs: bool, fresh: bool) -> u8
+    ensures { λ r. ⌜ r ≡ statusBy c i (plainRule fault needs fresh false) ⌝ }
+{
+    let head = c.head;
+    let row = c.row;
+    let here = is_here(head, i.vbucket, false);
+    let live = document::live(row, c.clock);
     let old = document::numbers_of(row);
-    let revision = numbers::next(old.revision.0);
-    let cas = numbers::next(c.head.mark.0);
-    Numbers {
-        flags,
-        expiry,
-        revision: Revision(revision),
-        cas: Cas(cas),
+    let used = document::has_row(row);
+    let guard = i.cas.0 != 0;
+    first_status(Tests {
+        fault,
+        long: 1024 < i.size,
+        elsewhere: !here,
+        missing: (needs | guard) & !live,
+        conflict: (fresh & live) | (guard & (i.cas.0 != old.cas.0)),
+        number: false,
+        spent: (old.revision.0 == 0xffffffffffffffff) | (head.mark.0 == 0xffffffffffffffff),
+        full: !(used | c.free),
+    })
+}
+
+fn is_number(n: Number) -> bool
+    ensures { λ r. ⌜ r ≡ isNumber n ⌝ }
+{
+    match n {
+        Number::Value(_) => true,
+        Number::NoNumber => false,
     }
+}
+
+pub fn count_status(c: Context, i: Instruction, k: Counter) -> u8
+    ensures { λ r. ⌜ r ≡ statusBy c i (countRule c k) ⌝ }
+{
+    let head = c.head;
+    let row = c.row;
+    let number = c.number;
+    let fault = numbers::passes(k.expiry, c.clock);
+    let here = is_here(head, i.vbucket, false);
+    let live = document::live(row, c.clock);
+    let old = document::numbers_of(row);
+    let used = document::has_row(row);
+    let said = is_number(number);
+    let guard = i.cas.0 != 0;
+    first_status(Tests {
+        fault,
+        long: 1024 < i.size,
+        elsewhere: !here,
+        missing: ((k.expiry == 0xffffffff) | guard) & !live,
+        conflict: guard & (i.cas.0 != old.cas.0),
+        number: live & !said,
+        spent: (old.revision.0 == 0xffffffffffffffff) | (head.mark.0 == 0xffffffffffffffff),
+        full: !(used | c.free),
+    })
+}
+
+fn is_last(m: Mode) -> bool
+    ensures { λ r. ⌜ r ≡ isLast m ⌝ }
+{
+    match m {
+        Mode::ByRevision => false,
+        Mode::LastWrite => true,
+    }
+}
+
+// fresh: a live document is refused.
+pub fn meta_status(c: Context, i: Instruction, w: Meta, fresh: bool) -> u8
+    ensures { λ r. ⌜ r ≡ statusBy c i (metaRule c w fresh) ⌝ }
+{
+    let head = c.head;
+    let row = c.row;
+    let given = w.numbers;
+    let m = numbers::mode_of(head.mode);
+    let lww = is_last(m);
+    let wins = document::accepted(m, row, given);
+    let here = is_here(head, i.vbucket, w.force);
+    let live = document::live(row, c.clock);
+    let old = document::numbers_of(row);
+    let used = document::has_row(row);
+    let guard = i.cas.0 != 0;
+    first_status(Tests {
+        fault: w.last != lww,
+        long: 1024 < i.size,
+        elsewhere: !here,
+        missing: guard & !live,
+        conflict: !(w.force | (w.skip | wins))
+            | ((fresh & live) | (guard & (i.cas.0 != old.cas.0))),
+        number: false,
+        spent: w.regenerate & (head.mark.0 == 0xffffffffffffffff),
+        full: !(used | c.free),
+    })
 }

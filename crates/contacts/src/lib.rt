@@ -1,7 +1,5 @@
 // The calls for C and Rust: numbers and byte slices in, a struct of numbers out, each with the contract of the call that
 // it passes on. include/contacts.h documents them.
-mod counted;
-
 ghost use mathlib.Core.Path.{_≡_};
 ghost use lib.ListN.{length};
 ghost use Rattle.plain.specs.Damage.{sound};
@@ -19,6 +17,7 @@ use answers::ServedAnswer;
 use answers::WrittenAnswer;
 use numbers::Cas;
 use request::Fields;
+use run::Cursor;
 use tally::Tally;
 
 // The bytes that a table of so many rows needs, 0 where no table has so many.
@@ -56,7 +55,9 @@ pub extern "C" fn contacts_serve(
 ) -> ServedAnswer
     ensures { λ r. ⌜ ServesOne (now (b .entry)) clock (now (s .entry)) (now (out .entry)) (now (t .entry)) r (now (b .exit)) (now (out .exit)) (now (t .exit)) ⌝ }
 {
-    answers::served_answer(counted::serve(b, clock, s, out, t))
+    let start = Cursor { at: 0 };
+    let moved = start.serve(b, clock, s, out, t);
+    answers::served_answer(moved.served)
 }
 
 // Serves the frames of a run one after another, each reply after those before it, until a call is refused.

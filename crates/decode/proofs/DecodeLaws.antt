@@ -21,12 +21,12 @@ use Rattle.rules.specs.Rules.{withMetaOk, metaSize, metaStatus, fieldStatus}
 use Rattle.rules.proofs.RuleLaws.{field-meta, field-plain}
 use Rattle.request.specs.Reading.{extrasSpan, valueSpan, bytesIn}
 use Rattle.commands.specs.declared.Instruction.{Instruction}
-use Rattle.commands.specs.Decide.{instructionOf}
+use Rattle.decision.specs.Decide.{instructionOf}
 use Rattle.decode.specs.declared.Family.{Family}
 use Rattle.decode.specs.declared.Family.the-variants.{Bare, Stored, Counted, Carried}
 use Rattle.decode.specs.declared.Decoded.{Decoded}
 use Rattle.decode.specs.declared.Decoded.the-variants.{Broken, Whole}
-use Rattle.decode.specs.Decode.{familyOf, commandBy, commandOf, bareValue, instructionWith, metaDecoded, decodedAs, decodedBy, requestOf}
+use Rattle.decode.specs.Decode.{familyOf, commandBy, commandOf, bareValue, instructionWith, decodedStatus, metaDecoded, decodedAs, decodedBy, requestOf}
 
 -- which of the two it is, and the ask of one that has one
 told : Decoded → ℕ
@@ -115,7 +115,7 @@ module _ (h : Header) (extras value : List ℕ) where
   abbrev family : Family
   family = familyOf (shape .operation)
 
-  pub asked-broken : decodedBy shape h extras value ≡ Broken → fieldStatus shape extras value ≡ 0x04
+  pub asked-broken : decodedBy shape h extras value ≡ Broken → fieldStatus shape extras value ≡ decodedStatus Broken
   unfolding decodedBy metaStatus
   asked-broken e =
       let (t, u) = broken shape h extras value family e in

@@ -22,7 +22,7 @@ use Rattle.commands.specs.declared.MetaKind.the-variants.{Set as SetMeta, Add a
 use Rattle.commands.specs.declared.Command.{Command}
 use Rattle.commands.specs.declared.Command.the-variants.{Get, Write, Delete, Count, Noop, Version, WithMeta as Metas}
 use Rattle.commands.specs.declared.Instruction.{Instruction}
-use Rattle.commands.specs.Decide.{Request}
+use Rattle.decision.specs.Decide.{Request}
 use Rattle.decode.specs.declared.Family.{Family}
 use Rattle.decode.specs.declared.Family.the-variants.{Bare, Stored, Counted, Carried}
 use Rattle.decode.specs.declared.Decoded.{Decoded}
@@ -83,6 +83,11 @@ bareValue s h = part s (valueSpan h .at) (valueSpan h .len - metaSize (shapeOf (
 -- an ask of a command and a value of this size; the rest is the header's and the opcode's
 abbrev pub instructionWith : Shape → Header → Command → ℕ → Instruction
 instructionWith s h command size = record { vbucket = h .vbucket; cas = h .cas; quiet = s .quiet; size = size; command = command }
+
+-- 01's number for each answer: "any field rule below" is 0x04, and 0 where none is broken
+abbrev pub decodedStatus : Decoded → ℕ
+decodedStatus Broken = 0x04
+decodedStatus (Whole i) = 0
 
 -- a with-meta command unless its fields break the rules
 unfoldable pub metaDecoded : Shape → Header → MetaKind → List ℕ → List ℕ → Decoded

@@ -1,7 +1,7 @@
 -- Laws of specs/Decimal.antt: digits one by one, written and read.
 use Prim.Native.Nat.{ℕ, zero, suc, _+_, _-_, _*_, _/_, _%_, _≤_, _<_, _^_}
 use native.Mathlib.Omega.{arith}
-use native.Mathlib.Nat.{div-lt-iff-lt-mul, pow-suc, add-zero}
+use native.Mathlib.Nat.{pow-suc, add-zero}
 use mathlib.Core.Path.{_≡_, ap, _∙_, sym}
 use mathlib.Core.Bool.{true, false, and-false, cond}
 use mathlib.Core.List.{List, [], _∷_, _++_}
@@ -14,12 +14,16 @@ use Rattle.octets.proofs.Lists.{pasted-none, pasted-push}
 use Rattle.digits.specs.declared.Number.the-variants.{Value, NoNumber}
 use Rattle.digits.specs.Decimal.{digitsIn, digits, valueFrom, isDigit, allDigits, numberFrom}
 
+-- the quotient by ten takes one place less
+pub shorter : (k n : ℕ) → n < 10 ^ suc k → n / 10 < 10 ^ k
+shorter k n h = let h′ : n < 10 ^ k * 10 = rw pow-suc at h in omega arith
+
 -- one place more changes nothing where the places suffice
 enough : (k n : ℕ) → n < 10 ^ suc k → digitsIn (suc k) n ≡ digitsIn (suc (suc k)) n
 unfolding digitsIn
 enough zero n h = let h′ : n < 10 = h in rw (lt-ltb n 10 h′)
 enough (suc k) n h =
-    let ih : digitsIn (suc k) (n / 10) ≡ digitsIn (suc (suc k)) (n / 10) = enough k (n / 10) (div-lt-iff-lt-mul (omega arith) .1 (rw pow-suc at h)) in
+    let ih : digitsIn (suc k) (n / 10) ≡ digitsIn (suc (suc k)) (n / 10) = enough k (n / 10) (shorter (suc k) n h) in
     cases (ltb n 10) (λ t. rw t) (λ f. ap (λ (l : List ℕ). cond (ltb n 10) ((48 + n) ∷ []) (l ++ ((48 + n % 10) ∷ []))) ih)
 
 pub digits-one : (n : ℕ) → n < 10 → digits n ≡ (48 + n) ∷ []
@@ -32,7 +36,7 @@ split-off n h = rw (le-ltb n 10 h)
 
 pub digits-more : (n : ℕ) → 10 ≤ n → n < 2 ^ 64 → digits n ≡ digits (n / 10) ++ ((48 + n % 10) ∷ [])
 unfolding digits
-digits-more n h g = split-off n h ∙ ap (λ (l : List ℕ). l ++ ((48 + n % 10) ∷ [])) (enough 18 (n / 10) (div-lt-iff-lt-mul (omega arith) .1 (omega arith)))
+digits-more n h g = split-off n h ∙ ap (λ (l : List ℕ). l ++ ((48 + n % 10) ∷ [])) (enough 18 (n / 10) (shorter 19 n (omega arith)))
 
 pub length-one : (n : ℕ) → n < 10 → length (digits n) ≡ 1
 length-one n h = ap length (digits-one n h)

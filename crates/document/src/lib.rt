@@ -35,13 +35,13 @@ pub enum Stored {
 pub fn raised(h: Head, cas: Cas) -> Head
     ensures { λ r. ⌜ r ≡ raised h (cas .0) ⌝ }
 {
-    let mark = numbers::larger(h.mark.0, cas.0);
+    let mark = h.mark;
     Head {
         state: h.state,
         mode: h.mode,
         vbucket: h.vbucket,
         clock: h.clock,
-        mark: Cas(mark),
+        mark: mark.larger(cas),
     }
 }
 

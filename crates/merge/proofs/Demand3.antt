@@ -12,8 +12,8 @@ use Rattle.document.specs.Documents.{Key, Doc, Entry}
 use Rattle.engine.specs.Engine.{Engine, Laws, Room}
 use Rattle.document.specs.Stored.{storedOf, hasRow}
 use Rattle.octets.proofs.Options.{options}
-use Rattle.commands.specs.Merging.{RequestAt, MergingRequest, meta, carriedDoc, writeOf}
-use Rattle.commands.proofs.MergingLaws.{merging-decided}
+use Rattle.decision.specs.Merging.{RequestAt, MergingRequest, meta, carriedDoc, writeOf}
+use Rattle.decision.proofs.MergingLaws.{merging-decided}
 use Rattle.merge.specs.Writes.{Greatest, for, isWritten}
 use Rattle.merge.specs.Merge.{State, docIn, effectOn, tableOn, tableAfter, statusesOf, writesOf, candidatesOn, All, mode, MergePremises, MergedState, MergeTheorem}
 use Rattle.merge.proofs.Greatest.{clash, wins, best, best-greatest}

@@ -12,8 +12,8 @@ use Rattle.document.specs.declared.Head.{Head}
 use Rattle.document.specs.Head.{marked}
 use Rattle.document.specs.Documents.{Key, Doc, Entry}
 use Rattle.engine.specs.Engine.{Engine, Laws, isSome, storeRow}
-use Rattle.commands.specs.Decide.{Effect, decide}
-use Rattle.commands.specs.Merging.{RequestAt, MergingRequest, meta, writeOf}
+use Rattle.decision.specs.Decide.{Effect, decide}
+use Rattle.decision.specs.Merging.{RequestAt, MergingRequest, meta, writeOf}
 use Rattle.merge.specs.Writes.{_∈_, Greatest, optionList, for, isWritten, newKeys, largestCas, verdicts, applied}
 
 pub record State (E : Engine) : Type 0 where

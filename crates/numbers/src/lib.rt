@@ -1,10 +1,9 @@
 // The numbers of a document: their kinds, the published order, expiry and growth. CAS and revision are two kinds of
 // number that can't be exchanged.
 ghost use mathlib.Core.Path.{_≡_};
-ghost use Prim.Native.Nat.{max};
 ghost use Rattle.numbers.specs.Order.{modeOf, above, lead, second, greater};
 ghost use Rattle.numbers.specs.Expiry.{expired, passes, absolute};
-ghost use Rattle.numbers.specs.Growth.{next, incremented, decremented};
+ghost use Rattle.numbers.specs.Growth.{next, casAfter, largerCas, revisionAfter, incremented, decremented};
 
 pub struct Cas(pub u64);
 
@@ -105,11 +104,28 @@ pub fn next(n: u64) -> u64
     if n < 0xffffffffffffffff { n + 1 } else { n }
 }
 
-// The larger of two numbers.
-pub fn larger(a: u64, b: u64) -> u64
-    ensures { λ r. ⌜ r ≡ max a b ⌝ }
-{
-    if a < b { b } else { a }
+impl Cas {
+    // The CAS that a write makes where this is the mark.
+    pub fn next(self) -> Cas
+        ensures { λ r. ⌜ r ≡ casAfter self ⌝ }
+    {
+        Cas(next(self.0))
+    }
+
+    pub fn larger(self, other: Cas) -> Cas
+        ensures { λ r. ⌜ r ≡ largerCas self other ⌝ }
+    {
+        if self.0 < other.0 { other } else { self }
+    }
+}
+
+impl Revision {
+    // The revision that a plain write makes where this is the row's.
+    pub fn next(self) -> Revision
+        ensures { λ r. ⌜ r ≡ revisionAfter self ⌝ }
+    {
+        Revision(next(self.0))
+    }
 }
 
 // A counter's number and a delta more; past 2^64 - 1 it begins at 0 again.

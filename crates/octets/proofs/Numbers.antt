@@ -1,15 +1,15 @@
 -- Laws of specs/BigEndian.antt, over the width.
 use native.Mathlib.Omega.{arith}
 use native.Mathlib.Numerals.{add-one}
-use native.Mathlib.Nat.{zero-add, add-zero, pow-suc, pow-le-pow-right}
+use native.Mathlib.Nat.{zero-add, add-zero, pow-suc, pow-succ', pow-le-pow-right, mul-assoc, add-mul}
 use mathlib.Core.Path.{_≡_, refl, sym, ap, _∙_}
 use mathlib.Core.List.{List, [], _∷_, _++_, append-assoc, append-nil}
 use Prim.Native.Nat.{ℕ, zero, suc, _+_, _-_, _*_, _/_, _%_, _^_, _≤_, _<_}
-use lib.ListN.{length, drop, getD, set, length-append, length-drop}
-use lib.Seq.{take-suc, getD-drop}
+use lib.ListN.{length, getD, set, length-append}
+use lib.Seq.{drop-cons}
 use Rattle.octets.specs.Parts.{Bytes, part, pasted}
 use Rattle.octets.specs.BigEndian.{beFrom, be, num, bytesOf}
-use Rattle.octets.proofs.Lists.{bytes-part, bytes-append, bytes-cons, part-length, part-most, pasted-none, pasted-last}
+use Rattle.octets.proofs.Lists.{bytes-part, bytes-append, bytes-cons, glue, part-length, part-most, pasted-none, pasted-last}
 
 -- a number of i bytes, with one byte more
 pub be-bound : (v i x : ℕ) → v < 256 ^ i → x < 256 → v * 256 + x < 256 ^ (i + 1)
@@ -22,51 +22,35 @@ be-within v n m h k = omega (arith, pow-le-pow-right {n = 256} (omega arith) k)
 pub be-room : (v i x : ℕ) → v < 256 ^ i → i < 8 → x < 256 → v * 256 + x < 2 ^ 64
 be-room v i x h k l = be-within (v * 256 + x) (i + 1) 8 (be-bound v i x h l) (omega arith)
 
-from-snoc : (v : ℕ) (xs : List ℕ) (y : ℕ) → beFrom v (xs ++ (y ∷ [])) ≡ beFrom v xs * 256 + y
-unfolding beFrom
-from-snoc v [] y = refl
-from-snoc v (x ∷ xs) y = from-snoc (v * 256 + x) xs y
-
-pub be-snoc : (xs : List ℕ) (y : ℕ) → be (xs ++ (y ∷ [])) ≡ be xs * 256 + y
-unfolding be
-be-snoc xs y = from-snoc 0 xs y
-
--- one byte more of the number at a place
-pub num-suc : (s : List ℕ) (at n : ℕ) → at + n < length s → num s at (suc n) ≡ num s at n * 256 + getD s (at + n) 0
-num-suc s at n h =
-    let l : n < length (drop at s) = simp length-drop (omega arith) in
-    rw (take-suc (drop at s) n 0 l, getD-drop) (be-snoc (part s at n) (getD s (at + n) 0))
-
--- eight bytes by halves
-num-none : (s : List ℕ) (at : ℕ) → num s at 0 ≡ 0
+-- a number after another stands as many bytes below it as it is wide
+from-shift : (v : ℕ) (xs : List ℕ) → beFrom v xs ≡ v * 256 ^ length xs + be xs
 unfolding be beFrom
-num-none s at = refl
+from-shift v [] = omega arith
+from-shift v (x ∷ xs) =
+    let p = 256 ^ length xs in
+    let e : v * (256 ^ suc (length xs)) ≡ v * 256 * p = ap (λ (n : ℕ). v * n) (pow-succ' 256 (length xs)) ∙ sym (mul-assoc v 256 p) in
+    rw (from-shift (v * 256 + x) xs, from-shift (0 * 256 + x) xs, e, add-mul (v * 256) x p) (omega arith)
 
-joined : (h a b c d : ℕ) → (((h * 256 + a) * 256 + b) * 256 + c) * 256 + d ≡ h * 4294967296 + ((((0 * 256 + a) * 256 + b) * 256 + c) * 256 + d)
-joined h a b c d = omega arith
+from-append : (v : ℕ) (xs ys : List ℕ) → beFrom v (xs ++ ys) ≡ beFrom (beFrom v xs) ys
+unfolding beFrom
+from-append v [] ys = refl
+from-append v (x ∷ xs) ys = from-append (v * 256 + x) xs ys
 
-pub num-halves : (s : List ℕ) (at : ℕ) → at + 8 ≤ length s → num s at 8 ≡ num s at 4 * 4294967296 + num s (at + 4) 4
-num-halves s at h =
-    let e : at + 4 + 0 ≡ at + 4 = omega arith in
-    let f : at + 4 + 1 ≡ at + 5 = omega arith in
-    let g : at + 4 + 2 ≡ at + 6 = omega arith in
-    let k : at + 4 + 3 ≡ at + 7 = omega arith in
-    rw (
-      num-suc s at 7 (omega arith),
-      num-suc s at 6 (omega arith),
-      num-suc s at 5 (omega arith),
-      num-suc s at 4 (omega arith),
-      num-suc s (at + 4) 3 (omega arith),
-      num-suc s (at + 4) 2 (omega arith),
-      num-suc s (at + 4) 1 (omega arith),
-      num-suc s (at + 4) 0 (omega arith),
-      num-none s (at + 4),
-      e,
-      f,
-      g,
-      k,
-    )
-    (joined (num s at 4) (getD s (at + 4) 0) (getD s (at + 5) 0) (getD s (at + 6) 0) (getD s (at + 7) 0))
+be-append : (xs ys : List ℕ) → be (xs ++ ys) ≡ be xs * 256 ^ length ys + be ys
+unfolding be
+be-append xs ys = from-append 0 xs ys ∙ from-shift (beFrom 0 xs) ys
+
+-- a number of m + n bytes, by its first m bytes and the n after them: every width is read by this law
+pub num-split : (s : List ℕ) (at m n : ℕ) → at + m + n ≤ length s → num s at (m + n) ≡ num s at m * 256 ^ n + num s (at + m) n
+num-split s at m n h = ap be (sym (glue s at m n)) ∙ be-append (part s at m) (part s (at + m) n) ∙ rw (part-length s (at + m) n h)
+
+-- one byte
+num-one : (s : List ℕ) (at : ℕ) → at < length s → num s at 1 ≡ getD s at 0
+unfolding be beFrom
+num-one s at h = rw (drop-cons s at 0 h) (omega arith)
+
+pub num-suc : (s : List ℕ) (at n : ℕ) → at + n < length s → num s at (n + 1) ≡ num s at n * 256 + getD s (at + n) 0
+num-suc s at n h = num-split s at n 1 (omega arith) ∙ rw (num-one s (at + n) h)
 
 pub length-bytes : (n v : ℕ) → length (bytesOf n v) ≡ n
 unfolding bytesOf
@@ -84,7 +68,7 @@ unfolding bytesOf be beFrom
 be-bytes zero v h = omega arith
 be-bytes (suc n) v h =
     let h′ : v < 256 ^ n * 256 = rw pow-suc at h in
-    be-snoc (bytesOf n (v / 256)) (v % 256) ∙ rw (be-bytes n (v / 256) (omega arith)) (omega arith)
+    be-append (bytesOf n (v / 256)) (v % 256 ∷ []) ∙ rw (be-bytes n (v / 256) (omega arith)) (omega arith)
 
 bytes-from : (m v : ℕ) (xs : List ℕ) → Bytes xs → bytesOf (m + length xs) (beFrom v xs) ≡ bytesOf m v ++ xs
 unfolding bytesOf beFrom

@@ -11,7 +11,7 @@ use Rattle.octets.specs.Parts.{pasted, written}
 use Rattle.octets.proofs.Choices.{both}
 use Rattle.octets.proofs.Lists.{then, written-fits}
 use Rattle.rows.specs.Table.{headBytes, tableBytes, fresh}
-use Rattle.rows.proofs.Writes.{head-length}
+use Rattle.rows.proofs.Heads.{head-length}
 use Rattle.rows.specs.RowRules.{sizeOk}
 use Rattle.plain.proofs.ChangeLaws.{fresh-bytes}
 use Rattle.owner.specs.Owner.{makeOk, makeOutcome, made}

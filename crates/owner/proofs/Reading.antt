@@ -15,7 +15,7 @@ use Rattle.rows.specs.Find.{findRow, valuePlace}
 use Rattle.plain.specs.Damage.{sound}
 use Rattle.plain.specs.Plain.{plain}
 use Rattle.plain.specs.Purge.{goneCount}
-use Rattle.plain.specs.Change.{purgedRows, freedRows}
+use Rattle.plain_writer.specs.Change.{purgedRows, freedRows}
 use Rattle.plain.proofs.TableLaws.{sound-good}
 use Rattle.table.specs.declared.Lookup.{Lookup}
 use Rattle.table.specs.Calls.{lookupOf}

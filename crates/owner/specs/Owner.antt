@@ -12,7 +12,8 @@ use Rattle.rows.specs.Row.{Row}
 use Rattle.rows.specs.Table.{tableOf, tableBytes, fresh}
 use Rattle.rows.specs.RowRules.{sizeOk}
 use Rattle.rows.specs.Find.{findRow, valuePlace}
-use Rattle.plain.specs.Damage.{sound}
+use Rattle.engine.specs.declared.Checked.the-variants.{Damaged as NotSound}
+use Rattle.plain.specs.Damage.{sound, checkedOutcome}
 use Rattle.plain.specs.Plain.{plain}
 use Rattle.plain.specs.Purge.{goneCount}
 use Rattle.owner.specs.declared.Document.{Document}
@@ -22,7 +23,7 @@ use Rattle.owner.specs.declared.Purged.the-variants.{Damaged as NotPurge
 
 -- 01's numbers for the answers: outcome 5 on a damaged table, status 0x01 where there is no live document
 abbrev pub readOutcome : Document → ℕ
-readOutcome Damaged = 5
+readOutcome Damaged = checkedOutcome NotSound
 readOutcome Missing = 0
 readOutcome (Live n at len) = 0
 
@@ -32,8 +33,13 @@ readStatus Missing = 0x01
 readStatus (Live n at len) = 0
 
 abbrev pub purgeOutcome : Purged → ℕ
-purgeOutcome NotPurged = 5
+purgeOutcome NotPurged = checkedOutcome NotSound
 purgeOutcome (Freed n) = 0
+
+-- how many rows a purge freed
+abbrev pub purgedCount : Purged → ℕ
+purgedCount NotPurged = 0
+purgedCount (Freed n) = n
 
 -- the bytes that a table of n rows needs, 0 where no table has so many
 unfoldable pub sizeOf : ℕ → ℕ

@@ -57,7 +57,7 @@ fn put_fresh(s: &mut [u8], rows: usize, state: u8, mode: u8, vbucket: u16)
         clock: 0,
         mark: Cas(0),
     };
-    rows::put_head(s, h);
+    row_writer::put_head(s, h);
     octets::put_zeros(s, HEADER, rows * ROW);
 }
 

@@ -21,7 +21,7 @@ use Rattle.rows.specs.Good.{EntryGood, AllGood}
 use Rattle.plain.proofs.PlainLaws.{plain-laws, length-purge}
 use Rattle.plain.proofs.Places.{at-place, place-room}
 use Rattle.rows.proofs.RowLaws.{RowGood, row-length}
-use Rattle.rows.proofs.Writes.{head-length}
+use Rattle.rows.proofs.Heads.{head-length}
 use Rattle.plain.proofs.TableLaws.{good-first, good-more, table-count}
 
 -- a higher mark keeps rows good

@@ -2,11 +2,6 @@ pub mod PlainLaws
 pub mod Places
 pub mod TableLaws
 pub mod ChangeLaws
-pub mod PurgeBytes
 pub mod Rows
-pub mod Buckets
-pub mod Prints
 pub mod Checks
-pub mod Writes
-pub mod Purging
 pub mod Placing

@@ -26,6 +26,11 @@ sound b =
     && (allSound (headOf b .mark .0) (chunks (rowCount b) (drop 16 b))
     && distinct (rowsOf (rowCount b) (drop 16 b))))
 
+-- 01's number for each answer of the check: "5 | table damaged", 0 where it is not
+abbrev pub checkedOutcome : Checked → ℕ
+checkedOutcome Damaged = 5
+checkedOutcome (Sound h) = 0
+
 -- the head of a table that is not damaged
 unfoldable pub checkedOf : List ℕ → Checked
 checkedOf b = cond (sound b) (Sound (headOf b)) Damaged

@@ -3,5 +3,3 @@ pub mod Damage
 pub mod Plain
 pub mod Claims
 pub mod Purge
-pub mod Print
-pub mod Change

@@ -1,5 +1,5 @@
 -- For the code alone: places of rows. Where a key's row is, and where a new key goes: "A new key takes the lowest free row."
-use Prim.Native.Nat.{ℕ, _+_}
+use Prim.Native.Nat.{ℕ, _+_, _/_}
 use mathlib.Core.List.{List, [], _∷_}
 use mathlib.Core.Bool.{Bool, true, false, cond}
 use mathlib.Core.Option.{none, some}
@@ -9,6 +9,7 @@ use Rattle.octets.specs.Compare.{same}
 use Rattle.engine.specs.declared.Place.{Place}
 use Rattle.engine.specs.declared.Place.the-variants.{Over, Into, Full}
 use Rattle.rows.specs.Row.{Row}
+use Rattle.rows.specs.Table.{rowsOf}
 use Rattle.plain.specs.declared.Found.{Found}
 use Rattle.plain.specs.declared.Found.the-variants.{At, Nothing}
 
@@ -25,6 +26,10 @@ isFree (some e) = false
 abbrev pub orElse : Found → Found → Found
 orElse (At i) f = At i
 orElse Nothing f = f
+
+-- the whole rows of a run of bytes
+abbrev pub runRows : List ℕ → List Row
+runRows b = rowsOf (length b / 1312) b
 
 -- the place of the first row that holds the key, and of the first free row, counted from i
 abbrev pub findIn : List ℕ → ℕ → List Row → Found

@@ -5,7 +5,7 @@ ghost use Prim.Native.Nat.{_+_, _*_, _≤_};
 ghost use lib.ListN.{length, drop};
 ghost use Rattle.rows.specs.Row.{rowOf};
 ghost use Rattle.rows.specs.Table.{rowsOf, tableOf};
-ghost use Rattle.plain.specs.Lookup.{holds, findIn, freeIn, freePlace, keyRow, placeBy};
+ghost use Rattle.plain.specs.Lookup.{holds, runRows, findIn, freeIn, freePlace, keyRow, placeBy};
 use crate::Found;
 use engine::Place;
 use rows::FIXED;
@@ -22,7 +22,7 @@ fn row_holds(r: &[u8], key: &[u8]) -> bool
 }
 
 // The first of the left rows from at that holds the key, counted from i.
-pub(crate) fn find_from(s: &[u8], key: &[u8], at: usize, left: usize, i: usize) -> Found
+fn find_from(s: &[u8], key: &[u8], at: usize, left: usize, i: usize) -> Found
     requires { ⌜ (at + left * 1312 ≤ length (now s)) × (i ≤ at) ⌝ }
     ensures { λ r. ⌜ r ≡ findIn (now (key .entry)) i (rowsOf left (drop at (now (s .entry)))) ⌝ }
 {
@@ -59,6 +59,13 @@ fn free_from(s: &[u8], at: usize, left: usize, i: usize) -> Found
         k += 1;
     }
     Found::Nothing
+}
+
+// The first row of a run of rows that holds the key.
+pub fn find_in(s: &[u8], key: &[u8]) -> Found
+    ensures { λ r. ⌜ r ≡ findIn (now (key .entry)) 0 (runRows (now (s .entry))) ⌝ }
+{
+    find_from(s, key, 0, s.len() / ROW, 0)
 }
 
 // The place of the row that holds the key.

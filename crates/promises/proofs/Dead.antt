@@ -1,99 +1,122 @@
--- An expired document is answered as a tombstone with the same numbers: every test and every number that is stored sees of the row only its numbers and whether it is live.
-use Prim.Native.Nat.{ℕ}
-use mathlib.Core.Path.{_≡_, refl, sym, subst}
-use mathlib.Core.Bool.{Bool, true, false}
-use lib.Dec.{eqb, ltb}
-use Rattle.digits.specs.declared.Number.{Number}
-use Rattle.digits.specs.Decimal.{numberOf}
-use Rattle.numbers.specs.declared.Numbers.{Numbers}
-use Rattle.numbers.specs.Expiry.{expired}
-use Rattle.document.specs.declared.Head.{Head}
-use Rattle.document.specs.declared.Stored.{Stored}
-use Rattle.document.specs.declared.Stored.the-variants.{Used, Nothing}
-use Rattle.document.specs.Stored.{live, accepted}
+-- A key without a live document: what needs one is answered 0x01, and a Set or an Add is not refused for it.
+use Prim.Native.Nat.{ℕ, _+_}
+use native.Mathlib.Omega.{arith}
+use mathlib.Core.Path.{_≡_, refl, sym, ap, _∙_}
+use mathlib.Core.Bool.{Bool, true, false, cond, not, _&&_, _||_}
+use mathlib.Core.List.{List, _++_}
+use mathlib.Core.Logic.{⊎-elim}
+use lib.Dec.{eqb}
+use Rattle.octets.proofs.Choices.{both, either}
+use Rattle.header.specs.Header.{headerOf}
+use Rattle.shape.specs.Shapes.{among}
 use Rattle.commands.specs.declared.Context.{Context}
-use Rattle.commands.specs.declared.Instruction.{Instruction}
-use Rattle.commands.specs.declared.Done.{Done}
 use Rattle.commands.specs.declared.Command.{Command}
-use Rattle.commands.specs.declared.Command.the-variants.{Get, Write, Delete, Count, Noop, Version, WithMeta}
-use Rattle.commands.specs.Rules.{Rule, ruleOf, testsOf, statusBy}
-use Rattle.commands.specs.Done.{decision, doneOf}
-use Rattle.commands.specs.Decide.{contextOf, decide, instructionOf}
+use Rattle.commands.specs.declared.Instruction.{Instruction}
+use Rattle.commands.specs.declared.Tests.{Tests}
+use Rattle.commands.specs.Rules.{Rule, ruleOf, testsOf, guard, firstFailure}
+use Rattle.decision.specs.Decide.{instructionOf}
 use Rattle.decode.specs.Decode.{requestOf}
-use Rattle.rows.specs.Find.{freeRows}
-use Rattle.serving.specs.Serve.{decisionOn, answerOn}
-use Rattle.serving.proofs.Formed.{by-cond}
-use Rattle.promises.specs.Expiry.{ExpiredIsDead, ExpiredServed, GetKeeps}
+use Rattle.rows.specs.Table.{tableOf}
+use Rattle.serving.specs.Serve.{contextOn}
+use Rattle.serving.specs.Statuses.{testsOn, statuses}
+use Rattle.promises.specs.Merge.{docAt}
+use Rattle.promises.specs.Expiry.{opcode, headerCas, extrasIn, keyIn, gets, replaces, deletes, keyed, counters, counterExpiry, needsLive, NotLive, DeadIsMissing, DeadIsWritten}
+use Rattle.promises.proofs.Asks.{ask, needs, guarded, writes, counts}
+use Rattle.promises.proofs.Liveness.{dead, later, status, answers, avoids}
+use Rattle.promises.proofs.Keeps.{status-keeps}
 
--- a row with these numbers, a tombstone or not
-abbrev row : Bool → Numbers → Stored
-row tomb r = Used (record { tomb = tomb; numbers = r })
+pub and-false : (a : Bool) → (a && false) ≡ false
+and-false true = refl
+and-false false = refl
 
-module _ (r : Numbers) (clock : ℕ) (past : expired (r .expiry) clock ≡ true) where
-  dead : (tomb : Bool) → live (row tomb r) clock ≡ false
-  unfolding live
-  dead true = refl
-  dead false = rw past
+or-true : (a : Bool) → (a || true) ≡ true
+or-true true = refl
+or-true false = refl
 
-  module _ (h : Head) (free : Bool) (n : Number) where
-    seen : Bool → Context
-    seen tomb = record { head = h; row = row tomb r; free = free; clock = clock; number = n }
+-- needed, or guarded by a header CAS
+asked-for : (g n x : Bool) → (g || n) ≡ true → x ≡ true → (n || (g && x)) ≡ true
+asked-for true n x e z = rw z (or-true n)
+asked-for false n x e z = rw e
 
-    same-rule : (x : Command) → ruleOf (seen false) x ≡ ruleOf (seen true) x
-    unfolding seen ruleOf accepted
-    same-rule (Get k) = refl
-    same-rule (Write p) = refl
-    same-rule Delete = refl
-    same-rule (Count k) = refl
-    same-rule Noop = refl
-    same-rule Version = refl
-    same-rule (WithMeta w) = refl
+module _ (b : List ℕ) (clock : ℕ) (s : List ℕ) where
+  abbrev pub seen : Context
+  seen = contextOn (tableOf b) clock (docAt b (keyIn s))
 
-    same-tests : (i : Instruction) (t : Rule) → testsOf (seen false) i t ≡ testsOf (seen true) i t
-    unfolding seen testsOf
-    same-tests i t = rw (dead false, dead true)
+  abbrev pub command : Command
+  command = requestOf s (headerOf s) .command
 
-    same-done : (x : Command) → doneOf (seen false) x ≡ doneOf (seen true) x
-    unfolding seen doneOf
-    same-done (Get k) = refl
-    same-done (Write p) = refl
-    same-done Delete = refl
-    same-done (Count k) = rw (dead false, dead true)
-    same-done Noop = refl
-    same-done Version = refl
-    same-done (WithMeta w) = refl
+  abbrev pub rule : Rule
+  rule = ruleOf seen command
 
-    same-decision : (i : Instruction) → decision (seen false) i ≡ decision (seen true) i
-    unfolding decision seen
-    same-decision i = rw (same-rule (i .command), same-tests i (ruleOf (seen true) (i .command)), same-done (i .command))
+  abbrev pub instruction : Instruction
+  instruction = instructionOf (requestOf s (headerOf s))
 
-pub expired-is-dead : ExpiredIsDead
-unfolding decide seen
-expired-is-dead h d free clock q held past = rw (held, same-decision (d .numbers) clock past h free (numberOf (d .value)) (instructionOf q))
+  abbrev pub tests : Tests
+  tests = testsOn (tableOf b) clock s (headerOf s)
 
-pub expired-served : ExpiredServed
-unfolding decisionOn answerOn seen
-expired-served t u clock s h d heads frees found buried-there held past =
-    let same = same-decision (d .numbers) clock past (u .head) (ltb 0 (freeRows (u .rows))) (numberOf (d .value)) (instructionOf (requestOf s h)) in
-    (rw (heads, frees, found, buried-there, held, same), rw (heads, frees, found, buried-there, held, same))
+  pub command-asked : command ≡ ask seen (extrasIn s) (opcode s)
+  unfolding requestOf
+  command-asked = refl
 
--- of a Get, found or not, nothing is stored
-module _ (c : Context) where
-  abbrev Kept : Done → Type 0
-  Kept x = (x .store ≡ Nothing) × (x .head ≡ c .head)
+  abbrev Sought : Type 0
+  Sought = (rule .needs || guard instruction rule) ≡ true
 
-  got : (keyed : Bool) → Kept (doneOf c (Get keyed))
-  unfolding doneOf
-  got keyed = (refl, refl)
+  by-need : rule .needs ≡ true → Sought
+  by-need e = rw e
 
-  get-kept : (i : Instruction) (keyed : Bool) → i .command ≡ Get keyed → Kept (decision c i .done)
-  unfolding decision
-  get-kept i keyed e =
-      by-cond Kept (eqb (statusBy c i (ruleOf c (i .command))) 0) _ _
-      (λ t. subst (λ (x : Command). Kept (doneOf c x)) (sym e) (got keyed)) (λ t. (refl, refl))
+  by-guard : (rule .guarded || rule .needs) ≡ true → not (eqb (headerCas s) 0) ≡ true → Sought
+  unfolding requestOf
+  by-guard e z = asked-for (rule .guarded) (rule .needs) (not (eqb (headerCas s) 0)) e z
 
-pub get-keeps : GetKeeps
-unfolding decide
-get-keeps h row free clock q keyed e =
-    let k = get-kept (contextOf h row free clock) (instructionOf q) keyed e in
-    (rw (k .0) refl, k .1)
+  pub count-needs : among (opcode s) counters ≡ true → rule .needs ≡ eqb (counterExpiry s) 0xffffffff
+  unfolding requestOf ruleOf
+  count-needs e = let (up, z) = counts seen (extrasIn s) (opcode s) e in rw z
+
+  pub sought : needsLive s ≡ true → Sought
+  unfolding requestOf
+  sought e =
+      ⊎-elim (λ a. by-need (needs seen (extrasIn s) (opcode s) a))
+      (λ a. ⊎-elim (λ g. let p = both (among (opcode s) keyed) _ g in by-guard (guarded seen (extrasIn s) (opcode s) (p .0)) (p .1))
+      (λ k. let p = both (among (opcode s) counters) _ k in by-need (count-needs (p .0) ∙ p .1))
+      (either (among (opcode s) keyed && not (eqb (headerCas s) 0)) _ a))
+      (either (among (opcode s) (gets ++ (replaces ++ deletes))) _ e)
+
+  pub unguarded : headerCas s ≡ 0 → guard instruction rule ≡ false
+  unfolding requestOf
+  unguarded z = ap (λ (x : ℕ). rule .guarded && not (eqb x 0)) z ∙ and-false (rule .guarded)
+
+  pub not-missing : rule .needs ≡ false → headerCas s ≡ 0 → tests .missing ≡ false
+  unfolding testsOf
+  not-missing e z = rw (e, unguarded z)
+
+  -- the tests of 0x01, 0x02 and 0x06, where the row isn't live
+  module _ (n : NotLive clock (docAt b (keyIn s))) where
+    pub missing : needsLive s ≡ true → tests .missing ≡ true
+    unfolding testsOf
+    missing e = rw (sought e, dead clock (docAt b (keyIn s)) n)
+
+    pub no-conflict : rule .beaten ≡ false → headerCas s ≡ 0 → tests .conflict ≡ false
+    unfolding testsOf
+    no-conflict e z = rw (e, unguarded z, dead clock (docAt b (keyIn s)) n, and-false (rule .fresh))
+
+    pub no-number : tests .number ≡ false
+    unfolding testsOf
+    no-number = rw (dead clock (docAt b (keyIn s)) n) (and-false (rule .counts))
+
+pub dead-is-missing : DeadIsMissing
+unfolding firstFailure
+dead-is-missing b clock s room r n e =
+    let l = later 7 (statuses (tableOf b) clock s (headerOf s)) (r .earlier) in
+    let z : status b clock s room ≡ 0x01 = l ∙ rw (missing b clock s n e) in
+    let (len, a) = answers b clock s room r 0x01 z in
+    ((len, a), status-keeps b clock s room 0x01 (24 + headerOf s .body) len (r .bytes) a (λ y. absurd (omega arith)))
+
+pub dead-is-written : DeadIsWritten
+unfolding requestOf
+dead-is-written b clock s room n e z =
+    let (needs, beaten) = writes (seen b clock s) (extrasIn s) (opcode s) e in
+    let m = not-missing b clock s needs z in
+    let k = no-conflict b clock s n beaten z in (
+      avoids b clock s room 0x01 (refl, (refl, (refl, (refl, (refl, (refl, (refl, (m, (refl, (refl, (refl, (refl, refl)))))))))))),
+      avoids b clock s room 0x02 (refl, (refl, (refl, (refl, (refl, (refl, (refl, (refl, (k, (refl, (refl, (refl, refl)))))))))))),
+    )

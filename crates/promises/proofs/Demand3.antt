@@ -1,6 +1,6 @@
 -- Demand 3 on bytes, from the theorem on abstract tables.
 use Prim.Native.Nat.{ℕ, _≤_}
-use mathlib.Core.Path.{_≡_, refl, sym, ap, _∙_}
+use mathlib.Core.Path.{_≡_, refl, sym, ap, _∙_, subst}
 use mathlib.Core.List.{List, [], _∷_, map}
 use mathlib.Core.Option.{none, some}
 use lib.ListN.{length}
@@ -14,7 +14,7 @@ use Rattle.header.specs.Header.{headerOf}
 use Rattle.request.specs.declared.Gate.the-variants.{Whole}
 use Rattle.request.specs.Reading.{gateOf, frameStatus, keySpan, bytesIn}
 use Rattle.request.proofs.Gated.{whole-frame}
-use Rattle.commands.specs.Decide.{Effect, decide}
+use Rattle.decision.specs.Decide.{Effect, decide}
 use Rattle.decode.specs.Decode.{requestOf}
 use Rattle.rows.specs.Row.{Row}
 use Rattle.rows.specs.Table.{Table, tableOf, tableBytes}
@@ -28,9 +28,9 @@ use Rattle.plain.proofs.TableLaws.{sound-good, good-sound}
 use Rattle.merge.specs.Merge.{All, changed, effectOn, tableOn, tableAfter, statusesOf}
 use Rattle.merge.specs.Merge as abstract
 use Rattle.merge.proofs.Demand3 as abstractly
-use Rattle.serving.specs.Serve.{served, servedTable, gateAll, decisionOn, answerOn, frameChange, frameTable}
+use Rattle.serving.specs.Serve.{servedOutcome, servedStatus, served, servedTable, gateAll, decisionOn, answerOn, frameChange, frameTable}
 use Rattle.serving.proofs.Change.{change-good}
-use Rattle.promises.specs.Calls.{Call, servedBy, tableServed, bytesAfter, answers, statusIn}
+use Rattle.promises.specs.Calls.{Call, servedBy, tableServed, bytesAfter, callOutcomes, callStatuses}
 use Rattle.promises.specs.Merge.{MergingCall, modeAt, docAt, writes, Premises, Merged, Demand3}
 use Rattle.promises.proofs.MergingCall.{asked, all-asked}
 
@@ -69,23 +69,28 @@ gate-go : (t : Table) (c : Call) → Good t → Passes c → gateAll (tableBytes
 unfolding gateAll
 gate-go t c g w = rw (good-sound t g .0, le-ltb (length (c .reply)) 1302 (w .room)) (w .whole)
 
-status-same : (t : Table) (c : Call) → Good t → Passes c → statusIn (servedBy (tableBytes t) c) ≡ effectOn plain (viewed t) (asked c) .status
+status-same : (t : Table) (c : Call) → Good t → Passes c → servedStatus (servedBy (tableBytes t) c) ≡ effectOn plain (viewed t) (asked c) .status
 unfolding served
 status-same t c g w = rw (gate-go t c g w, good-sound t g .1) (ap (λ (x : Effect). x .status) (effect-same t c w))
+
+outcome-none : (t : Table) (c : Call) → Good t → Passes c → servedOutcome (servedBy (tableBytes t) c) ≡ 0
+unfolding served
+outcome-none t c g w = rw (gate-go t c g w)
 
 -- ---- a list of calls
 record Lifted (t : Table) (cs : List Call) : Type 0 where
   good : Good (steppedAll t cs)
   bytes : bytesAfter (tableBytes t) cs ≡ tableBytes (steppedAll t cs)
   table : viewed (steppedAll t cs) ≡ tableAfter plain (viewed t) (map asked cs)
-  statuses : map statusIn (answers (tableBytes t) cs) ≡ statusesOf plain (viewed t) (map asked cs)
+  served : All (λ n. n ≡ 0) (callOutcomes (tableBytes t) cs)
+  statuses : callStatuses (tableBytes t) cs ≡ statusesOf plain (viewed t) (map asked cs)
 
 table-same : (t : Table) (c : Call) → Good t → Passes c → tableServed (tableBytes t) c ≡ tableBytes (stepped t c)
 unfolding servedTable frameTable
 table-same t c g w = rw (gate-go t c g w) (ap (λ (x : Table). tableBytes (stepped x c)) (good-sound t g .1))
 
 lifted : (t : Table) (cs : List Call) → Good t → All Passes cs → Lifted t cs
-lifted t [] g w = record { good = g; bytes = refl; table = refl; statuses = refl }
+lifted t [] g w = record { good = g; bytes = refl; table = refl; served = tt; statuses = refl }
 lifted t (c ∷ cs) g w =
     let h = headerOf (c .received) in
     let good = change-good t (c .clock) (c .received) h g (w .0 .bytes) (whole-frame (c .received) h (w .0 .whole) .inside) in
@@ -96,9 +101,10 @@ lifted t (c ∷ cs) g w =
       good = r .good;
       bytes = ap (λ (x : List ℕ). bytesAfter x cs) e ∙ r .bytes;
       table = r .table ∙ ap (λ (x : abstract.State plain). tableAfter plain x (map asked cs)) v;
+      served = (outcome-none t c g (w .0), subst (λ (x : List ℕ). All (λ n. n ≡ 0) (callOutcomes x cs)) (sym e) (r .served));
       statuses =
-          ap (λ (x : List ℕ). statusIn (servedBy (tableBytes t) c) ∷ map statusIn (answers x cs)) e
-          ∙ ap (λ (n : ℕ). n ∷ map statusIn (answers (tableBytes (stepped t c)) cs)) (status-same t c g (w .0))
+          ap (λ (x : List ℕ). servedStatus (servedBy (tableBytes t) c) ∷ callStatuses x cs) e
+          ∙ ap (λ (n : ℕ). n ∷ callStatuses (tableBytes (stepped t c)) cs) (status-same t c g (w .0))
           ∙ ap (λ (l : List ℕ). effectOn plain (viewed t) (asked c) .status ∷ l) (r .statuses)
           ∙ ap (λ (x : abstract.State plain). effectOn plain (viewed t) (asked c) .status ∷ statusesOf plain x (map asked cs)) v;
     }
@@ -144,8 +150,8 @@ module _ (b : List ℕ) (cs : List Call) (p : Premises b cs) where
   after : viewed (tableOf (bytesAfter b cs)) ≡ tableAfter plain (viewed (tableOf b)) (map asked cs)
   after = ap viewed (ap tableOf ends ∙ good-sound (steppedAll (tableOf b) cs) (run .good) .1) ∙ run .table
 
-  codes : map statusIn (answers b cs) ≡ statusesOf plain (viewed (tableOf b)) (map asked cs)
-  codes = ap (λ (x : List ℕ). map statusIn (answers x cs)) (sym back) ∙ run .statuses
+  codes : callStatuses b cs ≡ statusesOf plain (viewed (tableOf b)) (map asked cs)
+  codes = ap (λ (x : List ℕ). callStatuses x cs) (sym back) ∙ run .statuses
 
   docs : (k : Key) → docAt (bytesAfter b cs) k ≡ abstract.docIn plain (tableAfter plain (viewed (tableOf b)) (map asked cs)) k
   docs k = ap (λ (x : abstract.State plain). abstract.docIn plain x k) after
@@ -156,6 +162,7 @@ module _ (b : List ℕ) (cs : List Call) (p : Premises b cs) where
         let (d, e, g) = merged .winner k (rw (writes-same cs) w) in
         (d, docs k ∙ e, rw (writes-same cs) at g);
     others = λ k w. docs k ∙ merged .others k (rw (writes-same cs) w);
+    served = subst (λ (x : List ℕ). All (λ n. n ≡ 0) (callOutcomes x cs)) back (run .served);
     statuses = codes ∙ rw (writes-same cs) at (merged .statuses);
     mark = ap (λ (x : abstract.State plain). x .head) after ∙ (rw (codes, ← writes-same cs) (merged .mark));
     mark-last = λ e. ap (λ (x : abstract.State plain). x .head .mark .0) after ∙ (rw (writes-same cs) at (merged .mark-last e));

@@ -14,7 +14,8 @@ use Rattle.rules.specs.Section.{fieldOk, fieldSize, walk, fieldsOk, sectionOk}
 use Rattle.rules.specs.Rules.{formOk, numbersOk, bodyOk, withMetaOk, metaSize, fieldRulesOk, judged, status}
 use Rattle.request.specs.Reading.{gateOf, extrasSpan, keySpan, valueSpan, frameStatus}
 use Rattle.commands.specs.Rules.{ruleOf, testsOf, firstStatus, firstFailure}
-use Rattle.commands.specs.Done.{decision, doneOf}
+use Rattle.effects.specs.Done.{doneOf}
+use Rattle.decision.specs.Decision.{decision}
 use Rattle.decode.specs.Decode.{plainOf, counterOf, metaCommand, commandOf, bareValue, requestOf}
 use Rattle.rows.specs.Row.{slotOf, sizeBytes, shortBytes, longBytes, slotBytes, docOf, keyOf, rowOf, slotFor, usedBytes, rowBytes}
 use Rattle.rows.specs.Table.{headOf, tableOf, headBytes, tableBytes}

@@ -10,8 +10,8 @@ use Rattle.header.specs.declared.Header.{Header}
 use Rattle.request.specs.declared.Gate.{Gate}
 use Rattle.request.specs.declared.Gate.the-variants.{Stop, Whole}
 use Rattle.request.specs.Reading.{frameStatus, bytesIn, keySpan}
-use Rattle.commands.specs.Decide.{decide}
-use Rattle.commands.proofs.Stores.{refused-keeps as decided-keeps}
+use Rattle.decision.specs.Decide.{decide}
+use Rattle.decision.proofs.Stores.{refused-keeps as decided-keeps}
 use Rattle.decode.specs.Decode.{requestOf}
 use Rattle.rows.specs.Table.{Table, tableOf, tableBytes}
 use Rattle.plain.proofs.TableLaws.{sound-good}

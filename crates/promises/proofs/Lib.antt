@@ -2,7 +2,14 @@ pub mod Sound
 pub mod MergingCall
 pub mod Demand3
 pub mod Keeps
+pub mod Asks
+pub mod Liveness
 pub mod Dead
+pub mod Counting
+pub mod Alive
+pub mod Alike
+pub mod Buried
 pub mod Judged
 pub mod Worked
 pub mod Candidates
+pub mod Replies

@@ -27,8 +27,8 @@ use Rattle.commands.specs.declared.MetaKind.the-variants.{Set, Delete}
 use Rattle.commands.specs.declared.Command.{Command}
 use Rattle.commands.specs.declared.Command.the-variants.{WithMeta as Metas}
 use Rattle.commands.specs.Rules.{isLast}
-use Rattle.commands.specs.Merging.{SetOrDelete, meta, metaIn}
-use Rattle.commands.specs.Merging as abstract
+use Rattle.decision.specs.Merging.{SetOrDelete, meta, metaIn}
+use Rattle.decision.specs.Merging as abstract
 use Rattle.decode.specs.Decode.{commandOf, bareValue, requestOf}
 use Rattle.decode.specs.Decode as decoding
 use Rattle.merge.specs.Merge.{All}

@@ -27,7 +27,8 @@ use Rattle.request.specs.declared.Gate.{Gate}
 use Rattle.request.specs.declared.Gate.the-variants.{Whole}
 use Rattle.request.specs.Reading.{gateOf, extrasSpan, keySpan, frameStatus, bytesIn}
 use Rattle.commands.specs.Rules.{ruleOf, testsOf, firstStatus, firstFailure}
-use Rattle.commands.specs.Done.{decision, doneOf}
+use Rattle.effects.specs.Done.{doneOf}
+use Rattle.decision.specs.Decision.{decision}
 use Rattle.decode.specs.Decode.{requestOf}
 use Rattle.rows.specs.Row.{slotOf, rowOf, rowBytes}
 use Rattle.rows.specs.Table.{tableOf, tableBytes}

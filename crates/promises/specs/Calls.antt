@@ -1,10 +1,9 @@
 -- Lists of serving calls, each on the table as the one before left it.
 use Prim.Native.Nat.{ℕ}
-use mathlib.Core.List.{List, [], _∷_}
+use mathlib.Core.List.{List, [], _∷_, map}
 use lib.ListN.{length}
 use Rattle.serving.specs.declared.Served.{Served}
-use Rattle.serving.specs.declared.Served.the-variants.{Refused, Done}
-use Rattle.serving.specs.Serve.{served, servedTable}
+use Rattle.serving.specs.Serve.{servedOutcome, servedStatus, served, servedTable}
 
 -- a clock, received bytes and a reply area as it was before
 pub record Call : Type 0 where
@@ -26,7 +25,8 @@ abbrev pub answers : List ℕ → List Call → List Served
 answers b [] = []
 answers b (c ∷ cs) = servedBy b c ∷ answers (tableServed b c) cs
 
--- a status, or a number that is none where a call was refused
-abbrev pub statusIn : Served → ℕ
-statusIn (Refused n need) = 0xffff
-statusIn (Done status used len) = status
+abbrev pub callOutcomes : List ℕ → List Call → List ℕ
+callOutcomes b cs = map servedOutcome (answers b cs)
+
+abbrev pub callStatuses : List ℕ → List Call → List ℕ
+callStatuses b cs = map servedStatus (answers b cs)

@@ -1,39 +1,216 @@
--- "Expiry holds in every command": where the key's document is expired, a request is answered as it would be were it a tombstone with the same numbers, and a read leaves the row.
-use Prim.Native.Nat.{ℕ}
+-- "Expiry holds in every command", on bytes. When a document is live is said here in 01's words and numbers, and not by the definitions that decide it: a store that decides it otherwise, in one command or in all, doesn't meet these. Proved in proofs/Dead.antt, Counting.antt, Buried.antt and Alive.antt.
+use Prim.Native.Nat.{ℕ, _+_, _/_, _%_, _≤_, _<_}
 use mathlib.Core.Path.{_≡_}
-use mathlib.Core.Bool.{Bool, true, false}
-use mathlib.Core.List.{List}
+use mathlib.Core.Bool.{Bool, true, false, not, cond, _&&_, _||_}
+use mathlib.Core.List.{List, [], _∷_, _++_}
+use mathlib.Core.Logic.{_⊎_}
 use mathlib.Core.Option.{Option, none, some}
-use Rattle.numbers.specs.Expiry.{expired}
-use Rattle.document.specs.declared.Head.{Head}
-use Rattle.document.specs.Documents.{Doc}
-use Rattle.header.specs.declared.Header.{Header}
-use Rattle.request.specs.Reading.{bytesIn, keySpan}
-use Rattle.commands.specs.declared.Command.the-variants.{Get}
-use Rattle.commands.specs.Decide.{Request, decide}
-use Rattle.rows.specs.Table.{Table}
-use Rattle.rows.specs.Find.{findRow, freeRows}
-use Rattle.serving.specs.Serve.{decisionOn, answerOn}
+use lib.ListN.{length, take}
+use lib.Dec.{eqb}
+use Rattle.octets.specs.Parts.{Bytes}
+use Rattle.octets.specs.BigEndian.{num}
+use Rattle.octets.specs.Compare.{same}
+use Rattle.digits.specs.Decimal.{digits}
+use Rattle.numbers.specs.Order.{greater}
+use Rattle.document.specs.Documents.{Key, Doc}
+use Rattle.shape.specs.Shapes.{among}
+use Rattle.header.specs.Header.{headerOf}
+use Rattle.rules.specs.WithMeta.{withMeta}
+use Rattle.request.specs.declared.Gate.the-variants.{Whole}
+use Rattle.request.specs.Reading.{gateOf, bytesIn, extrasSpan, keySpan}
+use Rattle.commands.specs.Rules.{Check}
+use Rattle.rows.specs.Table.{tableOf, tableBytes}
+use Rattle.plain.specs.Plain.{plain}
+use Rattle.plain.specs.Damage.{sound}
+use Rattle.owner.specs.declared.Document.{Document}
+use Rattle.owner.specs.Owner.{readOf, readStatus}
+use Rattle.serving.specs.declared.Served.the-variants.{Done}
+use Rattle.serving.specs.Serve.{served, servedTable, servedReply}
+use Rattle.serving.specs.Statuses.{statuses}
+use Rattle.promises.specs.Merge.{docAt, modeAt}
 
--- the same row without its document
-abbrev pub buried : Doc → Doc
-buried d = record { tomb = true; value = d .value; numbers = d .numbers }
+-- "A document is *expired* when its expiry is not 0 and the clock is at or past it."
+pub record Expired (clock : ℕ) (d : Doc) : Type 0 where
+  pub document : d .tomb ≡ false
+  pub ends : d .numbers .expiry ≡ 0 → ⊥
+  pub past : d .numbers .expiry ≤ clock
 
+-- "It is *live* when it is a document and not expired."
+pub record Live (clock : ℕ) (d : Doc) : Type 0 where
+  pub document : d .tomb ≡ false
+  pub unexpired : (d .numbers .expiry ≡ 0) ⊎ (clock < d .numbers .expiry)
+
+-- no row, a tombstone, or an expired document
+abbrev pub NotLive : ℕ → Option Doc → Type 0
+NotLive clock none = Unit {0}
+NotLive clock (some d) = (d .tomb ≡ true) ⊎ Expired clock d
+
+-- ---- frames
+abbrev pub opcode : List ℕ → ℕ
+opcode s = headerOf s .opcode
+
+abbrev pub headerCas : List ℕ → ℕ
+headerCas s = headerOf s .cas .0
+
+abbrev pub extrasIn : List ℕ → List ℕ
+extrasIn s = bytesIn s (extrasSpan (headerOf s))
+
+abbrev pub keyIn : List ℕ → Key
+keyIn s = bytesIn s (keySpan (headerOf s))
+
+-- the opcodes of each command with a key, loud and quiet
+abbrev pub gets : List ℕ
+gets = 0x00 ∷ 0x09 ∷ 0x0c ∷ 0x0d ∷ []
+
+abbrev pub sets : List ℕ
+sets = 0x01 ∷ 0x11 ∷ []
+
+abbrev pub adds : List ℕ
+adds = 0x02 ∷ 0x12 ∷ []
+
+abbrev pub replaces : List ℕ
+replaces = 0x03 ∷ 0x13 ∷ []
+
+abbrev pub deletes : List ℕ
+deletes = 0x04 ∷ 0x14 ∷ []
+
+abbrev pub counters : List ℕ
+counters = 0x05 ∷ 0x15 ∷ 0x06 ∷ 0x16 ∷ []
+
+abbrev pub withMetas : List ℕ
+withMetas = 0xa2 ∷ 0xa3 ∷ 0xa4 ∷ 0xa5 ∷ 0xa8 ∷ 0xa9 ∷ []
+
+abbrev pub keyed : List ℕ
+keyed = gets ++ (sets ++ (adds ++ (replaces ++ (deletes ++ (counters ++ withMetas)))))
+
+-- a counter's number where it begins, and its expiry: "20 extras (delta, initial, expiry)"
+abbrev pub initialIn : List ℕ → ℕ
+initialIn s = num (extrasIn s) 8 8
+
+abbrev pub counterExpiry : List ℕ → ℕ
+counterExpiry s = num (extrasIn s) 16 4
+
+-- a frame that needs a live document: any Get, Replace, Delete; any command with a header CAS that isn't 0; a counter with expiry 0xffffffff
+abbrev pub needsLive : List ℕ → Bool
+needsLive s =
+    among (opcode s) (gets ++ (replaces ++ deletes))
+    || ((among (opcode s) keyed && not (eqb (headerCas s) 0))
+    || (among (opcode s) counters && eqb (counterExpiry s) 0xffffffff))
+
+-- none of these fails
+abbrev pub Passes : List Check → Type 0
+Passes [] = Unit {0}
+Passes (c ∷ cs) = (c .fails ≡ false) × Passes cs
+
+-- a whole frame on an undamaged table, to which none of the statuses before 0x01 applies: 0x83, 0x81, 0x04 of form, of fields and by mode or clock, 0x03, 0x07
+pub record Reaches (b : List ℕ) (clock : ℕ) (s : List ℕ) (room : ℕ) : Type 0 where
+  pub bytes : Bytes b
+  pub undamaged : sound b ≡ true
+  pub roomy : 1302 ≤ room
+  pub whole : gateOf s ≡ Whole (headerOf s)
+  pub earlier : Passes (take 7 (statuses (tableOf b) clock s (headerOf s)))
+
+-- the frame is served with this status
+abbrev pub Answers : List ℕ → ℕ → List ℕ → ℕ → ℕ → Type 0
+Answers b clock s room status = (len : ℕ) × (served b clock s room ≡ Done status (24 + headerOf s .body) len)
+
+-- the frame is not served with this status
+abbrev pub Avoids : List ℕ → ℕ → List ℕ → ℕ → ℕ → Type 0
+Avoids b clock s room status = (used len : ℕ) → served b clock s room ≡ Done status used len → ⊥
+
+-- ---- a key without a live document
+-- what needs one is answered 0x01, and no table byte changes
+abbrev pub DeadIsMissing : Type 0
+DeadIsMissing =
+    (b : List ℕ) (clock : ℕ) (s : List ℕ) (room : ℕ) → Reaches b clock s room → NotLive clock (docAt b (keyIn s)) → needsLive s ≡ true
+    → Answers b clock s room 0x01 × (servedTable b clock s room ≡ b)
+
+-- Set and Add without a header CAS are not refused with 0x01 or 0x02
+abbrev pub DeadIsWritten : Type 0
+DeadIsWritten =
+    (b : List ℕ) (clock : ℕ) (s : List ℕ) (room : ℕ) → NotLive clock (docAt b (keyIn s)) → among (opcode s) (sets ++ adds) ≡ true → headerCas s ≡ 0
+    → Avoids b clock s room 0x01 × Avoids b clock s room 0x02
+
+-- a document that begins a count
+pub record BeginsAt (initial : ℕ) (d : Doc) : Type 0 where
+  pub document : d .tomb ≡ false
+  pub value : d .value ≡ digits initial
+  pub flags : d .numbers .flags ≡ 0
+
+-- a counter without a header CAS begins at its initial number, and isn't refused with 0x01, 0x02 or 0x06
+pub record CountsAnew (b : List ℕ) (clock : ℕ) (s : List ℕ) (room : ℕ) : Type 0 where
+  pub found : Avoids b clock s room 0x01
+  pub free : Avoids b clock s room 0x02
+  pub number : Avoids b clock s room 0x06
+  pub stored : Answers b clock s room 0 → (d : Doc) × ((docAt (servedTable b clock s room) (keyIn s) ≡ some d) × BeginsAt (initialIn s) d)
+
+abbrev pub DeadCounts : Type 0
+DeadCounts =
+    (b : List ℕ) (clock : ℕ) (s : List ℕ) (room : ℕ) → Bytes b → Bytes s → NotLive clock (docAt b (keyIn s)) → among (opcode s) counters ≡ true
+    → headerCas s ≡ 0 → (counterExpiry s ≡ 0xffffffff → ⊥) → CountsAnew b clock s room
+
+-- ---- an expired document
+-- the tombstone with its revision and CAS: "A tombstone has no value, flags 0, expiry 0."
+abbrev pub tombstoneOf : Doc → Doc
+tombstoneOf d = record { tomb = true; value = []; numbers = record { flags = 0; expiry = 0; revision = d .numbers .revision; cas = d .numbers .cas } }
+
+-- the table that has that tombstone in its row
+abbrev pub buried : List ℕ → Key → Doc → List ℕ
+buried b k d = tableBytes (record { head = tableOf b .head; rows = plain .put (tableOf b .rows) k (tombstoneOf d) })
+
+pub record AsBuried (b grave : List ℕ) (clock : ℕ) (s out : List ℕ) : Type 0 where
+  pub undamaged : sound grave ≡ true
+  pub answer : served b clock s (length out) ≡ served grave clock s (length out)
+  pub reply : servedReply b clock s out ≡ servedReply grave clock s out
+  -- both tables end with the same bytes, or neither changes
+  pub table : (servedTable b clock s (length out) ≡ servedTable grave clock s (length out))
+      ⊎ ((servedTable b clock s (length out) ≡ b) × (servedTable grave clock s (length out) ≡ grave))
+  pub others : (k : Key) → same (keyIn s) k ≡ false → docAt (servedTable b clock s (length out)) k ≡ docAt (servedTable grave clock s (length out)) k
+
+-- any frame but a with-meta one is answered, and leaves every other row, as on the undamaged table with the tombstone
 abbrev pub ExpiredIsDead : Type 0
 ExpiredIsDead =
-    (h : Head) (d : Doc) (free : Bool) (clock : ℕ) (q : Request) → d .tomb ≡ false → expired (d .numbers .expiry) clock ≡ true
-    → decide h (some d) free clock q ≡ decide h (some (buried d)) free clock q
+    (b : List ℕ) (clock : ℕ) (s out : List ℕ) (d : Doc) → Bytes b → Bytes s → sound b ≡ true → docAt b (keyIn s) ≡ some d → Expired clock d
+    → among (opcode s) withMetas ≡ false → AsBuried b (buried b (keyIn s) d) clock s out
 
--- over serving: a table with the expired document and one with the same row without its document decide and answer any frame for its key alike
-abbrev pub ExpiredServed : Type 0
-ExpiredServed =
-    (t u : Table) (clock : ℕ) (s : List ℕ) (h : Header) (d : Doc) → t .head ≡ u .head → freeRows (t .rows) ≡ freeRows (u .rows)
-    → findRow (t .rows) (bytesIn s (keySpan h)) ≡ some d → findRow (u .rows) (bytesIn s (keySpan h)) ≡ some (buried d)
-    → d .tomb ≡ false → expired (d .numbers .expiry) clock ≡ true
-    → (decisionOn t clock s h ≡ decisionOn u clock s h) × (answerOn t clock s h ≡ answerOn u clock s h)
+-- with-meta writes without options 0x01 and 0x08 compare the row's own numbers: "a key with any row, expired or tombstone included, is compared; the write must be greater, else 0x02."
+abbrev pub DeadIsCompared : Type 0
+DeadIsCompared =
+    (b : List ℕ) (clock : ℕ) (s : List ℕ) (room : ℕ) (d : Doc) → Reaches b clock s room → docAt b (keyIn s) ≡ some d → NotLive clock (some d)
+    → among (opcode s) withMetas ≡ true → headerCas s ≡ 0 → eqb (withMeta (extrasIn s) .options % 2) 1 ≡ false
+    → eqb (withMeta (extrasIn s) .options / 8 % 2) 1 ≡ false
+    → (greater (modeAt b) (withMeta (extrasIn s) .numbers) (d .numbers) ≡ false → Answers b clock s room 0x02)
+    × (greater (modeAt b) (withMeta (extrasIn s) .numbers) (d .numbers) ≡ true → Avoids b clock s room 0x01 × Avoids b clock s room 0x02)
 
--- and a read leaves everything: whatever the row, a Get stores nothing and keeps the head
+-- ---- one liveness
+-- what a status tells of the key's document: 0x01 that it isn't live, and to an Add without a header CAS 0x02 that it is
+abbrev pub toldLive : List ℕ → ℕ → Bool
+toldLive s status = cond (needsLive s) (not (eqb status 0x01)) (eqb status 0x02)
+
+-- what the owner's read tells of it
+abbrev pub readLive : Document → Bool
+readLive r = not (eqb (readStatus r) 0x01)
+
+-- at one clock, a document is live to one command exactly if it is live to the owner's read, and so to all of them
+abbrev pub OneLiveness : Type 0
+OneLiveness =
+    (b : List ℕ) (clock : ℕ) (s : List ℕ) (room status : ℕ) → Reaches b clock s room → (needsLive s || among (opcode s) adds) ≡ true
+    → Answers b clock s room status → toldLive s status ≡ readLive (readOf b clock (keyIn s))
+
+-- and a live document is found: no such frame is answered 0x01, the owner's read shows its numbers
+abbrev pub LiveIsFound : Type 0
+LiveIsFound =
+    (b : List ℕ) (clock : ℕ) (s : List ℕ) (room : ℕ) (d : Doc) → Reaches b clock s room → docAt b (keyIn s) ≡ some d → Live clock d
+    → (needsLive s || among (opcode s) adds) ≡ true → (Avoids b clock s room 0x01) × (readLive (readOf b clock (keyIn s)) ≡ true)
+
+-- a counter goes on counting: "flags and expiry stay"
+abbrev pub LiveCounts : Type 0
+LiveCounts =
+    (b : List ℕ) (clock : ℕ) (s : List ℕ) (room : ℕ) (d : Doc) → Bytes b → Bytes s → docAt b (keyIn s) ≡ some d → Live clock d
+    → among (opcode s) counters ≡ true → Answers b clock s room 0
+    → (e : Doc) × ((docAt (servedTable b clock s room) (keyIn s) ≡ some e)
+    × ((e .numbers .flags ≡ d .numbers .flags) × (e .numbers .expiry ≡ d .numbers .expiry)))
+
+-- a Get of any form, hit or miss, changes no table byte, whatever the memory
 abbrev pub GetKeeps : Type 0
-GetKeeps =
-    (h : Head) (row : Option Doc) (free : Bool) (clock : ℕ) (q : Request) (keyed : Bool) → q .command ≡ Get keyed
-    → (decide h row free clock q .effect .store ≡ none) × (decide h row free clock q .effect .head ≡ h)
+GetKeeps = (b : List ℕ) (clock : ℕ) (s : List ℕ) (room : ℕ) → Bytes b → among (opcode s) gets ≡ true → servedTable b clock s room ≡ b

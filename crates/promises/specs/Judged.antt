@@ -7,30 +7,25 @@ use mathlib.Core.Option.{Option, none, some}
 use lib.ListN.{length, take, replicate}
 use Rattle.document.specs.Documents.{Key, Doc}
 use Rattle.rows.specs.Table.{tableBytes, fresh}
-use Rattle.serving.specs.declared.Served.{Served}
-use Rattle.serving.specs.declared.Served.the-variants.{Refused, Done}
-use Rattle.serving.specs.Serve.{servedReply}
-use Rattle.promises.specs.Calls.{Call, servedBy, tableServed, bytesAfter, answers, statusIn}
+use Rattle.serving.specs.Serve.{servedLength, servedReply}
+use Rattle.promises.specs.Calls.{Call, servedBy, tableServed, bytesAfter, callOutcomes, callStatuses}
 use Rattle.promises.specs.Merge.{docAt}
 
 -- ---- what comes of a list of calls
--- the bytes of a reply: as many of the reply area as the answer says
-abbrev replyIn : Served → List ℕ → List ℕ
-replyIn (Refused n need) area = []
-replyIn (Done status used len) area = take len area
-
+-- a reply is as many bytes of the reply area as the answer says
 abbrev replies : List ℕ → List Call → List (List ℕ)
 replies b [] = []
-replies b (c ∷ cs) = replyIn (servedBy b c) (servedReply b (c .clock) (c .received) (c .reply)) ∷ replies (tableServed b c) cs
+replies b (c ∷ cs) = take (servedLength (servedBy b c)) (servedReply b (c .clock) (c .received) (c .reply)) ∷ replies (tableServed b c) cs
 
--- the status and the whole reply of each call, and the document that the key's row holds after the last
+-- outcome, status and the whole reply of each call, and the document that the key's row holds after the last
 pub record Outcome : Type 0 where
+  pub outcomes : List ℕ
   pub statuses : List ℕ
   pub replies : List (List ℕ)
   pub stored : Option Doc
 
 abbrev outcome : List ℕ → List Call → Key → Outcome
-outcome b cs k = record { statuses = map statusIn (answers b cs); replies = replies b cs; stored = docAt (bytesAfter b cs) k }
+outcome b cs k = record { outcomes = callOutcomes b cs; statuses = callStatuses b cs; replies = replies b cs; stored = docAt (bytesAfter b cs) k }
 
 pub record Example : Type 0 where
   pub given : Outcome
@@ -114,12 +109,16 @@ mydoc flags = doc myvalue flags 10 20 30
 abbrev until : ℕ → Option Doc
 until expiry = doc world 0xdeadbeef expiry 1 1
 
+-- every call is served
+abbrev wants : List ℕ → List (List ℕ) → Option Doc → Outcome
+wants statuses r d = record { outcomes = map (λ (n : ℕ). 0) statuses; statuses = statuses; replies = r; stored = d }
+
 -- ---- the examples: calls on `mykey` and a table of a mode for vbucket 3, calls on `Hello` and a last-write-wins table for vbucket 0
 abbrev mine : ℕ → List Call → List ℕ → List (List ℕ) → Option Doc → Example
-mine mode cs statuses r d = record { given = outcome (tableBytes (fresh 1 1 mode 3)) cs mykey; wanted = record { statuses = statuses; replies = r; stored = d } }
+mine mode cs statuses r d = record { given = outcome (tableBytes (fresh 1 1 mode 3)) cs mykey; wanted = wants statuses r d }
 
 abbrev hellos : List Call → List ℕ → List (List ℕ) → Option Doc → Example
-hellos cs statuses r d = record { given = outcome (tableBytes (fresh 1 1 2 0)) cs hello; wanted = record { statuses = statuses; replies = r; stored = d } }
+hellos cs statuses r d = record { given = outcome (tableBytes (fresh 1 1 2 0)) cs hello; wanted = wants statuses r d }
 
 -- a value is set that never expires, and a counter follows: its reply has a number, the row its digits
 abbrev counts : List ℕ → ℕ → ℕ → ℕ → List ℕ → Example

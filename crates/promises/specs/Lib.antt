@@ -3,4 +3,5 @@ pub mod Merge
 pub mod Table
 pub mod Expiry
 pub mod Judged
+pub mod Replies
 pub mod Worked

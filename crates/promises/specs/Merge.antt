@@ -17,14 +17,14 @@ use Rattle.header.specs.Header.{headerOf}
 use Rattle.rules.specs.WithMeta.{withMeta}
 use Rattle.request.specs.declared.Gate.the-variants.{Whole}
 use Rattle.request.specs.Reading.{gateOf, frameStatus, extrasSpan, bytesIn}
-use Rattle.commands.specs.Merging.{writeOf}
+use Rattle.decision.specs.Merging.{writeOf}
 use Rattle.decode.specs.Decode.{requestOf}
 use Rattle.rows.specs.Table.{tableOf}
 use Rattle.plain.specs.Damage.{sound}
 use Rattle.rows.specs.Find.{findRow, freeRows}
 use Rattle.merge.specs.Writes.{_∈_, Greatest, optionList, for, isWritten, newKeys, largestCas, verdicts, applied}
 use Rattle.merge.specs.Merge.{All}
-use Rattle.promises.specs.Calls.{Call, bytesAfter, answers, statusIn}
+use Rattle.promises.specs.Calls.{Call, bytesAfter, callOutcomes, callStatuses}
 
 -- a key's document in a table's memory: "what its row holds, expired or not"
 abbrev pub docAt : List ℕ → Key → Option Doc
@@ -60,20 +60,29 @@ abbrev pub candidates : List ℕ → List Call → Key → List Doc
 candidates b cs k = optionList (docAt b k) ++ for k (writes cs)
 
 pub record Premises (b : List ℕ) (cs : List Call) : Type 0 where
+  -- "start from any undamaged active table"
   pub bytes : Bytes b
   pub undamaged : sound b ≡ true
   pub active : tableOf b .head .state ≡ 1
   pub merging : All (MergingCall (modeAt b) (tableOf b .head .vbucket)) cs
+  -- "New keys have a write in the list and no row at the start; at least as many rows are free then."
   pub room : newKeys (λ k. isSome (docAt b k)) (writes cs) ≤ freeRows (tableOf b .rows)
+  -- "documents for a key that agree in all four numbers being the same"
   pub unique : (k : Key) (x y : Doc) → x ∈ candidates b cs k → y ∈ candidates b cs k → x .numbers ≡ y .numbers → x ≡ y
 
 pub record Merged (b : List ℕ) (cs : List Call) : Type 0 where
+  -- "each written key ends with the greatest, in the published order, of the documents that its writes carry and the one stored at the start"
   pub winner : (k : Key) → isWritten k (writes cs) ≡ true
       → (d : Doc) × (docAt (bytesAfter b cs) k ≡ some d) × Greatest (modeAt b) d (candidates b cs k)
+  -- "Every other document is as before, and no other key gains one."
   pub others : (k : Key) → isWritten k (writes cs) ≡ false → docAt (bytesAfter b cs) k ≡ docAt b k
-  pub statuses : map statusIn (answers b cs) ≡ verdicts (modeAt b) (docAt b) [] (writes cs)
+  -- "each with outcome 0"
+  pub served : All (λ n. n ≡ 0) (callOutcomes b cs)
+  pub statuses : callStatuses b cs ≡ verdicts (modeAt b) (docAt b) [] (writes cs)
+  -- "The mark ends as the largest of itself and the CAS numbers of the writes with status 0", and nothing else of the head changes
   pub mark : tableOf (bytesAfter b cs) .head
-      ≡ marked (tableOf b .head) (largestCas (tableOf b .head .mark .0) (applied (map statusIn (answers b cs)) (writes cs)))
+      ≡ marked (tableOf b .head) (largestCas (tableOf b .head .mark .0) (applied (callStatuses b cs) (writes cs)))
+  -- "in last-write-wins, of all the writes"
   pub mark-last : modeAt b ≡ LastWrite → tableOf (bytesAfter b cs) .head .mark .0 ≡ largestCas (tableOf b .head .mark .0) (writes cs)
   pub undamaged : sound (bytesAfter b cs) ≡ true
 

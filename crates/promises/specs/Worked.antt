@@ -11,7 +11,7 @@ use Rattle.document.specs.declared.Head.{Head}
 use Rattle.document.specs.Documents.{Key, Doc}
 use Rattle.rows.specs.Row.{Row}
 use Rattle.rows.specs.Table.{tableBytes}
-use Rattle.promises.specs.Calls.{Call, bytesAfter, answers, statusIn}
+use Rattle.promises.specs.Calls.{Call, bytesAfter, callStatuses}
 use Rattle.promises.specs.Merge.{Premises, Merged, docAt}
 use Rattle.promises.specs.Judged.{at, ask, hello, mykey}
 
@@ -78,7 +78,7 @@ calls mode =
 pub record Gives (mode : ℕ) (wanted : List ℕ) (winner : Doc) : Type 0 where
   pub premises : Premises (table mode) (calls mode)
   pub merged : Merged (table mode) (calls mode)
-  pub statuses : map statusIn (answers (table mode) (calls mode)) ≡ wanted
+  pub statuses : callStatuses (table mode) (calls mode) ≡ wanted
   -- every byte of the table
   pub after : bytesAfter (table mode) (calls mode) ≡ end mode winner
   pub hello-ends : docAt (bytesAfter (table mode) (calls mode)) hello ≡ some winner

@@ -17,7 +17,7 @@ use Rattle.rules.proofs.RuleLaws.{key-most}
 use Rattle.request.specs.Reading.{frameStatus, bytesIn, extrasSpan, keySpan, valueSpan}
 use Rattle.document.specs.Documents.{Key, docValue}
 use Rattle.document.specs.declared.Head.{Head}
-use Rattle.commands.specs.declared.Decision.{Decision}
+use Rattle.decision.specs.declared.Decision.{Decision}
 use Rattle.rows.specs.Row.{Row}
 use Rattle.rows.specs.Table.{headOf, tableOf}
 use Rattle.rows.specs.Find.{findRow}

@@ -14,10 +14,10 @@ use Rattle.octets.proofs.Lists.{before, written-none}
 use Rattle.header.specs.declared.Header.{Header}
 use Rattle.header.specs.Header.{headerBytes}
 use Rattle.header.proofs.HeaderLaws.{length-header}
-use Rattle.commands.specs.declared.Reply.{Reply}
-use Rattle.commands.specs.declared.Reply.the-variants.{Bare, Found, Counted, Version as VersionReply}
-use Rattle.commands.specs.declared.Decision.{Decision}
-use Rattle.commands.specs.Decide.{replyKey}
+use Rattle.effects.specs.declared.Reply.{Reply}
+use Rattle.effects.specs.declared.Reply.the-variants.{Bare, Found, Counted, Version as VersionReply}
+use Rattle.decision.specs.declared.Decision.{Decision}
+use Rattle.decision.specs.Decide.{replyKey}
 use Rattle.serving.specs.Reply.{bodyOf, replyHeader, replyBytes}
 use Rattle.reply.specs.Fitting.{unfit, fittingReply}
 

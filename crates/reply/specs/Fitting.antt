@@ -6,7 +6,7 @@ use mathlib.Core.List.{List, []}
 use lib.ListN.{length}
 use lib.Dec.{ltb}
 use Rattle.header.specs.declared.Header.{Header}
-use Rattle.commands.specs.declared.Decision.{Decision}
+use Rattle.decision.specs.declared.Decision.{Decision}
 use Rattle.serving.specs.Reply.{headerWith, replyBytes}
 
 -- a room under 1,302 bytes, a key over 250 or a value over 1,024

@@ -22,9 +22,9 @@ use Rattle.request.specs.declared.Gate.{Gate}
 use Rattle.request.specs.declared.Gate.the-variants.{Stop, Whole}
 use Rattle.request.specs.declared.Reading.the-variants.{Accepted}
 use Rattle.request.specs.declared.Written.the-variants.{Refused, Wrote}
-use Rattle.request.specs.Reading.{gateOf, gated, extrasSpan, keySpan, valueSpan, bytesIn, fieldsOf, frameOf, frameStatus, wholeReading, reading}
+use Rattle.request.specs.Reading.{gateOutcome, readingOutcome, gateOf, gated, extrasSpan, keySpan, valueSpan, bytesIn, fieldsOf, frameOf, frameStatus, wholeReading, reading}
 use Rattle.request.specs.Writing.{headerFor, frameBytes, lengthsHeld, refuses, writing, FieldsFit}
-use Rattle.request.specs.Claims.{Reads, WrittenReads, Writes, ReadWrites, RefusedReads, HeaderHolds}
+use Rattle.request.specs.Claims.{GateDecides, Reads, WrittenReads, Writes, ReadWrites, RefusedReads, HeaderHolds}
 use Rattle.request.proofs.Gated.{WholeFrame, whole-frame}
 use Rattle.request.proofs.Frames.{h, frame, body, extras-back, key-back, value-back, reading-long, reading-frame}
 use Rattle.request.proofs.WriterLaws.{alone, wrote}
@@ -55,7 +55,7 @@ module _ (f : Fields) (extras key value : List ℕ) (p : FieldsFit f) (w : lengt
   refuses-by rest =
       cases (ltb 1400 (length extras + length key + length value))
       (λ t. rw (t, reading-long f extras key value rest p w (ltb-true _ _ t)))
-      (λ t. rw (t, reading-frame f extras key value rest p w (ltb-false _ _ t)) (cases (eqb rules 0) (λ u. rw u) (λ u. rw u)))
+      (λ t. rw (t, reading-frame f extras key value rest p w (ltb-false _ _ t)) (cases (eqb rules 0) (λ u. rw u) (λ u. rw (u, u))))
 
   refuses-alike : (rest : List ℕ) → refuses (reading (frameBytes f extras key value)) ≡ refuses (reading (frame f extras key value rest))
   refuses-alike rest = sym (ap (λ (s : List ℕ). refuses (reading s)) (alone f extras key value 0)) ∙ refuses-by [] ∙ sym (refuses-by rest)
@@ -118,6 +118,15 @@ was-whole : (s : List ℕ) (g : Frame) (h : Header) → wholeReading s h ≡ Acc
 unfolding wholeReading
 was-whole s g h e =
     cond-elim (eqb (frameStatus s h) 0) _ _ _ e (λ t z. (eqb-true _ _ t, cc)) (λ t z. absurd (let y : _≡_ {A = ℕ} 0 1 = cc in omega arith))
+
+gated-outcome : (s : List ℕ) (w : Gate) → readingOutcome (gated s w) ≡ gateOutcome w
+unfolding wholeReading
+gated-outcome s (Stop n need) = refl
+gated-outcome s (Whole h) = cases (eqb (frameStatus s h) 0) (λ t. rw t) (λ t. rw t)
+
+pub gate-decides : GateDecides
+unfolding reading
+gate-decides s = gated-outcome s (gateOf s)
 
 was-gated : (s : List ℕ) (g : Frame) (w : Gate) → gateOf s ≡ w → gated s w ≡ Accepted g → WasRead s g (headerOf s)
 was-gated s g (Stop n need) q e = absurd (let y : _≡_ {A = ℕ} 0 1 = cc in omega arith)

@@ -61,7 +61,7 @@ module _ (f : Fields) (extras key value : List ℕ) (room : ℕ) where
       is-read = sym (ap reading alone) ∙ reading-frame f extras key value [] p (small-held e n) n
 
       pub against-rules : (status (headerFor f (length extras) (length key) (length value)) extras value ≡ 0 → ⊥) → writing f extras key value room ≡ Refused
-      against-rules s = by-reading (small-held e n) ∙ rw (is-read, ne-eqb _ _ s)
+      against-rules s = by-reading (small-held e n) ∙ rw (is-read, ne-eqb _ _ s, ne-eqb _ _ s)
 
       module _ (s : status (headerFor f (length extras) (length key) (length value)) extras value ≡ 0) where
         pub no-room : room < 24 + (length extras + length key + length value) → writing f extras key value room ≡ NoRoom

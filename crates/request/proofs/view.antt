@@ -1,1 +1,1 @@
-mod Walk
+pub mod Walk

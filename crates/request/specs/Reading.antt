@@ -18,6 +18,15 @@ use Rattle.request.specs.declared.Gate.the-variants.{Stop, Whole}
 use Rattle.request.specs.declared.Reading.{Reading}
 use Rattle.request.specs.declared.Reading.the-variants.{Outcome, Status, Accepted}
 
+-- 01's numbers for the gate: its outcome, 0 where a whole frame stands there, and the bytes that it says are needed from the frame's start, 0 where 01 has it say none
+abbrev pub gateOutcome : Gate → ℕ
+gateOutcome (Stop n need) = n
+gateOutcome (Whole h) = 0
+
+abbrev pub gateNeeded : Gate → ℕ
+gateNeeded (Stop n need) = need
+gateNeeded (Whole h) = 0
+
 -- 01's numbers for an answer of the reader: its outcome, 0 where a whole frame stands there, and its status, 0 where no rule applies
 abbrev pub readingOutcome : Reading → ℕ
 readingOutcome (Outcome n) = n

@@ -2,18 +2,17 @@
 -- then with outcome 4 exactly if the room is too small for that frame; the output is then unchanged. Otherwise bytes past the frame are unchanged."
 use Prim.Native.Nat.{ℕ, _+_, _^_, _<_}
 use mathlib.Core.List.{List, _++_}
-use mathlib.Core.Bool.{Bool, true, false, not, _&&_, cond}
+use mathlib.Core.Bool.{Bool, not, _&&_, cond}
 use lib.ListN.{length}
-use lib.Dec.{ltb}
+use lib.Dec.{ltb, eqb}
 use Rattle.octets.specs.Parts.{written}
 use Rattle.header.specs.Header.{headerBytes}
 use Rattle.header.specs.declared.Header.{Header}
 use Rattle.request.specs.declared.Fields.{Fields}
 use Rattle.request.specs.declared.Reading.{Reading}
-use Rattle.request.specs.declared.Reading.the-variants.{Outcome, Status, Accepted}
 use Rattle.request.specs.declared.Written.{Written}
 use Rattle.request.specs.declared.Written.the-variants.{Refused, NoRoom, Wrote}
-use Rattle.request.specs.Reading.{reading}
+use Rattle.request.specs.Reading.{readingOutcome, readingStatus, reading}
 
 -- 01's numbers for an answer of the writer: status 0x04 or outcome 4, 0 where the frame was written
 abbrev pub statusNo : Written → ℕ
@@ -48,10 +47,9 @@ frameBytes f extras key value = headerBytes (headerFor f (length extras) (length
 unfoldable pub lengthsHeld : ℕ → ℕ → ℕ → Bool
 lengthsHeld e k v = ltb e 256 && (ltb k 65536 && ltb (e + k + v) (2 ^ 32))
 
+-- 01's number for this answer of the reader is an outcome or a status other than 0
 abbrev pub refuses : Reading → Bool
-refuses (Outcome n) = true
-refuses (Status n) = true
-refuses (Accepted f) = false
+refuses r = not (eqb (readingOutcome r) 0 && eqb (readingStatus r) 0)
 
 -- what the writer answers for a room of so many bytes
 unfoldable pub writing : Fields → List ℕ → List ℕ → List ℕ → ℕ → Written

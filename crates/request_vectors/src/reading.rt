@@ -1,4 +1,5 @@
 // The answer to a line that reads.
+use crate::parts;
 use crate::show;
 use crate::text;
 use request::Frame;
@@ -12,12 +13,12 @@ fn is_with_meta(opcode: u8) -> bool {
     }
 }
 
-// Writes the request again from what was read of it, and compares with the frame that was received.
+// Writes the request again from its fields and from the parts that the view shows, and compares with the frame that was received.
 fn show_again(received: &[u8], f: Frame) {
     let mut out = io::buffer();
-    let extras = request::bytes_in(received, f.extras);
-    let key = request::bytes_in(received, f.key);
-    let value = request::bytes_in(received, f.value);
+    let extras = parts::extras(received);
+    let key = parts::key(received);
+    let value = parts::value(received);
     let size = match request::write(f.fields, extras, key, value, &mut out) {
         Written::Wrote(n) => n,
         _ => 0,
@@ -34,7 +35,7 @@ fn show_again(received: &[u8], f: Frame) {
 fn show_accepted(received: &[u8], f: Frame) {
     show::frame(f);
     if is_with_meta(f.fields.opcode) {
-        show::with_meta(rules::with_meta(request::bytes_in(received, f.extras)));
+        show::with_meta(rules::with_meta(parts::extras(received)));
     }
     show_again(received, f);
 }

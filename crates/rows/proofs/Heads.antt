@@ -1,13 +1,18 @@
--- A table's head: its first 16 bytes say it.
+-- A table's head: its bytes are 16, and the first 16 bytes say it.
 use native.Mathlib.Omega.{arith}
 use Prim.Native.Nat.{ℕ, zero, suc, _+_, _≤_}
 use mathlib.Core.Path.{_≡_, refl}
 use mathlib.Core.List.{List, [], _∷_}
-use lib.ListN.{take}
+use lib.ListN.{length, take}
 use lib.Seq.{take-take}
 use Rattle.octets.specs.Parts.{part}
-use Rattle.octets.specs.BigEndian.{be}
-use Rattle.rows.specs.Table.{headOf}
+use Rattle.octets.specs.BigEndian.{be, bytesOf}
+use Rattle.document.specs.declared.Head.{Head}
+use Rattle.rows.specs.Table.{headOf, headBytes}
+
+pub head-length : (h : Head) → length (headBytes h) ≡ 16
+unfolding headBytes bytesOf
+head-length h = refl
 
 -- a part of a part
 pub part-in : (s : List ℕ) (a v n : ℕ) → a + v ≤ n → part (take n s) a v ≡ part s a v

@@ -1,5 +1,3 @@
 pub mod RowLaws
 pub mod OneRow
 pub mod Heads
-pub mod Writes
-pub mod Over

@@ -3,4 +3,3 @@ pub mod Table
 pub mod RowRules
 pub mod Good
 pub mod Find
-pub mod Over

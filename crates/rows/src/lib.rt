@@ -5,8 +5,7 @@ pub mod row;
 
 ghost use mathlib.Core.Path.{_≡_};
 ghost use Prim.Native.Nat.{_-_, _/_};
-ghost use Rattle.octets.specs.Parts.{written};
-ghost use Rattle.rows.specs.Table.{headOf, headBytes};
+ghost use Rattle.rows.specs.Table.{headOf};
 use document::Head;
 use numbers::Cas;
 use numbers::Numbers;
@@ -40,20 +39,6 @@ pub fn head_of(s: &[u8]) -> Head
         clock: octets::be32(s, 4),
         mark: Cas(octets::be64(s, 8)),
     }
-}
-
-// Writes a head. Memory with no room for one is left unchanged.
-pub fn put_head(b: &mut [u8], h: Head)
-    ensures { λ _. ⌜ now (b .exit) ≡ written (now (b .entry)) 0 (headBytes h) ⌝ }
-{
-    if b.len() < HEADER {
-        return;
-    }
-    octets::put_be(b, 0, 1, h.state as u64);
-    octets::put_be(b, 1, 1, h.mode as u64);
-    octets::put_be(b, 2, 2, h.vbucket as u64);
-    octets::put_be(b, 4, 4, h.clock as u64);
-    octets::put_be(b, 8, 8, h.mark.0);
 }
 
 // How many rows memory of this size has.

@@ -1,15 +1,7 @@
-// A row's bytes: its fixed part read and written, and an entry written over a row.
+// A row's fixed part, read.
 ghost use mathlib.Core.Path.{_≡_};
-ghost use Prim.Native.Nat.{_+_, _≤_};
-ghost use lib.ListN.{length};
-ghost use lib.Dec.{leb};
-ghost use Rattle.octets.specs.Parts.{written};
 ghost use Rattle.document.specs.Stored.{metadataOf};
-ghost use Rattle.rows.specs.Row.{slotOf, docOf, sizeBytes, shortBytes, longBytes, slotBytes, kindOf};
-ghost use Rattle.rows.specs.Over.{overBytes, overRow};
-use crate::FIXED;
-use crate::ROW;
-use crate::SPACE;
+ghost use Rattle.rows.specs.Row.{slotOf, docOf};
 use crate::Slot;
 use document::Metadata;
 use numbers::Cas;
@@ -50,96 +42,5 @@ pub fn metadata(r: &[u8]) -> Metadata
             revision: Revision(octets::be64(r, 16)),
             cas: Cas(octets::be64(r, 24)),
         },
-    }
-}
-
-fn put_sizes(s: &mut [u8], at: usize, h: Slot)
-    requires { ⌜ at + 32 ≤ length (now s) ⌝ }
-    ensures { λ _. ⌜ now (s .exit) ≡ written (now (s .entry)) at (sizeBytes h) ⌝ }
-{
-    octets::put_be(s, at, 2, h.kind as u64);
-    octets::put_be(s, at + 2, 2, h.keylen as u64);
-    octets::put_be(s, at + 4, 4, h.vallen as u64);
-}
-
-fn put_short(s: &mut [u8], at: usize, h: Slot)
-    requires { ⌜ at + 24 ≤ length (now s) ⌝ }
-    ensures { λ _. ⌜ now (s .exit) ≡ written (now (s .entry)) at (shortBytes h) ⌝ }
-{
-    octets::put_be(s, at, 4, h.numbers.flags as u64);
-    octets::put_be(s, at + 4, 4, h.numbers.expiry as u64);
-}
-
-fn put_long(s: &mut [u8], at: usize, h: Slot)
-    requires { ⌜ at + 16 ≤ length (now s) ⌝ }
-    ensures { λ _. ⌜ now (s .exit) ≡ written (now (s .entry)) at (longBytes h) ⌝ }
-{
-    octets::put_be(s, at, 8, h.numbers.revision.0);
-    octets::put_be(s, at + 8, 8, h.numbers.cas.0);
-}
-
-fn put_slot(s: &mut [u8], at: usize, h: Slot)
-    requires { ⌜ at + 32 ≤ length (now s) ⌝ }
-    ensures { λ _. ⌜ now (s .exit) ≡ written (now (s .entry)) at (slotBytes h) ⌝ }
-{
-    put_sizes(s, at, h);
-    put_short(s, at + 8, h);
-    put_long(s, at + 16, h);
-}
-
-fn kind_of(tomb: bool) -> u16
-    ensures { λ r. ⌜ r ≡ kindOf tomb ⌝ }
-{
-    if tomb {
-        return 2;
-    }
-    1
-}
-
-// Writes an entry over a row of 1,312 bytes. Of what stands after its value, only the bytes that the value before it used
-// become zero: old is that value's length. Where the row has another length or the entry doesn't fit, nothing changes.
-pub fn put_row(row: &mut [u8], key: &[u8], m: Metadata, value: &[u8], old: usize)
-    ensures { λ _. ⌜ now (row .exit) ≡ overRow (now (row .entry)) (record { key = now (key .entry); doc = record { tomb = m .tomb; value = now (value .entry); numbers = m .numbers } }) old ⌝ }
-{
-    if row.len() != ROW {
-        return;
-    }
-    if !fits(key.len(), value.len()) {
-        return;
-    }
-    put_entry(row, key, m, value, old);
-}
-
-// Whether a key and a value of these lengths fit a row.
-pub fn fits(k: usize, v: usize) -> bool
-    ensures { λ r. ⌜ r ≡ leb (k + v) 1280 ⌝ }
-{
-    if SPACE < k {
-        return false;
-    }
-    if SPACE < v {
-        return false;
-    }
-    k + v <= SPACE
-}
-
-fn put_entry(row: &mut [u8], key: &[u8], m: Metadata, value: &[u8], old: usize)
-    requires { ⌜ (length (now row) ≡ 1312) × (length (now key) + length (now value) ≤ 1280) ⌝ }
-    ensures { λ _. ⌜ now (row .exit) ≡ overBytes (now (row .entry)) (record { key = now (key .entry); doc = record { tomb = m .tomb; value = now (value .entry); numbers = m .numbers } }) old ⌝ }
-{
-    let k = key.len();
-    let v = value.len();
-    let n = m.numbers;
-    let h = Slot {
-        kind: kind_of(m.tomb),
-        keylen: k as u16,
-        vallen: v as u32,
-        numbers: n,
-    };
-    put_slot(row, 0, h);
-    octets::put_bytes(row, FIXED, key);
-    octets::put_bytes(row, FIXED + k, value);
-    if v < old {
-        octets::put_zeros(row, FIXED + k + v, old - v);
     }
 }

@@ -1,35 +1,31 @@
 -- Laws of specs/Section.antt: the walk over the fields of an extended meta section, one field at a time.
 use Prim.Native.Nat.{ℕ, zero, suc, _-_, _≤_, _<_}
-use mathlib.Core.Path.{_≡_, refl, sym, _∙_}
-use mathlib.Core.List.{List, [], _∷_}
+use mathlib.Core.Path.{_≡_, refl, _∙_}
+use mathlib.Core.List.{List, []}
 use mathlib.Core.Bool.{true, false, _&&_, _||_, cond}
 use native.Mathlib.Omega.{arith}
 use lib.ListN.{length, drop, length-drop}
 use lib.Dec.{leb, eqb}
-use borrow.Author.Tests.{ne-eqb, leb-true}
+use borrow.Author.Tests.{ne-eqb, eqb-false, leb-true}
 use Rattle.octets.specs.BigEndian.{num}
-use Rattle.octets.proofs.Choices.{both}
+use Rattle.octets.proofs.Choices.{cases, both}
 use Rattle.rules.specs.Section.{fieldOk, fieldSize, walk, fieldsOk}
 
 size-least : (l : List ℕ) → 1 ≤ fieldSize l
 unfolding fieldSize
 size-least l = omega arith
 
-walk-none : (f : ℕ) → walk f [] ≡ true
+-- the count is never used up: any two that are over the length give the same
+pub enough : (f g : ℕ) (l : List ℕ) → length l < f → length l < g → walk f l ≡ walk g l
 unfolding walk
-walk-none zero = refl
-walk-none (suc f) = refl
-
--- any count that is at least the length gives the same
-enough : (f g : ℕ) (l : List ℕ) → length l ≤ f → length l ≤ g → walk f l ≡ walk g l
-unfolding walk
-enough zero g [] h k = sym (walk-none g)
-enough zero g (x ∷ l) h k = absurd (omega arith)
-enough (suc f) zero [] h k = refl
-enough (suc f) zero (x ∷ l) h k = absurd (omega arith)
+enough zero g l h k = absurd (omega arith)
+enough (suc f) zero l h k = absurd (omega arith)
 enough (suc f) (suc g) l h k =
-    let e = length-drop (fieldSize l) l in
-    rw (enough f g (drop (fieldSize l) l) (omega (arith, e, size-least l)) (omega (arith, e, size-least l)))
+    cases (eqb (length l) 0)
+    (λ z. rw z)
+    (λ z. let e = length-drop (fieldSize l) l in
+    let some = eqb-false (length l) 0 z in
+    rw (enough f g (drop (fieldSize l) l) (omega (arith, e, size-least l)) (omega (arith, e, size-least l))))
 
 pub fields-end : fieldsOk [] ≡ true
 unfolding fieldsOk walk
@@ -40,7 +36,7 @@ module _ (l : List ℕ) (some : 0 < length l) where
   unfolding fieldsOk walk
   fields-law =
       let e = length-drop (fieldSize l) l in
-      rw (ne-eqb (length l) 0 (λ z. omega arith), enough (length l) (suc (length (drop (fieldSize l) l))) (drop (fieldSize l) l) (omega (arith, e)) (omega arith))
+      rw (ne-eqb (length l) 0 (λ z. omega arith), enough (length l) (suc (length (drop (fieldSize l) l))) (drop (fieldSize l) l) (omega (arith, e, size-least l)) (omega arith))
 
   pub fields-next : fieldOk l ≡ true → fieldsOk l ≡ fieldsOk (drop (fieldSize l) l)
   fields-next e = fields-law ∙ rw e

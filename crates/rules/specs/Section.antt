@@ -14,10 +14,10 @@ fieldOk l = leb 3 (length l) && ((eqb (num l 0 1) 1 || eqb (num l 0 1) 2) && leb
 unfoldable pub fieldSize : List ℕ → ℕ
 fieldSize l = 3 + num l 1 2
 
--- fields one after the other to the end, counted down by a number that is at least the length
+-- fields one after the other to the end, counted down by a number over the length, which never comes to 0 (proofs/SectionLaws.antt, enough)
 unfoldable pub walk : ℕ → List ℕ → Bool
 unfolding fieldOk fieldSize
-walk zero l = true
+walk zero l = false
 walk (suc f) l = cond (eqb (length l) 0) true (cond (fieldOk l) (walk f (drop (fieldSize l) l)) false)
 
 unfoldable pub fieldsOk : List ℕ → Bool

@@ -8,20 +8,20 @@ use Rattle.request.specs.declared.Gate.{Gate}
 use Rattle.request.specs.declared.Gate.the-variants.{Stop, Whole}
 use Rattle.serving.specs.declared.Served.{Served}
 use Rattle.serving.proofs.Gated.{was-open}
-use Rattle.serving.specs.Serve.{gateAll, served}
+use Rattle.serving.specs.Serve.{servedUsed, gateAll, served}
 use Rattle.serving.specs.Serves.{Serves}
 use Rattle.run.specs.declared.Moved.{Moved}
-use Rattle.run.specs.Run.{usedOf, movedBy}
+use Rattle.run.specs.Run.{movedBy}
 
-used-by : (b : List ℕ) (clock : ℕ) (s : List ℕ) (room : ℕ) (g : Gate) → gateAll b room s ≡ g → usedOf (served b clock s room) ≤ length s
+used-by : (b : List ℕ) (clock : ℕ) (s : List ℕ) (room : ℕ) (g : Gate) → gateAll b room s ≡ g → servedUsed (served b clock s room) ≤ length s
 unfolding served
 used-by b clock s room (Stop k need) q = rw q (omega arith)
 used-by b clock s room (Whole h) q = rw q (was-open b s room h q .frame .inside)
 
-pub used-fits : (b : List ℕ) (clock : ℕ) (s : List ℕ) (room : ℕ) → usedOf (served b clock s room) ≤ length s
+pub used-fits : (b : List ℕ) (clock : ℕ) (s : List ℕ) (room : ℕ) → servedUsed (served b clock s room) ≤ length s
 used-fits b clock s room = used-by b clock s room (gateAll b room s) refl
 
-pub moved-eq : (at : ℕ) (b : List ℕ) (clock : ℕ) (s s′ r : List ℕ) (x : Served) (used : ℕ) (b′ r′ : List ℕ) → s ≡ s′ → used ≡ usedOf x
+pub moved-eq : (at : ℕ) (b : List ℕ) (clock : ℕ) (s s′ r : List ℕ) (x : Served) (used : ℕ) (b′ r′ : List ℕ) → s ≡ s′ → used ≡ servedUsed x
     → Serves b clock s r x b′ r′
     → (_≡_ {A = Moved} (record { cursor = record { at = at + used }; served = x }) (movedBy at x)) × Serves b clock s′ r x b′ r′
 unfolding movedBy

@@ -14,10 +14,12 @@ use Rattle.tally.specs.Counts.{countedOf}
 use Rattle.serving.specs.declared.Served.{Served}
 use Rattle.serving.specs.declared.Served.the-variants.{Refused, Done}
 use Rattle.serving.specs.Serves.{Serves}
-use Rattle.serving.specs.Serve.{gateAll, frameReply, answerBy, served, servedTable, servedReply}
+use Rattle.serving.specs.Serve.{servedUsed, gateAll, frameReply, answerBy, served, servedTable, servedReply}
 use Rattle.reply.proofs.Frames.{reply-most}
 use Rattle.serving.proofs.Gated.{was-open, refused-keeps}
-use Rattle.run.specs.Run.{Stand, calledOn, further, onDone, standAfter, runEnd, ranOf}
+use Rattle.run.specs.Run.{movedBy, Stand, calledOn, further, onDone, standAfter, runEnd, ranOf}
+use Rattle.run.specs.declared.Cursor.{Cursor}
+use Rattle.run.specs.declared.Moved.{Moved}
 use Rattle.run.specs.declared.Ran.{Ran}
 
 -- ---- what a call that was not refused did
@@ -84,9 +86,9 @@ module _ (clock : ℕ) (run : List ℕ) where
   unfolding runEnd
   run-ends x k need e = stops (length run) k need x e
 
--- ---- one turn of the loop: the part of the reply area past the replies is lent to the call
-module _ (clock : ℕ) (run b out : List ℕ) (t : Tally) (at filled : ℕ) (f : filled ≤ length out) (s : List ℕ) (es : s ≡ drop at run) (r : Served) (b′ ys : List ℕ)
-    (q : Serves b clock s (midOf filled (length out - filled) out) r b′ ys) where
+-- ---- one turn of the loop: the part of the reply area past the replies is lent to the step
+module _ (clock : ℕ) (run b out : List ℕ) (t : Tally) (at filled : ℕ) (f : filled ≤ length out) (m : Moved) (b′ ys : List ℕ)
+    (moves : m ≡ movedBy at (m .served)) (q : Serves b clock (drop at run) (midOf filled (length out - filled) out) (m .served) b′ ys) where
   abbrev now : Stand
   now = record { table = b; reply = out; tally = t; at = at; filled = filled }
 
@@ -99,38 +101,48 @@ module _ (clock : ℕ) (run b out : List ℕ) (t : Tally) (at filled : ℕ) (f :
   put : putMid filled (length out - filled) out ys ≡ take filled out ++ ys
   put = ap (λ (zs : List ℕ). take filled out ++ zs) (ap (λ (zs : List ℕ). ys ++ zs) (drop-of-length-le (drop filled out) {i = length out - filled} (omega (arith, room))) ∙ append-nil ys)
 
-  answer : r ≡ served b clock (drop at run) (length (drop filled out))
-  answer = q .answer ∙ (λ i. served b clock (es i) (length (mid i)))
+  answer : m .served ≡ served b clock (drop at run) (length (drop filled out))
+  answer = q .answer ∙ (λ i. served b clock (drop at run) (length (mid i)))
 
   left : b′ ≡ servedTable b clock (drop at run) (length (drop filled out))
-  left = q .table ∙ (λ i. servedTable b clock (es i) (length (mid i)))
+  left = q .table ∙ (λ i. servedTable b clock (drop at run) (length (mid i)))
 
   reply : ys ≡ servedReply b clock (drop at run) (drop filled out)
-  reply = q .reply ∙ (λ i. servedReply b clock (es i) (mid i))
+  reply = q .reply ∙ ap (servedReply b clock (drop at run)) mid
 
-  called : r ≡ calledOn clock run now
+  called : m .served ≡ calledOn clock run now
   called = answer ∙ ap (served b clock (drop at run)) room
 
-  pub turn-told : (st used len : ℕ) → r ≡ Done st used len → Told b (drop at run) (length out - filled) used len
+  -- where the cursor is handed back
+  moved-to : (r : Served) → m .served ≡ r → m .cursor ≡ record { at = at + servedUsed r }
+  unfolding movedBy
+  moved-to r e = ap (λ (x : Moved). x .cursor) moves ∙ (λ i. record { at = at + servedUsed (e i) })
+
+  pub turn-told : (st used len : ℕ) → m .served ≡ Done st used len → Told b (drop at run) (length out - filled) used len
   turn-told st used len e = told clock run now st used len (sym called ∙ e)
 
-  pub turn-on : (st used len : ℕ) → r ≡ Done st used len → (t′ : Tally) → t′ ≡ countedOf t (Done st used len)
-      → runEnd clock run now ≡ runEnd clock run (record { table = b′; reply = putMid filled (length out - filled) out ys; tally = t′; at = at + used; filled = filled + len })
+  pub turn-at : (st used len : ℕ) → m .served ≡ Done st used len → m .cursor .at ≡ at + used
+  turn-at st used len e = ap (λ (x : Cursor). x .at) (moved-to (Done st used len) e)
+
+  pub turn-on : (st used len : ℕ) → m .served ≡ Done st used len → (t′ : Tally) → t′ ≡ countedOf t (Done st used len)
+      → runEnd clock run now ≡ runEnd clock run (record { table = b′; reply = putMid filled (length out - filled) out ys; tally = t′; at = m .cursor .at; filled = filled + len })
   turn-on st used len e t′ et =
       let y = left ∙ ap (servedTable b clock (drop at run)) room in
       let z = put ∙ ap (λ (zs : List ℕ). take filled out ++ zs) reply in
+      let c = turn-at st used len e in
       run-on clock run now st used len (sym called ∙ e)
-      ∙ sym (λ i. runEnd clock run (record { table = y i; reply = z i; tally = et i; at = at + used; filled = filled + len }))
+      ∙ sym (λ i. runEnd clock run (record { table = y i; reply = z i; tally = et i; at = c i; filled = filled + len }))
 
-  pub turn-ends : (n need : ℕ) → r ≡ Refused n need → (y : Stand) → runEnd clock run now ≡ runEnd clock run y
-      → (_≡_ {A = Ran} (record { cursor = record { at = at }; filled = filled; tally = t; stop = r }) (ranOf clock run (runEnd clock run y)))
+  pub turn-ends : (n need : ℕ) → m .served ≡ Refused n need → (y : Stand) → runEnd clock run now ≡ runEnd clock run y
+      → (_≡_ {A = Ran} (record { cursor = m .cursor; filled = filled; tally = t; stop = m .served }) (ranOf clock run (runEnd clock run y)))
       × ((b′ ≡ runEnd clock run y .table) × (putMid filled (length out - filled) out ys ≡ runEnd clock run y .reply))
   unfolding ranOf
   turn-ends n need e y p =
       let x : now ≡ runEnd clock run y = sym (run-ends clock run now n need (sym called ∙ e)) ∙ p in
       let k = refused-keeps b clock (drop at run) (drop filled out) n need (sym answer ∙ e) in
-      let a : _≡_ {A = Ran} (record { cursor = record { at = at }; filled = filled; tally = t; stop = r }) (ranOf clock run now) =
-      λ i. record { cursor = record { at = at }; filled = filled; tally = t; stop = called i } in (
+      let stays : _≡_ {A = ℕ} (at + 0) at = omega arith in
+      let a : _≡_ {A = Ran} (record { cursor = m .cursor; filled = filled; tally = t; stop = m .served }) (ranOf clock run now) =
+      λ i. record { cursor = (moved-to (Refused n need) e ∙ (λ j. record { at = stays j })) i; filled = filled; tally = t; stop = called i } in (
         a ∙ ap (ranOf clock run) x,
         (
           (left ∙ k .0) ∙ ap (λ (z : Stand). z .table) x,

@@ -4,18 +4,19 @@ use mathlib.Core.List.{List, _++_}
 use lib.ListN.{length, take, drop}
 use Rattle.serving.specs.declared.Served.{Served}
 use Rattle.serving.specs.declared.Served.the-variants.{Refused, Done}
-use Rattle.serving.specs.Serve.{served, servedTable, servedReply}
+use Rattle.serving.specs.Serve.{servedUsed, served, servedTable, servedReply}
 use Rattle.tally.specs.declared.Tally.{Tally}
 use Rattle.tally.specs.Counts.{countedOf}
 use Rattle.run.specs.declared.Moved.{Moved}
 use Rattle.run.specs.declared.Ran.{Ran}
 
-abbrev pub usedOf : Served → ℕ
-usedOf (Refused n need) = 0
-usedOf (Done status used len) = used
+-- what a cursor sees of a run
+abbrev pub seen : ℕ → List ℕ → List ℕ
+seen at run = drop at run
 
+-- "handed back advanced by what was consumed"
 unfoldable pub movedBy : ℕ → Served → Moved
-movedBy at r = record { cursor = record { at = at + usedOf r }; served = r }
+movedBy at r = record { cursor = record { at = at + servedUsed r }; served = r }
 
 -- ---- a run: one frame after another at the cursor, each reply after those before it, until a call is refused
 -- what stands between two calls
@@ -27,13 +28,13 @@ pub record Stand : Type 0 where
   pub filled : ℕ
 
 abbrev pub calledOn : ℕ → List ℕ → Stand → Served
-calledOn clock run x = served (x .table) clock (drop (x .at) run) (length (x .reply) - x .filled)
+calledOn clock run x = served (x .table) clock (seen (x .at) run) (length (x .reply) - x .filled)
 
 -- after one more call that was not refused
 abbrev pub further : ℕ → List ℕ → Stand → ℕ → ℕ → ℕ → Stand
 further clock run x status used len = record {
-  table = servedTable (x .table) clock (drop (x .at) run) (length (x .reply) - x .filled);
-  reply = take (x .filled) (x .reply) ++ servedReply (x .table) clock (drop (x .at) run) (drop (x .filled) (x .reply));
+  table = servedTable (x .table) clock (seen (x .at) run) (length (x .reply) - x .filled);
+  reply = take (x .filled) (x .reply) ++ servedReply (x .table) clock (seen (x .at) run) (drop (x .filled) (x .reply));
   tally = countedOf (x .tally) (Done status used len);
   at = x .at + used;
   filled = x .filled + len;

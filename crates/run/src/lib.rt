@@ -1,8 +1,9 @@
 // A cursor over a run of received frames, and a call that serves a whole run by it.
 ghost use mathlib.Core.Path.{_≡_};
-ghost use lib.ListN.{drop};
-ghost use Rattle.run.specs.Run.{usedOf, movedBy, begun, runEnd, ranOf};
+ghost use Rattle.run.specs.Run.{seen, movedBy, begun, runEnd, ranOf};
+ghost use Rattle.serving.specs.Serve.{servedUsed};
 ghost use Rattle.serving.specs.Serves.{Serves};
+ghost use Rattle.tally.specs.Serves.{ServesCounted};
 use serving::Served;
 use tally::Tally;
 
@@ -24,7 +25,7 @@ pub struct Ran {
 }
 
 fn used_of(r: Served) -> usize
-    ensures { λ n. ⌜ n ≡ usedOf r ⌝ }
+    ensures { λ n. ⌜ n ≡ servedUsed r ⌝ }
 {
     match r {
         Served::Done(_, used, _) => used,
@@ -33,10 +34,10 @@ fn used_of(r: Served) -> usize
 }
 
 impl Cursor {
-    // Serves the frame at the cursor, which is handed back past it.
-    pub fn serve(self, b: &mut [u8], clock: u32, run: &[u8], out: &mut [u8]) -> Moved
+    // Serves the frame at the cursor, uncounted. The cursor is handed back past it.
+    pub fn step(self, b: &mut [u8], clock: u32, run: &[u8], out: &mut [u8]) -> Moved
         ensures { λ r. ⌜ (r ≡ movedBy (self .at) (r .served))
-            × Serves (now (b .entry)) clock (drop (self .at) (now (run .entry))) (now (out .entry)) (r .served) (now (b .exit)) (now (out .exit)) ⌝ }
+            × Serves (now (b .entry)) clock (seen (self .at) (now (run .entry))) (now (out .entry)) (r .served) (now (b .exit)) (now (out .exit)) ⌝ }
     {
         let at = self.at;
         let r = serve::serve_one(b, clock, octets::rest(run, at), out);
@@ -46,6 +47,16 @@ impl Cursor {
             served: r,
         }
     }
+
+    // Serves the frame at the cursor and counts it. The cursor is handed back past it.
+    pub fn serve(self, b: &mut [u8], clock: u32, run: &[u8], out: &mut [u8], t: &mut Tally) -> Moved
+        ensures { λ r. ⌜ (r ≡ movedBy (self .at) (r .served))
+            × ServesCounted (now (b .entry)) clock (seen (self .at) (now (run .entry))) (now (out .entry)) (now (t .entry)) (r .served) (now (b .exit)) (now (out .exit)) (now (t .exit)) ⌝ }
+    {
+        let r = self.step(b, clock, run, out);
+        tally::count(t, r.served);
+        r
+    }
 }
 
 // Serves the frames of a run one after another, each reply after those before it, until a call is refused.
@@ -54,20 +65,21 @@ pub fn serve_run(b: &mut [u8], clock: u32, run: &[u8], out: &mut [u8], t: Tally)
         × ((now (b .exit) ≡ runEnd clock (now (run .entry)) (begun (now (b .entry)) (now (out .entry)) t) .table)
         × (now (out .exit) ≡ runEnd clock (now (run .entry)) (begun (now (b .entry)) (now (out .entry)) t) .reply)) ⌝ }
 {
-    let mut at: usize = 0;
+    let mut cursor = Cursor { at: 0 };
     let mut filled: usize = 0;
     let mut tally = t;
     loop {
-        let r = serve::serve_one(b, clock, octets::rest(run, at), &mut out[filled..]);
+        let moved = cursor.step(b, clock, run, &mut out[filled..]);
+        cursor = moved.cursor;
+        let r = moved.served;
         match r {
-            Served::Done(_, used, len) => {
-                at = at + used;
+            Served::Done(_, _, len) => {
                 filled = filled + len;
                 tally = tally::counted(tally, r);
             }
             Served::Refused(_, _) => {
                 return Ran {
-                    cursor: Cursor { at },
+                    cursor,
                     filled,
                     tally,
                     stop: r,

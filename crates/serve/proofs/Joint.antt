@@ -25,11 +25,11 @@ use Rattle.document.specs.declared.Stored.{Stored}
 use Rattle.document.specs.declared.Stored.the-variants.{Nothing as NoRow, Used}
 use Rattle.commands.specs.declared.Context.{Context}
 use Rattle.commands.specs.declared.Instruction.{Instruction}
-use Rattle.commands.specs.declared.Decision.{Decision}
+use Rattle.decision.specs.declared.Decision.{Decision}
 use Rattle.commands.specs.Writes.{isMutation}
-use Rattle.commands.specs.Done.{decision}
-use Rattle.commands.specs.Decide.{Effect, instructionOf, docFrom, bytesFrom}
-use Rattle.commands.proofs.Writing.{free-with-row, free-unread, stores-none}
+use Rattle.decision.specs.Decision.{decision}
+use Rattle.decision.specs.Decide.{Effect, instructionOf, docFrom, bytesFrom}
+use Rattle.decision.proofs.Writing.{free-with-row, free-unread, stores-none}
 use Rattle.decode.specs.Decode.{requestOf, bareValue}
 use Rattle.engine.specs.Engine.{storeRow}
 use Rattle.rows.specs.Table.{Table, tableOf, tableBytes, headOf, headBytes}

@@ -15,10 +15,10 @@ use Rattle.rules.specs.Rules.{formStatus, fieldStatus, status}
 use Rattle.rules.proofs.RuleLaws.{judged-form, judged-other, form-lengths, form-stops}
 use Rattle.request.specs.Reading.{frameStatus, bytesIn, extrasSpan, keySpan, valueSpan}
 use Rattle.commands.specs.declared.Instruction.{Instruction}
-use Rattle.commands.specs.Decide.{instructionOf}
+use Rattle.decision.specs.Decide.{instructionOf}
 use Rattle.decode.specs.declared.Decoded.{Decoded}
 use Rattle.decode.specs.declared.Decoded.the-variants.{Broken, Whole}
-use Rattle.decode.specs.Decode.{decodedBy, requestOf, bareValue}
+use Rattle.decode.specs.Decode.{decodedStatus, decodedBy, requestOf, bareValue}
 use Rattle.decode.proofs.DecodeLaws.{asked-broken, asked-goes, asked-whole, asked-value}
 use Rattle.serving.specs.Serve.{reachesDecision}
 
@@ -66,7 +66,7 @@ module _ (s : List ℕ) (h : Header) where
       asked-is : decodedBy (shapeOf (h .opcode)) h (bytesIn s (extrasSpan h)) (bytesIn s (valueSpan h)) ≡ r
       asked-is = sym (er ∙ (λ i. decodedBy (eh i) h (ee i) (ev i)))
 
-      pub broken-status : r ≡ Broken → 0x04 ≡ frameStatus s h
+      pub broken-status : r ≡ Broken → decodedStatus Broken ≡ frameStatus s h
       broken-status e = sym (by-fields ∙ asked-broken h _ _ (asked-is ∙ e))
 
       module _ (a : Instruction) (e : r ≡ Whole a) where

@@ -1,13 +1,13 @@
 // What a decision leaves in the table.
 ghost use mathlib.Core.Path.{_≡_};
 ghost use mathlib.Core.List.{[]};
-ghost use Rattle.commands.specs.Decide.{bytesFrom, docFrom};
+ghost use Rattle.decision.specs.Decide.{bytesFrom, docFrom};
 ghost use Rattle.table.specs.Calls.{storedBy};
 ghost use Rattle.serve.specs.Change.{storedWith};
-use commands::Done;
-use commands::Source;
 use document::Metadata;
 use document::Stored;
+use effects::Done;
+use effects::Source;
 use table::Lookup;
 
 // Stores decimal digits for a key.
@@ -39,7 +39,7 @@ pub(crate) fn change(b: &mut [u8], l: Lookup, key: &[u8], d: Done, value: &[u8])
     let head = d.head;
     match store {
         Stored::Used(m) => {
-            rows::put_head(b, head);
+            row_writer::put_head(b, head);
             store_from(b, l, key, m, source, value);
         }
         Stored::Nothing => {}

@@ -11,8 +11,8 @@ ghost use Rattle.header.specs.Header.{headerBytes};
 ghost use Rattle.rules.specs.Rules.{formStatus};
 ghost use Rattle.request.specs.Reading.{frameStatus, bytesIn, keySpan};
 ghost use Rattle.digits.specs.Decimal.{numberOf};
-ghost use Rattle.commands.specs.Done.{decision};
-ghost use Rattle.commands.specs.Decide.{instructionOf};
+ghost use Rattle.decision.specs.Decision.{decision};
+ghost use Rattle.decision.specs.Decide.{instructionOf};
 ghost use Rattle.decode.specs.Decode.{requestOf, bareValue};
 ghost use Rattle.plain.specs.Damage.{sound};
 ghost use Rattle.rows.specs.Table.{headOf};
@@ -21,8 +21,8 @@ ghost use Rattle.serving.specs.Serve.{reachesDecision};
 ghost use Rattle.serving.specs.Serves.{Serves, ServesFrame};
 ghost use Rattle.reply.specs.Fitting.{bareHeader};
 use commands::Context;
-use commands::Decision;
 use commands::Instruction;
+use decision::Decision;
 use decode::Decoded;
 use document::Head;
 use engine::Checked;
@@ -41,7 +41,7 @@ fn decided(head: Head, clock: u32, l: Lookup, old: &[u8], ask: Instruction) -> D
     let place = l.place;
     let free = table::has_place(place);
     let number = digits::parse(old);
-    commands::decide(
+    decision::decide(
         Context {
             head,
             row,

@@ -18,9 +18,9 @@ use Rattle.request.specs.Reading.{frameStatus, bytesIn, extrasSpan, keySpan, va
 use Rattle.document.specs.Documents.{Key, Doc}
 use Rattle.document.specs.declared.Head.{Head}
 use Rattle.document.specs.Head.{marked}
-use Rattle.commands.specs.Decide.{Answer, decide}
-use Rattle.commands.specs.Claims.{StoredSound}
-use Rattle.commands.proofs.Stores.{stores-with-room, stores-sound}
+use Rattle.decision.specs.Decide.{Answer, decide}
+use Rattle.decision.specs.Claims.{StoredSound}
+use Rattle.decision.proofs.Stores.{stores-with-room, stores-sound}
 use Rattle.decode.specs.Decode.{requestOf}
 use Rattle.engine.specs.Engine.{storeRow}
 use Rattle.rows.specs.Table.{Table}

@@ -27,8 +27,8 @@ use Rattle.commands.specs.declared.MetaKind.{MetaKind}
 use Rattle.commands.specs.declared.MetaKind.the-variants.{Set as SetMeta, Add as AddMeta, Delete as DeleteMeta}
 use Rattle.commands.specs.declared.Command.{Command}
 use Rattle.commands.specs.declared.Command.the-variants.{Get, Write, Delete, Count, Noop, Version, WithMeta as Metas}
-use Rattle.commands.specs.Done.{isDelete}
-use Rattle.commands.specs.Claims.{Formed}
+use Rattle.effects.specs.Done.{isDelete}
+use Rattle.decision.specs.Claims.{Formed}
 use Rattle.decode.specs.Decode.{plainOf, counterOf, metaCommand, commandOf, requestOf}
 use Rattle.serving.specs.Serve.{reachesDecision}
 

@@ -12,14 +12,15 @@ use Rattle.document.specs.declared.Head.{Head}
 use Rattle.document.specs.Documents.{Key, Doc}
 use Rattle.document.specs.Stored.{live, numbersOf, storedOf}
 use Rattle.commands.specs.declared.Context.{Context}
-use Rattle.commands.specs.declared.Done.{Done}
+use Rattle.effects.specs.declared.Done.{Done}
 use Rattle.commands.specs.declared.Command.{Command}
 use Rattle.commands.specs.declared.Command.the-variants.{Get, Write, Delete, Count, Noop, Version, WithMeta}
-use Rattle.commands.specs.declared.Reply.the-variants.{Bare}
+use Rattle.effects.specs.declared.Reply.the-variants.{Bare}
 use Rattle.commands.specs.Rules.{ruleOf, statusBy}
-use Rattle.commands.specs.Done.{decision, doneOf, nothing}
-use Rattle.commands.specs.Decide.{Request, contextOf, decide, instructionOf, docFrom, bytesFrom}
-use Rattle.commands.specs.Claims.{NumbersFit}
+use Rattle.effects.specs.Done.{doneOf, nothing}
+use Rattle.decision.specs.Decision.{decision}
+use Rattle.decision.specs.Decide.{Request, contextOf, decide, instructionOf, docFrom, bytesFrom}
+use Rattle.decision.specs.Claims.{NumbersFit}
 use Rattle.rows.specs.Row.{Row}
 use Rattle.rows.specs.Find.{findRow}
 use Rattle.rows.specs.Good.{AllGood}

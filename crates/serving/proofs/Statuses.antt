@@ -12,8 +12,8 @@ use Rattle.header.specs.declared.Header.{Header}
 use Rattle.rules.specs.Rules.{formOk, fieldRulesOk, metaSize, judged, status}
 use Rattle.request.specs.Reading.{bytesIn, extrasSpan, valueSpan, frameStatus}
 use Rattle.commands.specs.Rules.{firstStatus, firstFailure}
-use Rattle.commands.specs.declared.Decision.{Decision}
-use Rattle.commands.specs.Done.{decision}
+use Rattle.decision.specs.declared.Decision.{Decision}
+use Rattle.decision.specs.Decision.{decision}
 use Rattle.rows.specs.Table.{Table}
 use Rattle.serving.specs.Serve.{reachesDecision, decisionOn}
 use Rattle.serving.specs.Statuses.{testsOn, StatusesInOrder}

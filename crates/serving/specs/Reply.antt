@@ -6,9 +6,9 @@ use lib.ListN.{length}
 use Rattle.numbers.specs.declared.Cas.{Cas}
 use Rattle.header.specs.declared.Header.{Header}
 use Rattle.header.specs.Header.{headerBytes}
-use Rattle.commands.specs.declared.Reply.{Reply}
-use Rattle.commands.specs.declared.Decision.{Decision}
-use Rattle.commands.specs.Decide.{replyExtras, replyKey, replyValue}
+use Rattle.effects.specs.declared.Reply.{Reply}
+use Rattle.decision.specs.declared.Decision.{Decision}
+use Rattle.decision.specs.Decide.{replyExtras, replyKey, replyValue}
 
 -- extras, key and value in a row, for a request's key and the stored value
 abbrev pub bodyOf : Reply → List ℕ → List ℕ → List ℕ

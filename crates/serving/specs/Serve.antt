@@ -12,29 +12,51 @@ use Rattle.request.specs.declared.Gate.the-variants.{Stop, Whole}
 use Rattle.request.specs.Reading.{gateOf, frameStatus, bytesIn, keySpan}
 use Rattle.document.specs.declared.Head.{Head}
 use Rattle.commands.specs.declared.Context.{Context}
-use Rattle.commands.specs.declared.Decision.{Decision}
-use Rattle.commands.specs.declared.Reply.the-variants.{Bare}
-use Rattle.commands.specs.Done.{decision, nothing}
-use Rattle.commands.specs.Decide.{Effect, Answer, contextOf, instructionOf, answerOf}
+use Rattle.decision.specs.declared.Decision.{Decision}
+use Rattle.effects.specs.declared.Reply.the-variants.{Bare}
+use Rattle.effects.specs.Done.{nothing}
+use Rattle.decision.specs.Decision.{decision}
+use Rattle.decision.specs.Decide.{Effect, Answer, contextOf, instructionOf, answerOf}
 use Rattle.document.specs.Documents.{Key, Doc, docValue}
 use Rattle.engine.specs.Engine.{storeRow}
 use Rattle.decode.specs.Decode.{requestOf}
 use Rattle.rows.specs.Table.{Table, tableOf, tableBytes}
 use Rattle.plain.specs.Plain.{plain}
-use Rattle.plain.specs.Damage.{sound}
+use Rattle.engine.specs.declared.Checked.the-variants.{Damaged}
+use Rattle.plain.specs.Damage.{sound, checkedOutcome}
 use Rattle.rows.specs.Find.{findRow, freeRows}
 use Rattle.serving.specs.declared.Served.{Served}
 use Rattle.serving.specs.declared.Served.the-variants.{Refused, Done}
 use Rattle.serving.specs.Reply.{replyBytes}
 
--- 01's number for each answer: its outcome, 0 where a frame was served
+-- ---- 01's numbers for each answer; what it doesn't have is 0
+-- its outcome, 0 where a frame was served
 abbrev pub servedOutcome : Served → ℕ
 servedOutcome (Refused n need) = n
 servedOutcome (Done status used len) = 0
 
+abbrev pub servedStatus : Served → ℕ
+servedStatus (Refused n need) = 0
+servedStatus (Done status used len) = status
+
+-- the bytes consumed
+abbrev pub servedUsed : Served → ℕ
+servedUsed (Refused n need) = 0
+servedUsed (Done status used len) = used
+
+-- the reply's length
+abbrev pub servedLength : Served → ℕ
+servedLength (Refused n need) = 0
+servedLength (Done status used len) = len
+
+-- the bytes needed, where a frame isn't all there
+abbrev pub servedNeeded : Served → ℕ
+servedNeeded (Refused n need) = need
+servedNeeded (Done status used len) = 0
+
 -- 5 table damaged, 4 reply room under 1,302 bytes, then the frame's own
 unfoldable pub gateAll : List ℕ → ℕ → List ℕ → Gate
-gateAll b room s = cond (not (sound b)) (Stop 5 0) (cond (ltb room 1302) (Stop 4 0) (gateOf s))
+gateAll b room s = cond (not (sound b)) (Stop (checkedOutcome Damaged) 0) (cond (ltb room 1302) (Stop 4 0) (gateOf s))
 
 -- the reader's status ends it, save a 0x03: a 0x04 that needs mode or clock comes before
 abbrev pub reachesDecision : ℕ → Bool

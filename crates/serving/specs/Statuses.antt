@@ -10,7 +10,7 @@ use Rattle.rules.specs.Rules.{formOk, fieldRulesOk}
 use Rattle.request.specs.Reading.{bytesIn, extrasSpan, keySpan, valueSpan}
 use Rattle.commands.specs.declared.Tests.{Tests}
 use Rattle.commands.specs.Rules.{Check, _⇒_, firstFailure, ruleOf, testsOf}
-use Rattle.commands.specs.Decide.{instructionOf}
+use Rattle.decision.specs.Decide.{instructionOf}
 use Rattle.decode.specs.Decode.{requestOf}
 use Rattle.rows.specs.Table.{Table}
 use Rattle.rows.specs.Find.{findRow}

@@ -19,7 +19,8 @@ module _ {ℓ} (P : Shape → Type ℓ) (op : ℕ) where
   every p [] = tt
   every p (c ∷ cs) = (λ q. p (c .operation) (c .form) q, every p cs)
 
-  looked-up : (cs : List Command) (other : Shape) → Each cs → P other → P (lookUp op cs other)
+  -- of what is found in a list of them
+  pub looked-up : (cs : List Command) (other : Shape) → Each cs → P other → P (lookUp op cs other)
   unfolding lookUp
   looked-up [] other e p = p
   looked-up (c ∷ cs) other e p =

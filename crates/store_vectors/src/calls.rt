@@ -115,7 +115,7 @@ pub(crate) fn poke(g: Given, spelled: &[u8], s: &mut [u8], space: &mut [u8]) {
 // The head with another mark.
 fn put_mark(s: &mut [u8], mark: Cas) {
     let h = rows::head_of(s);
-    rows::put_head(
+    row_writer::put_head(
         s,
         Head {
             state: h.state,

@@ -55,6 +55,7 @@ fn step(s: &mut [u8], clock: u32, bytes: &[u8], out: &mut [u8]) -> Served {
     text::put_run(out, 0, FILL, out.len());
     let r = serve::serve_one(s, clock, bytes, out);
     show_served(r, out);
+    show::table(s);
     r
 }
 

@@ -24,8 +24,11 @@
 //     tally           the three counts: frames with status 0, with another status, without reply bytes
 //     tally A B C     sets them
 //
+// Each answer but those of room and tally ends with a digest of all the table's memory after the call, refusals included.
 // BYTES, KEY and VALUE are hexadecimal, with blanks between bytes where wanted; 61*250 is the byte 61 250 times. Numbers are
 // decimal. Any other line is answered by `what?`.
+//
+// The expected output is the independent rendering's: `vectors` of tests/rust, which tests/run compares with the file.
 mod calls;
 mod frames;
 mod show;
@@ -162,10 +165,12 @@ fn answer_call(
         return t;
     }
     if is_plain_call(word, g, s) {
+        show::table(s);
         return t;
     }
     let spelled = text::after(rest, b'/');
     if is_call(word, g, spelled, s, space) {
+        show::table(s);
         return t;
     }
     answer_frames(word, g, spelled, s, out, space, t)

@@ -1,6 +1,8 @@
 // What is printed.
 use numbers::Numbers;
 
+const PRIME: u64 = 36028797018963913;
+
 pub(crate) fn text(s: &[u8]) {
     io::write_all(1, s);
 }
@@ -27,4 +29,26 @@ pub(crate) fn numbers(n: Numbers) {
     decimal(b" expiry=", n.expiry as u64);
     decimal(b" revision=", n.revision.0);
     decimal(b" cas=", n.cas.0);
+}
+
+// One byte more: the sum times 257, by the largest prime under 2^55, and the byte.
+fn added(sum: u64, b: u8) -> u64 {
+    (sum % PRIME) * 257 + b as u64
+}
+
+// A sum over all of the bytes in which each one's place counts.
+fn digest(s: &[u8]) -> u64 {
+    let mut sum: u64 = 1;
+    let mut i: usize = 0;
+    while i < s.len() {
+        sum = added(sum, s[i]);
+        i += 1;
+    }
+    sum % PRIME
+}
+
+// What the whole table is after a call.
+pub(crate) fn table(s: &[u8]) {
+    text(b" table=");
+    io::print_hex(1, digest(s), 16);
 }

@@ -14,20 +14,20 @@ use Rattle.document.specs.Stored.{goneDoc}
 use Rattle.rows.specs.Row.{Row, rowBytes}
 use Rattle.rows.specs.Table.{Table, rowCount, rowAt, headBytes, rowsBytes, tableBytes}
 use Rattle.rows.specs.Good.{EntryGood}
-use Rattle.rows.specs.Over.{overBytes}
-use Rattle.rows.proofs.Over.{over-used, over-free}
-use Rattle.rows.proofs.Writes.{head-length}
+use Rattle.row_writer.specs.Over.{overBytes}
+use Rattle.row_writer.proofs.Over.{over-used, over-free}
+use Rattle.rows.proofs.Heads.{head-length}
 use Rattle.engine.specs.declared.Place.the-variants.{Into}
 use Rattle.plain.specs.declared.Found.{Found}
 use Rattle.plain.specs.declared.Found.the-variants.{At, Nothing}
 use Rattle.plain.specs.Lookup.{findIn, freeIn, freePlace, placeIn}
 use Rattle.plain.specs.Plain.{putRow}
-use Rattle.plain.specs.Change.{rowStored, purgeBytes, purgeCount}
+use Rattle.plain_writer.specs.Change.{rowStored, purgeBytes, purgeCount}
 use Rattle.plain.specs.Claims.{Good}
 use Rattle.plain.proofs.Places.{founds, nothing-at, at-place, find-place, find-nothing, free-nothing}
 use Rattle.plain.proofs.TableLaws.{table-length, table-count}
 use Rattle.plain.proofs.ChangeLaws.{raise, row-put, put-good, purge-good}
-use Rattle.plain.proofs.PurgeBytes.{purge-bytes}
+use Rattle.plain_writer.proofs.PurgeBytes.{purge-bytes}
 use Rattle.table.specs.declared.Lookup.{Lookup}
 use Rattle.table.specs.Calls.{lookupOf, storedBy}
 use Rattle.table.specs.Claims.{StoresGood, HeadPut, HeadGood, PurgesGood}

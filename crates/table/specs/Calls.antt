@@ -13,7 +13,7 @@ use Rattle.rows.specs.Table.{tableOf, rowAt}
 use Rattle.plain.specs.declared.Found.{Found}
 use Rattle.plain.specs.declared.Found.the-variants.{At, Nothing}
 use Rattle.plain.specs.Lookup.{placeBy}
-use Rattle.plain.specs.Change.{rowStored}
+use Rattle.plain_writer.specs.Change.{rowStored}
 use Rattle.table.specs.declared.Lookup.{Lookup}
 
 abbrev pub hasPlace : Place → Bool

@@ -18,7 +18,7 @@ use Rattle.rows.specs.Find.{findRow, freeRows, valuePlace}
 use Rattle.plain.specs.Damage.{sound}
 use Rattle.plain.specs.Plain.{plain}
 use Rattle.plain.specs.Purge.{goneCount}
-use Rattle.plain.specs.Change.{purgedRows, freedRows}
+use Rattle.plain_writer.specs.Change.{purgedRows, freedRows}
 use Rattle.plain.specs.Claims.{Good}
 use Rattle.table.specs.Calls.{hasPlace, lookupOf, storedBy}
 

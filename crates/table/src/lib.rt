@@ -7,7 +7,7 @@ ghost use lib.ListN.{length};
 ghost use Rattle.document.specs.Stored.{goneDoc};
 ghost use Rattle.rows.specs.Table.{rowCount};
 ghost use Rattle.plain.specs.Damage.{sound, checkedOf};
-ghost use Rattle.plain.specs.Change.{purgedRows, freedRows};
+ghost use Rattle.plain_writer.specs.Change.{purgedRows, freedRows};
 ghost use Rattle.table.specs.Calls.{hasPlace, lookupAt, lookupOf, rowPlace, storedBy};
 use document::Metadata;
 use document::Stored;
@@ -34,14 +34,14 @@ pub struct Lookup {
 pub fn checked(b: &[u8]) -> Checked
     ensures { λ r. ⌜ r ≡ checkedOf (now (b .entry)) ⌝ }
 {
-    plain::damage::checked(b)
+    plain_damage::checked(b)
 }
 
 // Whether the memory is a table that is not damaged.
 pub fn is_sound(b: &[u8]) -> bool
     ensures { λ r. ⌜ r ≡ sound (now (b .entry)) ⌝ }
 {
-    plain::damage::is_sound(b)
+    plain_damage::is_sound(b)
 }
 
 // Whether there is such a place.
@@ -112,7 +112,7 @@ pub fn store(b: &mut [u8], l: Lookup, key: &[u8], m: Metadata, value: &[u8])
     let old = l.len;
     let place = l.place;
     match row_place(place) {
-        Found::At(i) => plain::change::store(b, i, key, m, value, old),
+        Found::At(i) => plain_writer::store(b, i, key, m, value, old),
         Found::Nothing => {}
     }
 }
@@ -121,5 +121,5 @@ pub fn store(b: &mut [u8], l: Lookup, key: &[u8], m: Metadata, value: &[u8])
 pub fn purge(b: &mut [u8], clock: u32, bound: Cas) -> usize
     ensures { λ r. ⌜ (r ≡ freedRows (goneDoc clock (bound .0)) (now (b .entry))) × (now (b .exit) ≡ purgedRows (goneDoc clock (bound .0)) (now (b .entry))) ⌝ }
 {
-    plain::change::purge(b, clock, bound)
+    plain_writer::purge(b, clock, bound)
 }

@@ -27,7 +27,9 @@ impl<'s> Comparison<'s> {
     }
 
     fn session(&mut self) -> Result<(), Session> {
-        let Start { table, tally, calls } = self.generator.start();
+        let start = self.generator.start();
+        self.coverage.start(&start);
+        let Start { table, tally, calls, .. } = start;
         self.pair.start(&table, tally);
         let mut session = Session { table, tally, calls: Vec::with_capacity(calls) };
         let mut before = Vec::new();

@@ -14,5 +14,6 @@ pub mod session;
 pub mod settings;
 pub mod shrink;
 pub mod sweep;
+pub mod vectors;
 
 pub use library::Library;

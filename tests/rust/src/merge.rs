@@ -1,19 +1,36 @@
-//! The merge tried: lists of with-meta writes, in every order, end with the greatest of each key.
+//! The merge tried: boats that hear the same with-meta writes, in whatever order, end with the greatest of each key.
 
 use crate::answers::{Store, Tally};
 use crate::frame::{meta_extras, Frame};
 use crate::random::Random;
-use crate::rendering::numbers::{Cas, Numbers, Revision};
+use crate::rendering::numbers::{Cas, Mode, Numbers, Revision};
 use crate::rendering::request::MAX_GIVEN;
 use crate::rendering::serving::ROOM;
-use crate::rendering::table::{write_head, write_row, Kind, Row, Table, HEADER, ROW};
-use std::cmp::Reverse;
-use std::fmt::Debug;
+use crate::rendering::status::Status;
+use crate::rendering::table::{write_head, write_row, Kind, Row, Table, ACTIVE, HEADER, ROW};
+use std::cmp::Ordering;
+use std::collections::BTreeMap;
 
 const REVISION: u8 = 1;
 const LAST_WRITE_WINS: u8 = 2;
-const KEYS: [&[u8]; 3] = [b"contact-1", b"contact-2", b"contact-3"];
-const EXISTS: u8 = 0x02;
+const MOST_WRITES: usize = 40;
+const EXISTS: u8 = Status::Exists as u8;
+const NO_ROW: u8 = Status::NoRow as u8;
+
+const KEYS: [&[u8]; 12] = [
+    b"contact-01",
+    b"contact-02",
+    b"contact-03",
+    b"contact-04",
+    b"contact-05",
+    b"contact-06",
+    b"contact-07",
+    b"contact-7",
+    b"\0",
+    b"\0\0",
+    &[b'x'; 249],
+    &[b'x'; 250],
+];
 
 /// Extended meta: none, no fields, one field.
 const SECTIONS: [&[u8]; 3] = [b"", b"\x01", b"\x01\x02\x00\x01\x07"];
@@ -22,131 +39,145 @@ const SECTIONS: [&[u8]; 3] = [b"", b"\x01", b"\x01\x02\x00\x01\x07"];
 #[derive(Clone, Debug, PartialEq, Eq)]
 struct Document {
     key: &'static [u8],
-    tombstone: bool,
+    kind: Kind,
     value: Vec<u8>,
-    flags: u32,
-    expiry: u32,
-    revision: u64,
-    cas: u64,
+    numbers: Numbers,
 }
 
-/// A document's place in the published order.
-type Rank = (u64, u64, u32, Reverse<u32>);
-
 impl Document {
-    fn rank(&self, mode: u8) -> Rank {
-        let (first, second) = if mode == REVISION { (self.revision, self.cas) } else { (self.cas, self.revision) };
-        (first, second, self.expiry, Reverse(self.flags))
-    }
-
-    /// Few numbers, so that ties in one to four of them are frequent, now and then with another value.
+    /// Few numbers, so that ties in one to four of them are frequent, with a tombstone or another value among them.
     fn random(random: &mut Random, key: &'static [u8], least: u64) -> Document {
-        let (revision, cas) = (least + random.below(3) as u64, least + random.below(4) as u64);
+        let (revision, cas) = (Revision(least + random.below(3) as u64), Cas(least + random.below(4) as u64));
         if random.percent(30) {
-            return Document { key, tombstone: true, value: Vec::new(), flags: 0, expiry: 0, revision, cas };
+            let numbers = Numbers { flags: 0, expiry: 0, revision, cas };
+            return Document { key, kind: Kind::Tombstone, value: Vec::new(), numbers };
         }
-        let (flags, expiry) = (random.between(1, 3) as u32, *random.pick(&[0, 5, 1_000, u32::MAX]));
+        let (flags, expiry) = (random.below(4) as u32, *random.pick(&[0, 0, 5, 1_000, u32::MAX]));
         let other = if random.percent(10) { "!" } else { "" };
-        let value = format!("{flags} {expiry} {revision} {cas}{other}").into_bytes();
-        Document { key, tombstone: false, value, flags, expiry, revision, cas }
-    }
-
-    fn numbers(&self) -> Numbers {
-        Numbers { flags: self.flags, expiry: self.expiry, revision: Revision(self.revision), cas: Cas(self.cas) }
-    }
-
-    fn kind(&self) -> Kind {
-        if self.tombstone {
-            Kind::Tombstone
-        } else {
-            Kind::Document
-        }
+        let value = format!("{flags} {expiry} {} {}{other}", revision.0, cas.0).into_bytes();
+        Document { key, kind: Kind::Document, value, numbers: Numbers { flags, expiry, revision, cas } }
     }
 
     /// The set- or delete-with-meta that carries it, in any of the layouts.
-    fn frame(&self, mode: u8, random: &mut Random) -> Vec<u8> {
-        let options = match mode {
+    fn frame(&self, list: &List, random: &mut Random) -> Vec<u8> {
+        let options = match list.mode {
             LAST_WRITE_WINS => Some(0x02),
             _ => random.percent(50).then_some(0),
         };
         let section = *random.pick(&SECTIONS);
         let meta_length = Some(section.len() as u16).filter(|&length| length > 0 || random.percent(50));
-        let opcode = if self.tombstone { 0xa8 } else { 0xa2 } + random.below(2) as u8;
-        let extras = meta_extras((self.flags, self.expiry, self.revision, self.cas), options, meta_length);
-        let value = [&self.value, section].concat();
-        Frame { opcode, extras, key: self.key.to_vec(), value, opaque: random.u32(), ..Frame::default() }.bytes()
+        let opcode = if self.kind == Kind::Tombstone { 0xa8 } else { 0xa2 } + random.below(2) as u8;
+        let Numbers { flags, expiry, revision, cas } = self.numbers;
+        let extras = meta_extras((flags, expiry, revision.0, cas.0), options, meta_length);
+        let (key, value) = (self.key.to_vec(), [&self.value, section].concat());
+        let (vbucket, opaque) = (list.vbucket, random.u32());
+        Frame { opcode, vbucket, opaque, extras, key, value, ..Frame::default() }.bytes()
     }
 }
 
-/// A table at the start, and writes for it.
+/// A table at the start, its stored documents by place, and writes for it.
 #[derive(Clone, Debug)]
 struct List {
     mode: u8,
+    vbucket: u16,
     mark: u64,
-    stored: Vec<Document>,
+    rows: Vec<Option<Document>>,
     writes: Vec<Document>,
 }
 
-/// What demand 3 says of a list in one order.
+/// What a list comes to in one order: the statuses, the documents by key, and the mark.
 #[derive(Debug, PartialEq, Eq)]
 struct End {
     statuses: Vec<u8>,
-    rows: Vec<Document>,
+    documents: Vec<Document>,
     mark: u64,
 }
 
 impl List {
-    fn random(random: &mut Random) -> List {
-        let mode = *random.pick(&[REVISION, LAST_WRITE_WINS]);
-        let keys = &KEYS[..random.between(2, 3)];
-        let least = *random.pick(&[1, MAX_GIVEN - 3]);
-        let stored = keys.iter().filter_map(|key| {
-            let has_row = random.percent(50);
-            has_row.then(|| Document::random(random, key, least))
-        });
-        let stored: Vec<Document> = stored.collect();
-        let mut writes = Vec::new();
-        for _ in 0..random.between(1, 5) {
-            let key = random.pick(keys);
-            writes.push(Document::random(random, key, least));
-        }
-        if writes.len() > 1 && random.percent(40) {
-            writes[0] = writes[1].clone();
-        }
-        let mark = stored.iter().map(|document| document.cas).max().unwrap_or(0) + random.below(2) as u64;
-        List { mode, mark, stored, writes }
+    /// A few writes for a few keys, to be tried in every order.
+    fn short(random: &mut Random) -> List {
+        let (keys, writes) = (random.between(2, 3), random.between(1, 5));
+        List::random(random, keys, writes)
     }
 
-    /// As many rows as there are keys, the stored ones first.
+    fn long(random: &mut Random) -> List {
+        let keys = if random.percent(30) { KEYS.len() } else { random.between(1, KEYS.len()) };
+        let writes = if random.percent(30) { MOST_WRITES } else { random.between(6, MOST_WRITES) };
+        List::random(random, keys, writes)
+    }
+
+    fn random(random: &mut Random, keys: usize, count: usize) -> List {
+        let mode = *random.pick(&[REVISION, LAST_WRITE_WINS]);
+        let mut keys_by_chance = KEYS;
+        random.shuffle(&mut keys_by_chance);
+        let keys = &keys_by_chance[..keys];
+        let least = *random.pick(&[1, MAX_GIVEN - 3]);
+        let mut writes: Vec<Document> = Vec::with_capacity(count);
+        for _ in 0..count {
+            let again = !writes.is_empty() && random.percent(15);
+            let key = *random.pick(keys);
+            writes.push(if again { random.pick(&writes).clone() } else { Document::random(random, key, least) });
+        }
+        let rows = stored_rows(random, keys, &writes, least);
+        let largest = rows.iter().flatten().map(|document| document.numbers.cas.0).max().unwrap_or(0);
+        let (vbucket, mark) = (random.u32() as u16, largest + random.below(4) as u64);
+        List { mode, vbucket, mark, rows, writes }
+    }
+
+    fn stored(&self) -> impl Iterator<Item = &Document> {
+        self.rows.iter().flatten()
+    }
+
+    fn candidates(&self, key: &'static [u8]) -> impl Iterator<Item = &Document> {
+        self.stored().chain(&self.writes).filter(move |document| document.key == key)
+    }
+
+    /// How many keys have a write in the list and no row at the start, and how many rows are free then.
+    fn new_keys_and_free_rows(&self) -> (usize, usize) {
+        let has = |documents: &[&Document], key| documents.iter().any(|document| document.key == key);
+        let (stored, writes) = (self.stored().collect::<Vec<_>>(), self.writes.iter().collect::<Vec<_>>());
+        let new_keys = KEYS.iter().filter(|key| has(&writes, **key) && !has(&stored, **key)).count();
+        (new_keys, self.rows.len() - stored.len())
+    }
+
     fn table(&self) -> Vec<u8> {
-        let mut memory = vec![0; HEADER + KEYS.len() * ROW];
-        write_head(&mut memory, 1, self.mode, 0, Cas(self.mark));
-        for (place, document) in self.stored.iter().enumerate() {
-            let Document { key, value, .. } = document;
-            write_row(&mut memory, place, &Row { kind: document.kind(), numbers: document.numbers(), key, value });
+        let mut memory = vec![0; HEADER + self.rows.len() * ROW];
+        write_head(&mut memory, ACTIVE, self.mode, self.vbucket, Cas(self.mark));
+        for (place, document) in self.rows.iter().enumerate() {
+            if let Some(Document { key, kind, value, numbers }) = document {
+                write_row(&mut memory, place, &Row { kind: *kind, numbers: *numbers, key, value });
+            }
         }
         memory
+    }
+
+    fn greater(&self, one: &Document, other: &Document) -> bool {
+        let mode = if self.mode == REVISION { Mode::Revision } else { Mode::LastWriteWins };
+        one.numbers.beats(other.numbers, mode)
     }
 
     /// "A call's status is 0 exactly if its write is greater than the key's stored one at the start, if any, and than
     /// all earlier writes for the key in the list; otherwise 0x02."
     fn statuses(&self) -> Vec<u8> {
-        let earlier = |number: usize| self.stored.iter().chain(&self.writes[..number]);
-        let beats = |number: usize, write: &Document| {
-            earlier(number)
-                .filter(|other| other.key == write.key)
-                .all(|other| write.rank(self.mode) > other.rank(self.mode))
+        let earlier = |number: usize| self.stored().chain(&self.writes[..number]);
+        let wins = |(number, write): (usize, &Document)| {
+            earlier(number).filter(|other| other.key == write.key).all(|other| self.greater(write, other))
         };
-        let statuses = self.writes.iter().enumerate();
-        statuses.map(|(number, write)| if beats(number, write) { 0 } else { EXISTS }).collect()
+        self.writes.iter().enumerate().map(|write| if wins(write) { 0 } else { EXISTS }).collect()
     }
 
-    /// The greatest of each key, in the order of the keys; the first of those that tie with other content.
+    /// The greatest of each key, in the order of [`KEYS`]; the first of those that tie with other content.
     fn greatest(&self) -> Vec<Document> {
-        let greater = |best: &'_ Document, other: &'_ Document| other.rank(self.mode) > best.rank(self.mode);
-        let of_key = |key| self.stored.iter().chain(&self.writes).filter(move |document| document.key == key);
-        let greatest = |key| of_key(key).reduce(|best, other| if greater(best, other) { other } else { best });
+        let greatest =
+            |key| self.candidates(key).reduce(|best, other| if self.greater(other, best) { other } else { best });
         KEYS.iter().filter_map(|&key| greatest(key)).cloned().collect()
+    }
+
+    /// "The greatest is the one that every other is smaller than or the same as": those of [`List::greatest`] that are.
+    fn agreed(&self) -> Vec<Document> {
+        let is_agreed =
+            |best: &Document| self.candidates(best.key).all(|other| other == best || self.greater(best, other));
+        self.greatest().into_iter().filter(is_agreed).collect()
     }
 
     /// "The mark ends as the largest of itself and the CAS numbers of the writes with status 0; in last-write-wins, of
@@ -154,77 +185,198 @@ impl List {
     fn end(&self) -> End {
         let statuses = self.statuses();
         let counts = |status: u8| status == 0 || self.mode == LAST_WRITE_WINS;
-        let raised =
-            self.writes.iter().zip(&statuses).filter(|(_, &status)| counts(status)).map(|(write, _)| write.cas);
-        let mark = raised.fold(self.mark, u64::max);
-        End { statuses, rows: self.greatest(), mark }
+        let raising = self.writes.iter().zip(&statuses).filter(|(_, &status)| counts(status));
+        let mark = raising.map(|(write, _)| write.numbers.cas.0).fold(self.mark, u64::max);
+        End { statuses, documents: self.greatest(), mark }
     }
 
-    /// What a store makes of the list, each call at any clock.
-    fn served(&self, store: &dyn Store, random: &mut Random) -> End {
-        let mut memory = self.table();
-        let mut tally = Tally::default();
-        let mut reply = [0; ROOM];
-        let statuses = self.writes.iter().map(|write| {
-            let clock = *random.pick(&[0, 4, 5, 999, 1_000, u32::MAX]);
-            let frame = write.frame(self.mode, random);
-            let served = store.serve(&mut memory, clock, &frame, &mut reply, &mut tally);
-            if served.outcome == 0 {
-                served.status
-            } else {
-                u8::MAX
-            }
-        });
-        let statuses = statuses.collect();
-        let (rows, mark) = rows_and_mark(&memory);
-        End { statuses, rows, mark }
+    /// The calls that bring the writes, each at any clock.
+    fn calls(&self, random: &mut Random) -> Vec<(u32, Vec<u8>)> {
+        let call = |write: &Document| {
+            let any = random.u32();
+            (*random.pick(&[0, 4, 5, 999, 1_000, u32::MAX, any]), write.frame(self, random))
+        };
+        self.writes.iter().map(call).collect()
+    }
+
+    /// The list with its writes in another order, some of them heard again.
+    fn in_order(&self, order: &[usize], random: &mut Random) -> List {
+        let mut writes: Vec<Document> = order.iter().map(|&number| self.writes[number].clone()).collect();
+        if random.percent(50) {
+            let again = random.pick(&writes).clone();
+            writes.insert(random.below(writes.len() + 1), again);
+        }
+        List { writes, ..self.clone() }
+    }
+
+    /// By chance, as they are, backwards, and from the smallest to the greatest and back.
+    fn some_orders(&self, random: &mut Random) -> Vec<Vec<usize>> {
+        let given: Vec<usize> = (0..self.writes.len()).collect();
+        let mut rising = given.clone();
+        rising.sort_by(|&one, &other| self.compared(&self.writes[one], &self.writes[other]));
+        let mut orders = vec![given.clone(), rising];
+        orders.extend([0, 1].map(|number: usize| orders[number].iter().rev().copied().collect()));
+        for _ in 0..4 {
+            let mut order = given.clone();
+            random.shuffle(&mut order);
+            orders.push(order);
+        }
+        orders
+    }
+
+    fn compared(&self, one: &Document, other: &Document) -> Ordering {
+        self.greater(one, other).cmp(&self.greater(other, one))
     }
 }
 
-/// The used rows in the order of the keys, and the mark.
-fn rows_and_mark(memory: &[u8]) -> (Vec<Document>, u64) {
+/// Documents of some keys at any places, and free rows: for all new keys and maybe more, or for too few of them.
+fn stored_rows(random: &mut Random, keys: &[&'static [u8]], writes: &[Document], least: u64) -> Vec<Option<Document>> {
+    let stored: Vec<&'static [u8]> = keys.iter().copied().filter(|_| random.percent(50)).collect();
+    let is_new = |key: &&[u8]| !stored.contains(key) && writes.iter().any(|write| write.key == *key);
+    let new_keys = keys.iter().filter(|key| is_new(key)).count();
+    let free = match random.below(6) {
+        0 => random.below(new_keys),
+        1 => new_keys + random.between(1, 3),
+        _ => new_keys,
+    };
+    let mut rows: Vec<Option<Document>> = vec![None; free.max(usize::from(stored.is_empty()))];
+    rows.extend(stored.iter().map(|key| Some(Document::random(random, key, least))));
+    random.shuffle(&mut rows);
+    rows
+}
+
+/// A table after these calls, and what it came to.
+fn served(store: &dyn Store, list: &List, calls: &[(u32, Vec<u8>)]) -> (Vec<u8>, End) {
+    let mut memory = list.table();
+    let mut tally = Tally::default();
+    let mut reply = [0; ROOM];
+    let mut statuses = Vec::with_capacity(calls.len());
+    for (clock, frame) in calls {
+        let served = store.serve(&mut memory, *clock, frame, &mut reply, &mut tally);
+        statuses.push(if served.outcome == 0 { served.status } else { u8::MAX });
+    }
+    let (documents, mark) = documents_and_mark(&memory);
+    (memory, End { statuses, documents, mark })
+}
+
+/// The documents in the order of [`KEYS`], and the mark.
+fn documents_and_mark(memory: &[u8]) -> (Vec<Document>, u64) {
     let Ok(table) = Table::read(memory) else {
         return (Vec::new(), 0);
     };
-    let rows = KEYS.iter().filter_map(|key| table.find(key).map(|(_, row)| document(key, &row))).collect();
-    (rows, table.head.mark.0)
+    let stored = |key: &&'static [u8]| {
+        let (_, row) = table.find(key)?;
+        Some(Document { key, kind: row.kind, value: row.value.to_vec(), numbers: row.numbers })
+    };
+    (KEYS.iter().filter_map(stored).collect(), table.head.mark.0)
 }
 
-fn document(key: &'static [u8], row: &Row) -> Document {
-    let Numbers { flags, expiry, revision, cas } = row.numbers;
-    let tombstone = row.kind == Kind::Tombstone;
-    Document { key, tombstone, value: row.value.to_vec(), flags, expiry, revision: revision.0, cas: cas.0 }
+/// What lists have met, each in both modes.
+#[derive(Clone, Copy, Debug, PartialEq, Eq, PartialOrd, Ord)]
+enum Met {
+    AllKeys,
+    MostWrites,
+    TableFilled,
+    NoRowLeft,
+    TieOfDocumentAndTombstone,
+    TombstoneWithSmallerFlags,
+    Repeat,
 }
 
-/// How many orders of lists were tried, and in how many calls.
-#[derive(Clone, Copy, Debug, Default)]
+const ALL_MET: [Met; 7] = [
+    Met::AllKeys,
+    Met::MostWrites,
+    Met::TableFilled,
+    Met::NoRowLeft,
+    Met::TieOfDocumentAndTombstone,
+    Met::TombstoneWithSmallerFlags,
+    Met::Repeat,
+];
+
+/// How many orders of lists were tried, in how many calls, and what they met in each mode.
+#[derive(Clone, Debug, Default)]
 pub struct Tried {
     pub orders: usize,
     pub calls: usize,
+    met: BTreeMap<(Met, u8), usize>,
 }
 
-/// Tries random lists in every order; the first that ends otherwise than demand 3 says is told.
-pub fn try_lists(store: &dyn Store, lists: usize, seed: u64) -> Result<Tried, String> {
+impl Tried {
+    fn count(&mut self, list: &List, end: &End) {
+        self.orders += 1;
+        self.calls += list.writes.len();
+        for met in ALL_MET.into_iter().filter(|&met| has_met(met, list, end)) {
+            *self.met.entry((met, list.mode)).or_default() += 1;
+        }
+    }
+
+    /// What so many lists should have met and didn't, once in a hundred lists.
+    pub fn missing(&self, lists: usize) -> Vec<String> {
+        let all = ALL_MET.into_iter().flat_map(|met| [REVISION, LAST_WRITE_WINS].map(|mode| (met, mode)));
+        let counted = all.map(|met| (met, self.met.get(&met).copied().unwrap_or(0)));
+        counted.filter(|(_, count)| *count < lists / 100).map(|(met, count)| format!("{met:?}: {count}")).collect()
+    }
+}
+
+fn has_met(met: Met, list: &List, end: &End) -> bool {
+    let pair = |told: &dyn Fn(&Document, &Document) -> bool| {
+        list.writes.iter().any(|one| list.candidates(one.key).any(|other| one.kind != other.kind && told(one, other)))
+    };
+    let beside = |one: &Document, other: &Document| {
+        one.numbers.cas == other.numbers.cas && one.numbers.revision == other.numbers.revision
+    };
+    match met {
+        Met::AllKeys => KEYS.iter().all(|key| list.writes.iter().any(|write| write.key == *key)),
+        Met::MostWrites => list.writes.len() >= MOST_WRITES,
+        Met::TableFilled => end.documents.len() == list.rows.len(),
+        Met::NoRowLeft => end.statuses.contains(&NO_ROW),
+        Met::TieOfDocumentAndTombstone => pair(&|one, other| one.numbers == other.numbers),
+        Met::TombstoneWithSmallerFlags => {
+            pair(&|one, other| one.kind == Kind::Tombstone && beside(one, other) && list.greater(one, other))
+        }
+        Met::Repeat => (1..list.writes.len()).any(|number| list.writes[..number].contains(&list.writes[number])),
+    }
+}
+
+/// Tries random lists in many orders on both boats; the first that ends otherwise than demand 3 says is told.
+pub fn try_lists(boats: [&dyn Store; 2], lists: usize, seed: u64) -> Result<Tried, String> {
     let mut random = Random::new(seed);
     let mut tried = Tried::default();
-    for _ in 0..lists {
-        let list = List::random(&mut random);
-        for order in orders(list.writes.len()) {
-            let writes = order.iter().map(|&number| list.writes[number].clone()).collect();
-            let ordered = List { writes, ..list.clone() };
-            tried.orders += 1;
-            tried.calls += ordered.writes.len();
-            agree(&ordered, &ordered.end(), &ordered.served(store, &mut random))?;
+    for number in 0..lists {
+        let short = number % 2 == 0;
+        let list = if short { List::short(&mut random) } else { List::long(&mut random) };
+        let orders = if short { orders(list.writes.len()) } else { list.some_orders(&mut random) };
+        for order in orders {
+            let ordered = list.in_order(&order, &mut random);
+            let end = try_order(boats, &list, &ordered, &mut random)
+                .map_err(|what| format!("{ordered:#?}\nis a list where {what}"))?;
+            tried.count(&ordered, &end);
         }
     }
     Ok(tried)
 }
 
-fn agree(list: &impl Debug, expected: &End, found: &End) -> Result<(), String> {
-    if expected == found {
+/// One order on both boats. Where rows are too few for the new keys demand 3 says nothing, and the first boat is gone by.
+fn try_order(boats: [&dyn Store; 2], list: &List, ordered: &List, random: &mut Random) -> Result<End, String> {
+    let calls = ordered.calls(random);
+    let [(memory, first), (other_memory, second)] = boats.map(|boat| served(boat, ordered, &calls));
+    same("the boats' ends", &first, &second)?;
+    same("the boats' tables", &memory, &other_memory)?;
+    let (new_keys, free) = list.new_keys_and_free_rows();
+    if new_keys <= free {
+        same("what demand 3 says and the boats' end", &ordered.end(), &second)?;
+        let agreed = list.agreed();
+        let kept: Vec<Document> = second.documents.iter().filter(|kept| agreed.contains(kept)).cloned().collect();
+        same("the greatest in any order and what the boats hold", &agreed, &kept)?;
+    }
+    Ok(second)
+}
+
+fn same<T: PartialEq + std::fmt::Debug>(what: &str, one: &T, other: &T) -> Result<(), String> {
+    if one == other {
         Ok(())
     } else {
-        Err(format!("{list:#?}\nshould end as {expected:#?}\nbut ends as {found:#?}"))
+        Err(format!("{what} differ: {one:#?}\nand {other:#?}"))
     }
 }
 

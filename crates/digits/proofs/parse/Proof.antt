@@ -1,6 +1,5 @@
 use Rattle.digits.specs.Decimal.{numberOf}
 use borrow.Author.Tests.{le-leb, lt-leb}
-use borrow.Author.Needs.{needs}
 use Rattle.digits.proofs.parse.Statement.{statement}
 use Rattle.digits.proofs.parse.Tie as tie
 
@@ -13,7 +12,7 @@ unfolding numberOf
 returns-2 c = simp (le-leb _ _ ((c .before .if1) .left), lt-leb _ _ ((c .if2) .taken))
 
 parse-all-requires : tie.Need-parse-all-requires
-parse-all-requires c κs = search needs
+parse-all-requires c κs = tt
 
 returns-3 : tie.Need-returns-3
 unfolding numberOf

@@ -1,15 +1,14 @@
 use Prim.Native.Nat.{ℕ, _+_, _%_, _^_}
 use mathlib.Core.Path.{ap, _∙_}
 use Rattle.fingerprint.specs.Fingerprint.{mixed}
-use borrow.Author.Needs.{needs}
 use Rattle.fingerprint.proofs.mix.Statement.{statement}
 use Rattle.fingerprint.proofs.mix.Tie as tie
 
 turned-requires : tie.Need-turned-requires
-turned-requires c κs = search needs
+turned-requires c κs = tt
 
 wrapping-add-u64-requires : tie.Need-wrapping-add-u64-requires
-wrapping-add-u64-requires c κs = search needs
+wrapping-add-u64-requires c κs = tt
 
 returns : tie.Need-returns
 unfolding mixed

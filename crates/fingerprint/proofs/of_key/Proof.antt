@@ -17,10 +17,10 @@ abbrev μ-loop : tie.MeasureT-loop
 μ-loop key last p₀ at₀ p at = length key - at
 
 be64-requires : tie.Need-be64-requires Inv-loop μ-loop
-be64-requires c κs = search needs
+be64-requires c κs = tt
 
 folded-requires : tie.Need-folded-requires Inv-loop μ-loop
-folded-requires c κs = search needs
+folded-requires c κs = tt
 
 returns : tie.Need-returns Inv-loop μ-loop
 returns c =
@@ -28,19 +28,19 @@ returns c =
     c .folded .ensures ∙ ap folded (c .before .be64 .ensures) ∙ sym (short key (omega arith))
 
 word-requires : tie.Need-word-requires Inv-loop μ-loop
-word-requires c κs = search needs
+word-requires c κs = tt
 
 sub-word : tie.Need-sub-word Inv-loop μ-loop
 sub-word c = search needs
 
 word-requires-2 : tie.Need-word-requires-2 Inv-loop μ-loop
-word-requires-2 c κs = search needs
+word-requires-2 c κs = tt
 
 mix-requires : tie.Need-mix-requires Inv-loop μ-loop
-mix-requires c κs = search needs
+mix-requires c κs = tt
 
 folded-requires-2 : tie.Need-folded-requires-2 Inv-loop μ-loop
-folded-requires-2 c κs = search needs
+folded-requires-2 c κs = tt
 
 returns-2 : tie.Need-returns-2 Inv-loop μ-loop
 returns-2 c =
@@ -61,7 +61,7 @@ part-pair-end : tie.Need-part-pair-end Inv-loop μ-loop
 part-pair-end c = search needs
 
 pair-requires : tie.Need-pair-requires Inv-loop μ-loop
-pair-requires c κs = search needs
+pair-requires c κs = tt
 
 loop-holds : tie.Need-loop-holds Inv-loop μ-loop
 loop-holds c =
@@ -72,7 +72,7 @@ add-end : tie.Need-add-end Inv-loop μ-loop
 add-end c = search needs
 
 turned-requires : tie.Need-turned-requires Inv-loop μ-loop
-turned-requires c κs = search needs
+turned-requires c κs = tt
 
 sub-pair-2 : tie.Need-sub-pair-2 Inv-loop μ-loop
 sub-pair-2 c = search needs
@@ -84,10 +84,10 @@ part-pair-end-2 : tie.Need-part-pair-end-2 Inv-loop μ-loop
 part-pair-end-2 c = search needs
 
 pair-requires-2 : tie.Need-pair-requires-2 Inv-loop μ-loop
-pair-requires-2 c κs = search needs
+pair-requires-2 c κs = tt
 
 mix-requires-2 : tie.Need-mix-requires-2 Inv-loop μ-loop
-mix-requires-2 c κs = search needs
+mix-requires-2 c κs = tt
 
 loop-less : tie.Need-loop-less Inv-loop μ-loop
 loop-less c = search needs
@@ -102,7 +102,7 @@ loop-again c =
     (omega arith, l .inv .1 ∙ ap folded (next-step key (l .at) (l .p) (omega arith) ∙ ap (left key (l .at + 16)) (sym (c .mix2 .ensures ∙ (λ i. mixed (t .turned .ensures i) (q i))))))
 
 folded-requires-3 : tie.Need-folded-requires-3 Inv-loop μ-loop
-folded-requires-3 c κs = search needs
+folded-requires-3 c κs = tt
 
 returns-3 : tie.Need-returns-3 Inv-loop μ-loop
 returns-3 c =

@@ -1,17 +1,16 @@
 use mathlib.Core.Path.{_∙_}
 use Rattle.fingerprint.specs.Fingerprint.{mixed, pair}
-use borrow.Author.Needs.{needs}
 use Rattle.fingerprint.proofs.pair.Statement.{statement}
 use Rattle.fingerprint.proofs.pair.Tie as tie
 
 word-requires : tie.Need-word-requires
-word-requires c κs = search needs
+word-requires c κs = tt
 
 word-requires-2 : tie.Need-word-requires-2
-word-requires-2 c κs = search needs
+word-requires-2 c κs = tt
 
 mix-requires : tie.Need-mix-requires
-mix-requires c κs = search needs
+mix-requires c κs = tt
 
 returns : tie.Need-returns
 unfolding pair

@@ -11,19 +11,19 @@ cast-put-be : tie.Need-cast-put-be
 cast-put-be c = search needs
 
 put-be-requires : tie.Need-put-be-requires
-put-be-requires c κs = search needs
+put-be-requires c κs = tt
 
 cast-put-be-2 : tie.Need-cast-put-be-2
 cast-put-be-2 c = search needs
 
 put-be-requires-2 : tie.Need-put-be-requires-2
-put-be-requires-2 c κs = search needs
+put-be-requires-2 c κs = tt
 
 cast-put-be-3 : tie.Need-cast-put-be-3
 cast-put-be-3 c = search needs
 
 put-be-requires-3 : tie.Need-put-be-requires-3
-put-be-requires-3 c κs = search needs
+put-be-requires-3 c κs = tt
 
 same-length : tie.Need-same-length
 same-length c = search needs

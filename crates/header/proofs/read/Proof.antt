@@ -1,34 +1,33 @@
 use Rattle.header.specs.Header.{headerOf}
-use borrow.Author.Needs.{needs}
 use Rattle.header.proofs.read.Statement.{statement}
 use Rattle.header.proofs.read.Tie as tie
 
 byte-requires : tie.Need-byte-requires
-byte-requires c κs = search needs
+byte-requires c κs = tt
 
 byte-requires-2 : tie.Need-byte-requires-2
-byte-requires-2 c κs = search needs
+byte-requires-2 c κs = tt
 
 be16-requires : tie.Need-be16-requires
-be16-requires c κs = search needs
+be16-requires c κs = tt
 
 byte-requires-3 : tie.Need-byte-requires-3
-byte-requires-3 c κs = search needs
+byte-requires-3 c κs = tt
 
 byte-requires-4 : tie.Need-byte-requires-4
-byte-requires-4 c κs = search needs
+byte-requires-4 c κs = tt
 
 be16-requires-2 : tie.Need-be16-requires-2
-be16-requires-2 c κs = search needs
+be16-requires-2 c κs = tt
 
 be32-requires : tie.Need-be32-requires
-be32-requires c κs = search needs
+be32-requires c κs = tt
 
 be32-requires-2 : tie.Need-be32-requires-2
-be32-requires-2 c κs = search needs
+be32-requires-2 c κs = tt
 
 be64-requires : tie.Need-be64-requires
-be64-requires c κs = search needs
+be64-requires c κs = tt
 
 returns : tie.Need-returns
 unfolding headerOf

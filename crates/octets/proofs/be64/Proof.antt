@@ -4,7 +4,7 @@ use Rattle.octets.proofs.be64.Statement.{statement}
 use Rattle.octets.proofs.be64.Tie as tie
 
 fits-requires : tie.Need-fits-requires
-fits-requires c κs = search needs
+fits-requires c κs = tt
 
 halves-requires : tie.Need-halves-requires
 halves-requires c κs =

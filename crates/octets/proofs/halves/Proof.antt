@@ -1,7 +1,8 @@
 use Prim.Native.Nat.{_+_, _*_}
 use mathlib.Core.Path.{sym, _∙_}
-use Rattle.octets.proofs.Numbers.{num-halves}
+use Rattle.octets.proofs.Numbers.{num-split}
 use borrow.Author.Needs.{needs}
+use native.Mathlib.Omega.{arith}
 use Rattle.octets.proofs.halves.Statement.{statement}
 use Rattle.octets.proofs.halves.Tie as tie
 
@@ -23,7 +24,7 @@ add-result c = search needs
 returns : tie.Need-returns
 returns c =
     let a = c .before .before .before .args in
-    (λ i. c .before .number .ensures .0 i * 4294967296 + c .number2 .ensures .0 i) ∙ sym (num-halves (a .s .now) (a .at) (c .before .before .before .pre))
+    (λ i. c .before .number .ensures .0 i * 4294967296 + c .number2 .ensures .0 i) ∙ sym (num-split (a .s .now) (a .at) 4 4 (omega arith))
 
 pub halves-spec : {M : Type 1} → statement M
 halves-spec =

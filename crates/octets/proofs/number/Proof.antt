@@ -4,7 +4,6 @@ use Rattle.octets.proofs.Numbers.{be-room, be-bound, num-suc}
 use Rattle.octets.specs.BigEndian.{beFrom, be, num}
 use borrow.Author.Needs.{needs}
 use mathlib.Core.Path.{_≡_, refl, sym}
-use native.Mathlib.Numerals.{add-one}
 use native.Mathlib.Omega.{arith}
 use Rattle.octets.proofs.number.Statement.{statement}
 use Rattle.octets.proofs.number.Tie as tie
@@ -29,7 +28,7 @@ shared-slice-read-wide : tie.Need-shared-slice-read-wide Inv-loop μ-loop
 shared-slice-read-wide c = search needs
 
 wide-requires : tie.Need-wide-requires Inv-loop μ-loop
-wide-requires c κs = search needs
+wide-requires c κs = tt
 
 add-v : tie.Need-add-v Inv-loop μ-loop
 add-v c = let l = c .before .before .before .loop in omega (arith, be-room (l .v) (l .i) (c .wide .result) (l .inv .2) (omega arith) (omega arith))
@@ -46,7 +45,7 @@ loop-again c =
     let l = p .loop in
     let a = p .before .before .args in (
       omega arith,
-      rw (c .wide .ensures .0, l .inv .1, add-one (l .i)) (sym (num-suc (a .s .now) (a .at) (l .i) (omega arith))),
+      rw (c .wide .ensures .0, l .inv .1) (sym (num-suc (a .s .now) (a .at) (l .i) (omega arith))),
       be-bound (l .v) (l .i) (c .wide .result) (l .inv .2) (omega arith),
     )
 

@@ -10,7 +10,7 @@ use Rattle.octets.proofs.number_there.Statement.{statement}
 use Rattle.octets.proofs.number_there.Tie as tie
 
 fits-requires : tie.Need-fits-requires
-fits-requires c κs = search needs
+fits-requires c κs = tt
 
 number-requires : tie.Need-number-requires
 number-requires c κs =
@@ -22,7 +22,7 @@ returns : tie.Need-returns
 returns c = search needs
 
 part-requires : tie.Need-part-requires
-part-requires c κs = search needs
+part-requires c κs = tt
 
 number-requires-2 : tie.Need-number-requires-2
 number-requires-2 c κs =

@@ -1,5 +1,4 @@
 -- `part` meets its contract.
-use borrow.Author.Needs.{needs}
 use lib.ListN.{take}
 use lib.Seq.{take-all, length-take-le}
 use mathlib.Core.Path.{sym, ap, _∙_}
@@ -8,7 +7,7 @@ use Rattle.octets.proofs.part.Statement.{statement}
 use Rattle.octets.proofs.part.Tie as tie
 
 rest-requires : tie.Need-rest-requires
-rest-requires c κs = search needs
+rest-requires c κs = tt
 
 slice-aggregate-result : tie.Need-slice-aggregate-result
 slice-aggregate-result c = let a = c .before .before .before .before .args in sym (length-take-le (a .n) (c .before .before .rest .result .now) (omega arith))

@@ -7,7 +7,7 @@ use Rattle.octets.proofs.put_be.Statement.{statement}
 use Rattle.octets.proofs.put_be.Tie as tie
 
 fits-requires : tie.Need-fits-requires
-fits-requires c κs = search needs
+fits-requires c κs = tt
 
 paste-be-requires : tie.Need-paste-be-requires
 paste-be-requires c κs =

@@ -6,7 +6,7 @@ use Rattle.octets.proofs.put_zeros.Statement.{statement}
 use Rattle.octets.proofs.put_zeros.Tie as tie
 
 fits-requires : tie.Need-fits-requires
-fits-requires c κs = search needs
+fits-requires c κs = tt
 
 paste-zeros-requires : tie.Need-paste-zeros-requires
 paste-zeros-requires c κs =

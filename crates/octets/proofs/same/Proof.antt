@@ -16,10 +16,10 @@ sub-last : tie.Need-sub-last
 sub-last c = search needs
 
 word-requires : tie.Need-word-requires
-word-requires c κs = search needs
+word-requires c κs = tt
 
 word-requires-2 : tie.Need-word-requires-2
-word-requires-2 c κs = search needs
+word-requires-2 c κs = tt
 
 returns-2 : tie.Need-returns-2
 returns-2 c =

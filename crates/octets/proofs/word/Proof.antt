@@ -1,6 +1,6 @@
 use Prim.Native.Nat.{_+_, _*_, _≤_}
 use Rattle.octets.proofs.Lists.{room}
-use Rattle.octets.proofs.Words.{word-there, word-none, little-eight}
+use Rattle.octets.proofs.Words.{word-there, word-none, little-split}
 use borrow.Author.Needs.{needs}
 use borrow.Author.Tests.{not-true, not-false}
 use lib.ListN.{length}
@@ -10,7 +10,7 @@ use Rattle.octets.proofs.word.Statement.{statement}
 use Rattle.octets.proofs.word.Tie as tie
 
 fits-requires : tie.Need-fits-requires
-fits-requires c κs = search needs
+fits-requires c κs = tt
 
 returns : tie.Need-returns
 returns c =
@@ -50,7 +50,7 @@ returns-2 c =
     let a = p .before .before .before .args in
     let t = p .before .fits2 in
     let h : a .at + 8 ≤ length (a .s .now) = room (a .s .now) (a .at) 8 (t .result) (t .ensures) (not-false _ (p .if1 .left)) in
-    (λ i. c .before .quarter .ensures .0 i + 4294967296 * c .quarter2 .ensures .0 i) ∙ sym (word-there (a .s .now) (a .at) h ∙ little-eight (a .s .now) (a .at) h)
+    (λ i. c .before .quarter .ensures .0 i + 4294967296 * c .quarter2 .ensures .0 i) ∙ sym (word-there (a .s .now) (a .at) h ∙ little-split (a .s .now) (a .at) 4 4 (omega arith))
 
 pub word-spec : {M : Type 1} → statement M
 word-spec =

@@ -1,28 +1,27 @@
 use Rattle.request.specs.Reading.{frameOf}
-use borrow.Author.Needs.{needs}
 use Rattle.request.proofs.frame_of.Statement.{statement}
 use Rattle.request.proofs.frame_of.Tie as tie
 
 extras-span-requires : tie.Need-extras-span-requires
-extras-span-requires c κs = search needs
+extras-span-requires c κs = tt
 
 shape-of-requires : tie.Need-shape-of-requires
-shape-of-requires c κs = search needs
+shape-of-requires c κs = tt
 
 bytes-in-requires : tie.Need-bytes-in-requires
-bytes-in-requires c κs = search needs
+bytes-in-requires c κs = tt
 
 meta-size-requires : tie.Need-meta-size-requires
-meta-size-requires c κs = search needs
+meta-size-requires c κs = tt
 
 fields-of-requires : tie.Need-fields-of-requires
-fields-of-requires c κs = search needs
+fields-of-requires c κs = tt
 
 key-span-requires : tie.Need-key-span-requires
-key-span-requires c κs = search needs
+key-span-requires c κs = tt
 
 value-span-requires : tie.Need-value-span-requires
-value-span-requires c κs = search needs
+value-span-requires c κs = tt
 
 returns : tie.Need-returns
 unfolding frameOf

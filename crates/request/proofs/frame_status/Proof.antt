@@ -1,23 +1,22 @@
 use Rattle.request.specs.Reading.{frameStatus}
 use mathlib.Core.Path.{_∙_}
-use borrow.Author.Needs.{needs}
 use Rattle.request.proofs.frame_status.Statement.{statement}
 use Rattle.request.proofs.frame_status.Tie as tie
 
 extras-span-requires : tie.Need-extras-span-requires
-extras-span-requires c κs = search needs
+extras-span-requires c κs = tt
 
 bytes-in-requires : tie.Need-bytes-in-requires
-bytes-in-requires c κs = search needs
+bytes-in-requires c κs = tt
 
 value-span-requires : tie.Need-value-span-requires
-value-span-requires c κs = search needs
+value-span-requires c κs = tt
 
 bytes-in-requires-2 : tie.Need-bytes-in-requires-2
-bytes-in-requires-2 c κs = search needs
+bytes-in-requires-2 c κs = tt
 
 status-requires : tie.Need-status-requires
-status-requires c κs = search needs
+status-requires c κs = tt
 
 returns : tie.Need-returns
 unfolding frameStatus

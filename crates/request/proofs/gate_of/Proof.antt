@@ -2,7 +2,6 @@ use mathlib.Core.Path.{ap}
 use borrow.Author.Tests.{le-ltb, lt-ltb, eq-eqb, ne-eqb}
 use Rattle.header.specs.declared.Layout.{Layout}
 use Rattle.request.specs.Reading.{gateOf}
-use borrow.Author.Needs.{needs}
 use Rattle.request.proofs.gate_of.Statement.{statement}
 use Rattle.request.proofs.gate_of.Tie as tie
 
@@ -11,7 +10,7 @@ unfolding gateOf
 returns c = simp (lt-ltb _ _ (c .if1 .taken))
 
 read-requires : tie.Need-read-requires
-read-requires c κs = search needs
+read-requires c κs = tt
 
 returns-2 : tie.Need-returns-2
 unfolding gateOf
@@ -24,7 +23,7 @@ returns-3 c =
     simp (le-ltb _ _ (p .before .before .before .if1 .left), ← p .before .before .read .ensures, eq-eqb _ _ (p .if2 .left), lt-ltb _ _ (c .if3 .taken))
 
 layout-of-requires : tie.Need-layout-of-requires
-layout-of-requires c κs = search needs
+layout-of-requires c κs = tt
 
 returns-4 : tie.Need-returns-4
 unfolding gateOf

@@ -4,7 +4,7 @@ use Rattle.request.proofs.read.Statement.{statement}
 use Rattle.request.proofs.read.Tie as tie
 
 gate-of-requires : tie.Need-gate-of-requires
-gate-of-requires c κs = search needs
+gate-of-requires c κs = tt
 
 enum-known-outcome : tie.Need-enum-known-outcome
 enum-known-outcome c = search needs
@@ -13,7 +13,7 @@ enum-known-h : tie.Need-enum-known-h
 enum-known-h c = search needs
 
 read-whole-requires : tie.Need-read-whole-requires
-read-whole-requires c κs = search needs
+read-whole-requires c κs = tt
 
 returns : tie.Need-returns
 unfolding reading

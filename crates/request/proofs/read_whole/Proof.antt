@@ -1,14 +1,13 @@
 use borrow.Author.Tests.{eq-eqb, ne-eqb}
 use Rattle.request.specs.Reading.{wholeReading}
-use borrow.Author.Needs.{needs}
 use Rattle.request.proofs.read_whole.Statement.{statement}
 use Rattle.request.proofs.read_whole.Tie as tie
 
 frame-status-requires : tie.Need-frame-status-requires
-frame-status-requires c κs = search needs
+frame-status-requires c κs = tt
 
 frame-of-requires : tie.Need-frame-of-requires
-frame-of-requires c κs = search needs
+frame-of-requires c κs = tt
 
 returns : tie.Need-returns
 unfolding wholeReading

@@ -2,15 +2,14 @@ use Prim.Native.Nat.{_+_, _-_}
 use mathlib.Core.Path.{_≡_}
 use native.Mathlib.Omega.{arith}
 use Rattle.request.specs.Reading.{valueSpan}
-use borrow.Author.Needs.{needs}
 use Rattle.request.proofs.value_span.Statement.{statement}
 use Rattle.request.proofs.value_span.Tie as tie
 
 layout-of-requires : tie.Need-layout-of-requires
-layout-of-requires c κs = search needs
+layout-of-requires c κs = tt
 
 minus-requires : tie.Need-minus-requires
-minus-requires c κs = search needs
+minus-requires c κs = tt
 
 returns : tie.Need-returns
 unfolding valueSpan

@@ -55,20 +55,20 @@ use Rattle.request.proofs.Reading as R
 use Rattle.request.proofs.Reading.Laws as R′
 
 -- the places of the signatures: the bytes, and the view
-abbrev bytes : Slot 1
+abbrev pub bytes : Slot 1
 bytes = SliceRef 0 tt u8 tt
 
-abbrev B : Lfts 1 → RattleType
+abbrev pub B : Lfts 1 → RattleType
 B κs = T.the-row (namedLft 1 0 tt κs)
 
 -- the types in MIR of the bytes and of the view's fields, and the machine values of the bytes and of what was read
-abbrev bytesTy : Lifetime → Ty
+abbrev pub bytesTy : Lifetime → Ty
 bytesTy a = sliceTy (tyRef a imm (tyInt w8))
 
 abbrev fieldTys : Tys
 fieldTys = tcons (bytesTy (named 0)) (tcons R′.mir tnil)
 
-abbrev bv : RefT (List ℕ) → Val
+abbrev pub bv : RefT (List ℕ) → Val
 bv s = sliceVal (s .ptr) (length (s .now))
 
 abbrev rv : Reading → Val
@@ -76,7 +76,7 @@ rv r = EL.val R.the-type R′.the-laws r
 
 -- at a lifetime: the bytes' type, the view's with its laws, and a view's machine value
 module _ (κ : Lft) where
-  abbrev Bytes : RattleType
+  abbrev pub Bytes : RattleType
   Bytes = ShrSlice (named 0) κ u8
 
   abbrev D : Declared
@@ -88,7 +88,7 @@ module _ (κ : Lft) where
   abbrev vv : Request → Val
   vv d = LL.val D L d
 
-abbrev token : {M : Type 1} (𝓤 : URA M) → Lft → Share → Item 𝓤
+abbrev pub token : {M : Type 1} (𝓤 : URA M) → Lft → Share → Item 𝓤
 token 𝓤 κ q = ‵ (flft κ q) ⊛ ‵ ftrue
 
 -- ---- a view is made
@@ -181,7 +181,7 @@ module _ {M : Type 1} (𝓤 : URA M) (H : Heap 𝓤) (𝓜 : Model 𝓤 H) (𝓖
       (λ κs qs bounds a _ are. via 𝓤 _ (fst∗ 𝓤 _ (emp 𝓤)) (open-walk 𝓤 H (𝓖 .A) (𝓜 .mem) (𝓡 .run) W (κs .0) (qs .0) (a .0) C Λ fm g known (are .0))))
 
 -- ---- a view is taken apart
-abbrev showing : Ended
+abbrev pub showing : Ended
 showing = record { signature = record { lifetimes = 1; outlives = []; params = plain B ∷ []; result = bytes }; kept = (yes, tt) }
 
 abbrev finding : Ended
@@ -202,7 +202,7 @@ abbrev show-stay : Stays (showing .signature .params) (showing .kept)
 show-stay = (stay-none B yes, tt)
 
 module _ (part : List ℕ → Reading → List ℕ) {M : Type 1} (𝓤 : URA M) (H : Heap 𝓤) where
-  abbrev Shows : Clauses 𝓤 showing
+  abbrev pub Shows : Clauses 𝓤 showing
   Shows κs a = record { ghost = Unit {0}; requires = λ _. emp 𝓤; ensures = λ _ r _. fact 𝓤 (now r ≡ part (now (a .0 .received)) (a .0 .reading)) }
 
   abbrev Finds : Clauses 𝓤 finding

@@ -22,7 +22,7 @@ ends : (l : Layout) (h g : Header) → l ≡ layoutOf h → h ≡ g → l .end �
 ends l h g e f = ap (λ (x : Layout). x .end) e ∙ ap (λ (x : Header). 24 + x .body) f
 
 body-size-requires : tie.Need-body-size-requires
-body-size-requires c κs = search needs
+body-size-requires c κs = tt
 
 returns : tie.Need-returns
 returns c =
@@ -45,7 +45,7 @@ header-for-requires c κs =
     (omega (arith, c .if2 .left), n .1)
 
 status-requires : tie.Need-status-requires
-status-requires c κs = search needs
+status-requires c κs = tt
 
 returns-3 : tie.Need-returns-3
 returns-3 c =
@@ -60,7 +60,7 @@ returns-3 c =
     (sym x, refl)
 
 layout-of-requires : tie.Need-layout-of-requires
-layout-of-requires c κs = search needs
+layout-of-requires c κs = tt
 
 returns-4 : tie.Need-returns-4
 unfolding headerFor

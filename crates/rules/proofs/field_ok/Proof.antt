@@ -9,10 +9,10 @@ unfolding fieldOk
 returns c = simp (lt-leb _ _ ((c .if1) .taken))
 
 byte-requires : tie.Need-byte-requires
-byte-requires c κs = search needs
+byte-requires c κs = tt
 
 be16-requires : tie.Need-be16-requires
-be16-requires c κs = search needs
+be16-requires c κs = tt
 
 cast-size : tie.Need-cast-size
 cast-size c = search needs

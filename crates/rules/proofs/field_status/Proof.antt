@@ -1,12 +1,11 @@
 use mathlib.Core.Path.{sym, _∙_}
 use borrow.Author.Tests.{le-ltb, lt-ltb}
 use Rattle.rules.proofs.RuleLaws.{field-meta, field-plain}
-use borrow.Author.Needs.{needs}
 use Rattle.rules.proofs.field_status.Statement.{statement}
 use Rattle.rules.proofs.field_status.Tie as tie
 
 meta-status-requires : tie.Need-meta-status-requires
-meta-status-requires c κs = search needs
+meta-status-requires c κs = tt
 
 returns : tie.Need-returns
 returns c = c .meta-status .ensures ∙ sym (field-meta _ _ _ (c .before .if1 .taken))

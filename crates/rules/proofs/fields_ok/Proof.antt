@@ -23,10 +23,10 @@ loop-holds : tie.Need-loop-holds Inv-loop μ-loop
 loop-holds c = (omega arith, refl)
 
 rest-requires : tie.Need-rest-requires Inv-loop μ-loop
-rest-requires c κs = search needs
+rest-requires c κs = tt
 
 field-ok-requires : tie.Need-field-ok-requires Inv-loop μ-loop
-field-ok-requires c κs = search needs
+field-ok-requires c κs = tt
 
 returns : tie.Need-returns Inv-loop μ-loop
 returns c =
@@ -36,7 +36,7 @@ returns c =
     sym (b .loop .inv .1 ∙ fields-stop l (simp length-drop (omega arith)) no)
 
 be16-requires : tie.Need-be16-requires Inv-loop μ-loop
-be16-requires c κs = search needs
+be16-requires c κs = tt
 
 cast-at : tie.Need-cast-at Inv-loop μ-loop
 cast-at c = search needs

@@ -16,7 +16,7 @@ cast-body : tie.Need-cast-body
 cast-body c = search needs
 
 extras-ok-requires : tie.Need-extras-ok-requires
-extras-ok-requires c κs = search needs
+extras-ok-requires c κs = tt
 
 returns : tie.Need-returns
 unfolding formOk

@@ -1,6 +1,5 @@
 use borrow.Author.Tests.{eq-eqb, ne-eqb}
 use Rattle.rules.specs.Rules.{formStatus}
-use borrow.Author.Needs.{needs}
 use Rattle.rules.proofs.form_status.Statement.{statement}
 use Rattle.rules.proofs.form_status.Tie as tie
 
@@ -9,7 +8,7 @@ unfolding formStatus
 returns c = simp (ne-eqb _ _ (c .if1 .taken))
 
 form-ok-requires : tie.Need-form-ok-requires
-form-ok-requires c κs = search needs
+form-ok-requires c κs = tt
 
 returns-2 : tie.Need-returns-2
 unfolding formStatus

@@ -9,7 +9,7 @@ unfolding metaSize
 returns c = simp (eq-eqb _ _ ((c .if1) .taken))
 
 section-of-requires : tie.Need-section-of-requires
-section-of-requires c κs = search needs
+section-of-requires c κs = tt
 
 cast-result : tie.Need-cast-result
 cast-result c = search needs

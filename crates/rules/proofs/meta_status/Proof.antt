@@ -4,10 +4,10 @@ use Rattle.rules.proofs.meta_status.Statement.{statement}
 use Rattle.rules.proofs.meta_status.Tie as tie
 
 with-meta-requires : tie.Need-with-meta-requires
-with-meta-requires c κs = search needs
+with-meta-requires c κs = tt
 
 with-meta-ok-requires : tie.Need-with-meta-ok-requires
-with-meta-ok-requires c κs = search needs
+with-meta-ok-requires c κs = tt
 
 returns : tie.Need-returns
 unfolding metaStatus
@@ -17,7 +17,7 @@ cast-too-large : tie.Need-cast-too-large
 cast-too-large c = search needs
 
 too-large-requires : tie.Need-too-large-requires
-too-large-requires c κs = search needs
+too-large-requires c κs = tt
 
 returns-2 : tie.Need-returns-2
 unfolding metaStatus

@@ -1,19 +1,18 @@
 use Rattle.rules.specs.WithMeta.{carriedNumbers}
-use borrow.Author.Needs.{needs}
 use Rattle.rules.proofs.numbers_of.Statement.{statement}
 use Rattle.rules.proofs.numbers_of.Tie as tie
 
 be32-requires : tie.Need-be32-requires
-be32-requires c κs = search needs
+be32-requires c κs = tt
 
 be32-requires-2 : tie.Need-be32-requires-2
-be32-requires-2 c κs = search needs
+be32-requires-2 c κs = tt
 
 be64-requires : tie.Need-be64-requires
-be64-requires c κs = search needs
+be64-requires c κs = tt
 
 be64-requires-2 : tie.Need-be64-requires-2
-be64-requires-2 c κs = search needs
+be64-requires-2 c κs = tt
 
 returns : tie.Need-returns
 unfolding carriedNumbers

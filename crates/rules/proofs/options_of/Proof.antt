@@ -1,11 +1,10 @@
 use borrow.Author.Tests.{le-leb, lt-leb}
 use Rattle.rules.specs.WithMeta.{optionsOf}
-use borrow.Author.Needs.{needs}
 use Rattle.rules.proofs.options_of.Statement.{statement}
 use Rattle.rules.proofs.options_of.Tie as tie
 
 be32-requires : tie.Need-be32-requires
-be32-requires c κs = search needs
+be32-requires c κs = tt
 
 returns : tie.Need-returns
 unfolding optionsOf

@@ -1,18 +1,17 @@
 use borrow.Author.Tests.{eq-eqb, ne-eqb}
 use Rattle.rules.specs.WithMeta.{sectionOf}
-use borrow.Author.Needs.{needs}
 use Rattle.rules.proofs.section_of.Statement.{statement}
 use Rattle.rules.proofs.section_of.Tie as tie
 
 be16-requires : tie.Need-be16-requires
-be16-requires c κs = search needs
+be16-requires c κs = tt
 
 returns : tie.Need-returns
 unfolding sectionOf
 returns c = simp (eq-eqb _ _ ((c .before .if1) .taken)) ((c .be16) .ensures)
 
 be16-requires-2 : tie.Need-be16-requires-2
-be16-requires-2 c κs = search needs
+be16-requires-2 c κs = tt
 
 returns-2 : tie.Need-returns-2
 unfolding sectionOf

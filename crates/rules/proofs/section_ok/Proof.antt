@@ -1,16 +1,15 @@
 use Rattle.rules.specs.Section.{sectionOk}
-use borrow.Author.Needs.{needs}
 use Rattle.rules.proofs.section_ok.Statement.{statement}
 use Rattle.rules.proofs.section_ok.Tie as tie
 
 rest-requires : tie.Need-rest-requires
-rest-requires c κs = search needs
+rest-requires c κs = tt
 
 fields-ok-requires : tie.Need-fields-ok-requires
-fields-ok-requires c κs = search needs
+fields-ok-requires c κs = tt
 
 byte-requires : tie.Need-byte-requires
-byte-requires c κs = search needs
+byte-requires c κs = tt
 
 returns : tie.Need-returns
 unfolding sectionOk

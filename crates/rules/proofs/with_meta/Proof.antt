@@ -1,16 +1,15 @@
 use Rattle.rules.specs.WithMeta.{withMeta}
-use borrow.Author.Needs.{needs}
 use Rattle.rules.proofs.with_meta.Statement.{statement}
 use Rattle.rules.proofs.with_meta.Tie as tie
 
 numbers-of-requires : tie.Need-numbers-of-requires
-numbers-of-requires c κs = search needs
+numbers-of-requires c κs = tt
 
 options-of-requires : tie.Need-options-of-requires
-options-of-requires c κs = search needs
+options-of-requires c κs = tt
 
 section-of-requires : tie.Need-section-of-requires
-section-of-requires c κs = search needs
+section-of-requires c κs = tt
 
 returns : tie.Need-returns
 unfolding withMeta

@@ -5,57 +5,42 @@ use mathlib.Core.Path.{_≡_, refl, sym, _∙_}
 use lib.ListN.{length, length-drop}
 use Rattle.octets.specs.Parts.{Bytes}
 use Rattle.run.specs.Run.{begun, runEnd}
-use Rattle.run.proofs.Runs.{turn-told, turn-on, turn-ends}
+use Rattle.run.proofs.Runs.{turn-told, turn-at, turn-on, turn-ends}
 use Rattle.run.proofs.serve_run.Statement.{statement}
 use Rattle.run.proofs.serve_run.Tie as tie
 
 abbrev Inv-loop : tie.InvT-loop
-Inv-loop b₀ clock run out₀ at₀ filled₀ tally₀ b out at filled tally =
-    (length b ≡ length b₀) × ((length out ≡ length out₀) × ((at ≤ length run) × ((filled ≤ length out) × (Bytes b
-    × (runEnd clock run (record { table = b; reply = out; tally = tally; at = at; filled = filled }) ≡ runEnd clock run (begun b₀ out₀ tally₀))))))
+Inv-loop b₀ clock run out₀ cursor₀ filled₀ tally₀ b out cursor filled tally =
+    (length b ≡ length b₀) × ((length out ≡ length out₀) × ((cursor .at ≤ length run) × ((filled ≤ length out) × (Bytes b
+    × (runEnd clock run (record { table = b; reply = out; tally = tally; at = cursor .at; filled = filled }) ≡ runEnd clock run (begun b₀ out₀ tally₀))))))
 
 abbrev μ-loop : tie.MeasureT-loop
-μ-loop b₀ clock run out₀ at₀ filled₀ tally₀ b out at filled tally = length run - at
+μ-loop b₀ clock run out₀ cursor₀ filled₀ tally₀ b out cursor filled tally = length run - cursor .at
 
 loop-holds : tie.Need-loop-holds Inv-loop μ-loop
 loop-holds c = (refl, (refl, (omega arith, (omega arith, (λ k. c .before .before .slice-known .given k .fits, refl)))))
 
-rest-requires : tie.Need-rest-requires Inv-loop μ-loop
-rest-requires c κs = search needs
+sub-step : tie.Need-sub-step Inv-loop μ-loop
+sub-step c = c .before .loop .inv .1 .1 .1 .0
 
-sub-serve-one : tie.Need-sub-serve-one Inv-loop μ-loop
-sub-serve-one c = c .before .before .loop .inv .1 .1 .1 .0
+part-step-start : tie.Need-part-step-start Inv-loop μ-loop
+part-step-start c = search needs
 
-part-serve-one-start : tie.Need-part-serve-one-start Inv-loop μ-loop
-part-serve-one-start c = search needs
+part-step-end : tie.Need-part-step-end Inv-loop μ-loop
+part-step-end c = search needs
 
-part-serve-one-end : tie.Need-part-serve-one-end Inv-loop μ-loop
-part-serve-one-end c = search needs
-
-serve-one-requires : tie.Need-serve-one-requires Inv-loop μ-loop
-serve-one-requires c κs = search needs
+step-requires : tie.Need-step-requires Inv-loop μ-loop
+step-requires c κs = search needs
 
 enum-known-r : tie.Need-enum-known-r Inv-loop μ-loop
 enum-known-r c = search needs
-
-add-at : tie.Need-add-at Inv-loop μ-loop
-add-at c =
-    let l = c .before .before .before .before .before .before .before .before .before .before .before .loop in
-    let a = c .before .before .before .before .before .before .before .before .before .before .before .before .before .before .before .args in
-    let rest = c .before .before .before .before .before .before .before .before .before .rest .ensures in
-    let one = c .before .before .before .before .before .before .before .serve-one .ensures in
-    let w = turn-told (a .clock) (a .run .now) (l .b) (l .out) (l .tally) (l .at) (l .filled) (l .inv .1 .1 .1 .0) _ rest _ _ _ one _ _ _ (c .before .r .given .1) in
-    let d = length-drop (l .at) (a .run .now) in
-    omega (arith, w .inside, d, l .inv .1 .1 .0)
 
 add-filled : tie.Need-add-filled Inv-loop μ-loop
 add-filled c =
     let l = c .before .before .before .before .before .before .before .before .before .before .before .loop in
     let a = c .before .before .before .before .before .before .before .before .before .before .before .before .before .before .before .args in
-    let rest = c .before .before .before .before .before .before .before .before .before .rest .ensures in
-    let one = c .before .before .before .before .before .before .before .serve-one .ensures in
-    let w = turn-told (a .clock) (a .run .now) (l .b) (l .out) (l .tally) (l .at) (l .filled) (l .inv .1 .1 .1 .0) _ rest _ _ _ one _ _ _ (c .before .r .given .1) in
-    let d = length-drop (l .at) (a .run .now) in
+    let one = c .before .before .before .before .before .before .before .before .step .ensures in
+    let w = turn-told (a .clock) (a .run .now) (l .b) (l .out) (l .tally) (l .cursor .at) (l .filled) (l .inv .1 .1 .1 .0) _ _ _ (one .0) (one .1) _ _ _ (c .before .r .given .1) in
     omega (arith, w .fits (l .inv .1 .1 .1 .1 .0), l .inv .1 .1 .1 .0, l .inv .1 .0)
 
 counted-requires : tie.Need-counted-requires Inv-loop μ-loop
@@ -65,31 +50,31 @@ loop-less : tie.Need-loop-less Inv-loop μ-loop
 loop-less c =
     let l = c .before .before .before .before .before .before .before .before .before .before .before .before .loop in
     let a = c .before .before .before .before .before .before .before .before .before .before .before .before .before .before .before .before .args in
-    let rest = c .before .before .before .before .before .before .before .before .before .before .rest .ensures in
-    let one = c .before .before .before .before .before .before .before .before .serve-one .ensures in
-    let w = turn-told (a .clock) (a .run .now) (l .b) (l .out) (l .tally) (l .at) (l .filled) (l .inv .1 .1 .1 .0) _ rest _ _ _ one _ _ _ (c .before .before .r .given .1) in
-    let d = length-drop (l .at) (a .run .now) in
-    omega (arith, w .least, w .inside, d, l .inv .1 .1 .0)
+    let one = c .before .before .before .before .before .before .before .before .before .step .ensures in
+    let w = turn-told (a .clock) (a .run .now) (l .b) (l .out) (l .tally) (l .cursor .at) (l .filled) (l .inv .1 .1 .1 .0) _ _ _ (one .0) (one .1) _ _ _ (c .before .before .r .given .1) in
+    let p = turn-at (a .clock) (a .run .now) (l .b) (l .out) (l .tally) (l .cursor .at) (l .filled) (l .inv .1 .1 .1 .0) _ _ _ (one .0) (one .1) _ _ _ (c .before .before .r .given .1) in
+    let d = length-drop (l .cursor .at) (a .run .now) in
+    omega (arith, w .least, w .inside, p, d, l .inv .1 .1 .0)
 
 loop-again : tie.Need-loop-again Inv-loop μ-loop
 loop-again c =
     let l = c .before .before .before .before .before .before .before .before .before .before .before .before .loop in
     let a = c .before .before .before .before .before .before .before .before .before .before .before .before .before .before .before .before .args in
-    let rest = c .before .before .before .before .before .before .before .before .before .before .rest .ensures in
-    let one = c .before .before .before .before .before .before .before .before .serve-one .ensures in
-    let w = turn-told (a .clock) (a .run .now) (l .b) (l .out) (l .tally) (l .at) (l .filled) (l .inv .1 .1 .1 .0) _ rest _ _ _ one _ _ _ (c .before .before .r .given .1) in
-    let more = turn-on (a .clock) (a .run .now) (l .b) (l .out) (l .tally) (l .at) (l .filled) (l .inv .1 .1 .1 .0) _ rest _ _ _ one
+    let one = c .before .before .before .before .before .before .before .before .before .step .ensures in
+    let w = turn-told (a .clock) (a .run .now) (l .b) (l .out) (l .tally) (l .cursor .at) (l .filled) (l .inv .1 .1 .1 .0) _ _ _ (one .0) (one .1) _ _ _ (c .before .before .r .given .1) in
+    let p = turn-at (a .clock) (a .run .now) (l .b) (l .out) (l .tally) (l .cursor .at) (l .filled) (l .inv .1 .1 .1 .0) _ _ _ (one .0) (one .1) _ _ _ (c .before .before .r .given .1) in
+    let more = turn-on (a .clock) (a .run .now) (l .b) (l .out) (l .tally) (l .cursor .at) (l .filled) (l .inv .1 .1 .1 .0) _ _ _ (one .0) (one .1)
     _ _ _ (c .before .before .r .given .1) _ (c .counted .ensures) in
-    let d = length-drop (l .at) (a .run .now) in (
-      c .before .before .before .before .before .before .before .b .given ∙ l .inv .0,
+    let d = length-drop (l .cursor .at) (a .run .now) in (
+      c .before .before .before .before .before .before .before .before .b .given ∙ l .inv .0,
       (
-        c .before .before .before .before .before .out .given .1 ∙ l .inv .1 .0,
+        c .before .before .before .before .before .before .out .given .1 ∙ l .inv .1 .0,
         (
-          omega (arith, w .inside, d, l .inv .1 .1 .0),
+          omega (arith, w .inside, p, d, l .inv .1 .1 .0),
           (
-            omega (arith, w .fits (l .inv .1 .1 .1 .1 .0), c .before .before .before .before .before .out .given .1, l .inv .1 .1 .1 .0),
+            omega (arith, w .fits (l .inv .1 .1 .1 .1 .0), c .before .before .before .before .before .before .out .given .1, l .inv .1 .1 .1 .0),
             (
-              λ k. c .before .before .before .before .before .before .slice-known3 .given k .fits,
+              λ k. c .before .before .before .before .before .before .before .slice-known3 .given k .fits,
               sym more ∙ l .inv .1 .1 .1 .1 .1,
             ),
           ),
@@ -101,18 +86,17 @@ enum-told : tie.Need-enum-told Inv-loop μ-loop
 enum-told c = search needs
 
 same-length : tie.Need-same-length Inv-loop μ-loop
-same-length c = c .before .before .before .before .before .b .given ∙ c .before .before .before .before .before .before .before .before .before .before .loop .inv .0
+same-length c = c .before .before .before .before .before .before .b .given ∙ c .before .before .before .before .before .before .before .before .before .before .loop .inv .0
 
 same-length-2 : tie.Need-same-length-2 Inv-loop μ-loop
-same-length-2 c = c .before .before .before .out .given .1 ∙ c .before .before .before .before .before .before .before .before .before .before .loop .inv .1 .0
+same-length-2 c = c .before .before .before .before .out .given .1 ∙ c .before .before .before .before .before .before .before .before .before .before .loop .inv .1 .0
 
 returns : tie.Need-returns Inv-loop μ-loop
 returns c =
     let l = c .before .before .before .before .before .before .before .before .before .before .loop in
     let a = c .before .before .before .before .before .before .before .before .before .before .before .before .before .before .args in
-    let rest = c .before .before .before .before .before .before .before .before .rest .ensures in
-    let one = c .before .before .before .before .before .before .serve-one .ensures in
-    turn-ends (a .clock) (a .run .now) (l .b) (l .out) (l .tally) (l .at) (l .filled) (l .inv .1 .1 .1 .0) _ rest _ _ _ one
+    let one = c .before .before .before .before .before .before .before .step .ensures in
+    turn-ends (a .clock) (a .run .now) (l .b) (l .out) (l .tally) (l .cursor .at) (l .filled) (l .inv .1 .1 .1 .0) _ _ _ (one .0) (one .1)
     _ _ (c .enum-told .given .1) (begun (a .b .now) (a .out .now) (a .t)) (l .inv .1 .1 .1 .1 .1)
 
 pub serve-run-spec : {M : Type 1} → statement M
@@ -122,13 +106,11 @@ serve-run-spec =
     Inv-loop
     μ-loop
     loop-holds
-    rest-requires
-    sub-serve-one
-    part-serve-one-start
-    part-serve-one-end
-    serve-one-requires
+    sub-step
+    part-step-start
+    part-step-end
+    step-requires
     enum-known-r
-    add-at
     add-filled
     counted-requires
     loop-less

@@ -1,5 +1,5 @@
 use mathlib.Core.Path.{_∙_}
-use Rattle.commands.specs.Done.{decision}
+use Rattle.decision.specs.Decision.{decision}
 use borrow.Author.Needs.{needs}
 use Rattle.serve.proofs.decided.Statement.{statement}
 use Rattle.serve.proofs.decided.Tie as tie

@@ -6,7 +6,6 @@ use native.Mathlib.Omega.{arith}
 use lib.ListN.{List·getD-eq-default}
 use lib.Dec.{eqb}
 use borrow.Author.Tests.{eqb-true, eqb-false}
-use borrow.Author.Needs.{needs}
 use Rattle.octets.proofs.Choices.{cases}
 use Rattle.shape.specs.declared.Shape.{Shape}
 use Rattle.shape.specs.Shapes.{commands}
@@ -18,105 +17,105 @@ next : (k n : ℕ) → k ≤ n → (n ≡ k → ⊥) → suc k ≤ n
 next k n l e = omega arith
 
 refused-requires : tie.Need-refused-requires
-refused-requires c κs = search needs
+refused-requires c κs = tt
 
 returns : tie.Need-returns
 unfolding numbered operations commands
 returns c = rw (c .before .match .keys1) (c .refused .ensures)
 
 key-only-requires : tie.Need-key-only-requires
-key-only-requires c κs = search needs
+key-only-requires c κs = tt
 
 returns-2 : tie.Need-returns-2
 unfolding numbered operations commands
 returns-2 c = rw (c .before .match .keys2) (c .key-only .ensures)
 
 key-only-requires-2 : tie.Need-key-only-requires-2
-key-only-requires-2 c κs = search needs
+key-only-requires-2 c κs = tt
 
 returns-3 : tie.Need-returns-3
 unfolding numbered operations commands
 returns-3 c = rw (c .before .match .keys3) (c .key-only2 .ensures)
 
 plain-write-requires : tie.Need-plain-write-requires
-plain-write-requires c κs = search needs
+plain-write-requires c κs = tt
 
 returns-4 : tie.Need-returns-4
 unfolding numbered operations commands
 returns-4 c = rw (c .before .match .keys4) (c .plain-write .ensures)
 
 plain-write-requires-2 : tie.Need-plain-write-requires-2
-plain-write-requires-2 c κs = search needs
+plain-write-requires-2 c κs = tt
 
 returns-5 : tie.Need-returns-5
 unfolding numbered operations commands
 returns-5 c = rw (c .before .match .keys5) (c .plain-write2 .ensures)
 
 plain-write-requires-3 : tie.Need-plain-write-requires-3
-plain-write-requires-3 c κs = search needs
+plain-write-requires-3 c κs = tt
 
 returns-6 : tie.Need-returns-6
 unfolding numbered operations commands
 returns-6 c = rw (c .before .match .keys6) (c .plain-write3 .ensures)
 
 key-only-requires-3 : tie.Need-key-only-requires-3
-key-only-requires-3 c κs = search needs
+key-only-requires-3 c κs = tt
 
 returns-7 : tie.Need-returns-7
 unfolding numbered operations commands
 returns-7 c = rw (c .before .match .keys7) (c .key-only3 .ensures)
 
 counter-requires : tie.Need-counter-requires
-counter-requires c κs = search needs
+counter-requires c κs = tt
 
 returns-8 : tie.Need-returns-8
 unfolding numbered operations commands
 returns-8 c = rw (c .before .match .keys8) (c .counter .ensures)
 
 counter-requires-2 : tie.Need-counter-requires-2
-counter-requires-2 c κs = search needs
+counter-requires-2 c κs = tt
 
 returns-9 : tie.Need-returns-9
 unfolding numbered operations commands
 returns-9 c = rw (c .before .match .keys9) (c .counter2 .ensures)
 
 bare-requires : tie.Need-bare-requires
-bare-requires c κs = search needs
+bare-requires c κs = tt
 
 returns-10 : tie.Need-returns-10
 unfolding numbered operations commands
 returns-10 c = rw (c .before .match .keys10) (c .bare .ensures)
 
 bare-requires-2 : tie.Need-bare-requires-2
-bare-requires-2 c κs = search needs
+bare-requires-2 c κs = tt
 
 returns-11 : tie.Need-returns-11
 unfolding numbered operations commands
 returns-11 c = rw (c .before .match .keys11) (c .bare2 .ensures)
 
 meta-write-requires : tie.Need-meta-write-requires
-meta-write-requires c κs = search needs
+meta-write-requires c κs = tt
 
 returns-12 : tie.Need-returns-12
 unfolding numbered operations commands
 returns-12 c = rw (c .before .match .keys12) (c .meta-write .ensures)
 
 meta-write-requires-2 : tie.Need-meta-write-requires-2
-meta-write-requires-2 c κs = search needs
+meta-write-requires-2 c κs = tt
 
 returns-13 : tie.Need-returns-13
 unfolding numbered operations commands
 returns-13 c = rw (c .before .match .keys13) (c .meta-write2 .ensures)
 
 meta-write-requires-3 : tie.Need-meta-write-requires-3
-meta-write-requires-3 c κs = search needs
+meta-write-requires-3 c κs = tt
 
 returns-14 : tie.Need-returns-14
 unfolding numbered operations commands
 returns-14 c = rw (c .before .match .keys14) (c .meta-write3 .ensures)
 
 refused-requires-2 : tie.Need-refused-requires-2
-refused-requires-2 c κs = search needs
+refused-requires-2 c κs = tt
 
 returns-15 : tie.Need-returns-15
 unfolding numbered operations commands

@@ -1,6 +1,7 @@
 //! Tables and calls at random, biased to the limits of document 01.
 
 pub mod faults;
+pub mod keys;
 mod parts;
 mod requests;
 pub mod tables;
@@ -25,6 +26,7 @@ pub const BUILT: [u8; 24] = [
 
 /// What of a table shapes the next call: its rows, and a stand-in for the header of a damaged one.
 struct Sight<'t> {
+    damaged: bool,
     mode: Mode,
     vbucket: u16,
     mark: u64,
@@ -35,12 +37,13 @@ impl<'t> Sight<'t> {
     fn of(memory: &'t [u8]) -> Sight<'t> {
         match Table::read(memory) {
             Ok(Table { head, rows }) => Sight {
+                damaged: false,
                 mode: head.mode,
                 vbucket: head.vbucket,
                 mark: head.mark.0,
                 rows: rows.into_iter().flatten().collect(),
             },
-            Err(_) => Sight { mode: Mode::LastWriteWins, vbucket: 0, mark: 0, rows: Vec::new() },
+            Err(_) => Sight { damaged: true, mode: Mode::LastWriteWins, vbucket: 0, mark: 0, rows: Vec::new() },
         }
     }
 
@@ -55,27 +58,21 @@ pub struct Generator {
     /// The session's keys and clock.
     keys: Vec<Vec<u8>>,
     clock: u32,
-    /// How often each opcode met each fault, and each damage was dealt.
+    /// How often each opcode met each fault.
     pub faults: BTreeMap<(u8, Fault), u64>,
-    pub damages: BTreeMap<Damage, u64>,
 }
 
-/// Where a session starts, and how many calls it has.
+/// Where a session starts, the rule that its table breaks, if one alone, and how many calls it has.
 pub struct Start {
     pub table: Vec<u8>,
+    pub damage: Option<Damage>,
     pub tally: Tally,
     pub calls: usize,
 }
 
 impl Generator {
     pub fn new(seed: u64) -> Generator {
-        Generator {
-            random: Random::new(seed),
-            keys: Vec::new(),
-            clock: 0,
-            faults: BTreeMap::new(),
-            damages: BTreeMap::new(),
-        }
+        Generator { random: Random::new(seed), keys: Vec::new(), clock: 0, faults: BTreeMap::new() }
     }
 
     pub fn start(&mut self) -> Start {
@@ -83,12 +80,12 @@ impl Generator {
         self.clock = self.session_clock();
         self.keys = self.session_keys(rows);
         let mut table = self.table(rows);
-        let mut calls = if rows > 16 { 8 } else { self.random.between(10, 60) };
-        if self.random.percent(12) {
-            self.damage(&mut table);
-            calls = 5;
+        if self.random.percent(if rows > 12 { 40 } else { 12 }) {
+            let damage = self.damage(&mut table);
+            return Start { table, damage, tally: self.tally(), calls: 8 };
         }
-        Start { table, tally: self.tally(), calls }
+        let calls = if rows > 12 { 8 } else { self.random.between(10, 60) };
+        Start { table, damage: None, tally: self.tally(), calls }
     }
 
     fn tally(&mut self) -> Tally {
@@ -104,17 +101,40 @@ impl Generator {
     /// The next call on a table.
     pub fn call(&mut self, table: &[u8]) -> Call {
         let sight = Sight::of(table);
+        if sight.damaged {
+            return self.call_on_damage(table, &sight);
+        }
         match self.random.below(100) {
             0..=69 => self.serve(&sight),
             70..=77 => self.run(&sight),
-            78..=82 => Call::Read { clock: self.clock_near(&sight), key: self.any_key(&sight) },
-            83..=86 => Call::Purge { clock: self.clock_near(&sight), bound: self.bound(&sight) },
+            78..=82 => self.read(&sight),
+            83..=86 => self.purge(&sight),
             87..=91 => Call::ReadRequest { received: self.received(&sight).1 },
             92..=96 => self.write_request(&sight),
             97 => Call::Sound,
             98 => self.make(table),
             _ => Call::Size { rows: self.rows_near(0) },
         }
+    }
+
+    /// The calls that find damage, and now and then one that makes a table anew.
+    fn call_on_damage(&mut self, table: &[u8], sight: &Sight) -> Call {
+        match self.random.below(16) {
+            0..=5 => self.serve(sight),
+            6..=8 => self.run(sight),
+            9 | 10 => self.read(sight),
+            11 | 12 => self.purge(sight),
+            13 | 14 => Call::Sound,
+            _ => self.make(table),
+        }
+    }
+
+    fn read(&mut self, sight: &Sight) -> Call {
+        Call::Read { clock: self.clock_near(sight), key: self.any_key(sight) }
+    }
+
+    fn purge(&mut self, sight: &Sight) -> Call {
+        Call::Purge { clock: self.clock_near(sight), bound: self.bound(sight) }
     }
 
     fn serve(&mut self, sight: &Sight) -> Call {

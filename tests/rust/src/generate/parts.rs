@@ -1,4 +1,4 @@
-//! Clocks, expiries, numbers, keys and values.
+//! Clocks, expiries, numbers, values, and a request's key.
 
 use super::{Generator, Sight};
 use crate::rendering::request::MAX_GIVEN;
@@ -35,22 +35,6 @@ const DIGITS: [&[u8]; 26] = [
     b"1a",
     b"/:",
     b"1\0",
-];
-
-/// Keys that share prefixes and differ in the last byte or in length.
-const KEYS: [&[u8]; 12] = [
-    b"a",
-    b"b",
-    b"\0",
-    b"\xff",
-    b"aa",
-    b"ab",
-    b"ab\0",
-    b"contact-0001",
-    b"contact-0002",
-    b"contact-001",
-    b"contact-0001\0",
-    b"1",
 ];
 
 impl Generator {
@@ -134,21 +118,6 @@ impl Generator {
             2 => 3,
             _ => 0,
         }
-    }
-
-    /// At least one key more than the rows can hold.
-    pub(super) fn session_keys(&mut self, rows: usize) -> Vec<Vec<u8>> {
-        if rows + 2 > KEYS.len() {
-            return (0..rows + 2).map(|number| format!("contact-{number:04}").into_bytes()).collect();
-        }
-        let mut keys: Vec<Vec<u8>> = KEYS.iter().map(|key| key.to_vec()).collect();
-        let longest = vec![b'x'; 250];
-        let mut other = longest.clone();
-        other[249] = b'y';
-        keys.extend([longest[..249].to_vec(), longest, other]);
-        self.random.shuffle(&mut keys);
-        keys.truncate(rows + self.random.between(1, 3));
-        keys
     }
 
     /// A key that a request may have, more often one with a row.

@@ -113,8 +113,9 @@ impl RawRow {
 impl Generator {
     pub(super) fn row_count(&mut self) -> usize {
         match self.random.below(400) {
-            0 => 256,
-            1..=20 => self.random.between(5, 12),
+            0..=5 => 256,
+            6..=29 => self.random.between(13, 255),
+            30..=56 => self.random.between(5, 12),
             _ => self.random.between(1, 4),
         }
     }
@@ -160,20 +161,20 @@ impl Generator {
         write_row(memory, place, &Row { kind, numbers, key: &key, value: &value });
     }
 
-    /// Breaks one rule of a sound table, or several bytes of it.
-    pub(super) fn damage(&mut self, memory: &mut Vec<u8>) {
+    /// Breaks one rule of a sound table and says which, or changes several bytes of it.
+    pub(super) fn damage(&mut self, memory: &mut Vec<u8>) -> Option<Damage> {
         if self.random.percent(10) {
             for _ in 0..self.random.between(1, 3) {
                 let at = self.random.below(memory.len());
                 memory[at] = self.random.byte();
             }
-            return;
+            return None;
         }
         loop {
-            let damage = *self.random.pick(&Damage::ALL);
+            let twice = self.random.percent(20);
+            let damage = if twice { Damage::OneKeyTwice } else { *self.random.pick(&Damage::ALL) };
             if damage.applied(memory, &mut self.random) {
-                *self.damages.entry(damage).or_default() += 1;
-                return;
+                return Some(damage);
             }
         }
     }
@@ -200,7 +201,7 @@ impl Damage {
 
     fn in_used_row(self, memory: &mut [u8], random: &mut Random) -> bool {
         let mark = u64_at(memory, 8);
-        let Some(row) = pick_row(memory, random, |kind| kind != 0) else {
+        let Some(row) = pick_row(memory, random, self.kinds()) else {
             return false;
         };
         let mut raw = RawRow::read(row);
@@ -217,20 +218,28 @@ impl Damage {
         true
     }
 
+    /// The kinds of row that the rule is about.
+    fn kinds(self) -> fn(u16) -> bool {
+        match self {
+            Damage::TombstoneValue | Damage::TombstoneFlags | Damage::TombstoneExpiry => |kind| kind == 2,
+            Damage::Value1025 | Damage::ValueHighByte => |kind| kind == 1,
+            _ => |kind| kind != 0,
+        }
+    }
+
     /// Breaks the rule in a row's fields; the two that break an unused byte leave them.
     fn in_fields(self, raw: &mut RawRow, mark: u64, random: &mut Random) -> bool {
-        let tombstone = raw.kind == 2;
         match self {
             Damage::Kind => raw.kind = *random.pick(&[3, 4, 0xff]),
             Damage::KindHighByte => raw.kind |= 0x0100,
             Damage::NoKey => raw.key.clear(),
             Damage::Key251 => raw.key.resize(251, b'x'),
             Damage::KeyHighByte => raw.key_length_excess = 1 << random.between(8, 15),
-            Damage::Value1025 if !tombstone => raw.value.resize(1_025, b'v'),
-            Damage::ValueHighByte if !tombstone => raw.value_length_excess = 1 << random.between(11, 31),
-            Damage::TombstoneValue if tombstone => raw.value = b"v".to_vec(),
-            Damage::TombstoneFlags if tombstone => raw.flags = 1 << random.below(32),
-            Damage::TombstoneExpiry if tombstone => raw.expiry = 1 << random.below(32),
+            Damage::Value1025 => raw.value.resize(1_025, b'v'),
+            Damage::ValueHighByte => raw.value_length_excess = 1 << random.between(11, 31),
+            Damage::TombstoneValue => raw.value = b"v".to_vec(),
+            Damage::TombstoneFlags => raw.flags = 1 << random.below(32),
+            Damage::TombstoneExpiry => raw.expiry = 1 << random.below(32),
             Damage::CasZero => raw.cas = 0,
             Damage::CasAboveMark if mark < u64::MAX => raw.cas = mark + 1,
             Damage::UnusedByte | Damage::LastByte => {}

@@ -1,4 +1,5 @@
 use Rattle.rows.specs.RowRules.{sizeOk}
+use native.Mathlib.Omega.{arith}
 use borrow.Author.Tests.{le-leb, lt-leb}
 use borrow.Author.Needs.{needs}
 use Rattle.rows.proofs.damage.size_ok.Statement.{statement}
@@ -10,7 +11,7 @@ returns c = simp (lt-leb _ _ (c .if1 .taken))
 
 returns-2 : tie.Need-returns-2
 unfolding sizeOk
-returns-2 c = simp (le-leb _ _ (c .before .if1 .left), lt-leb _ _ (c .if2 .taken))
+returns-2 c = simp (le-leb _ _ (c .before .if1 .left), lt-leb (c .before .before .args .n) 256 (omega (arith, c .if2 .taken)))
 
 mul-result : tie.Need-mul-result
 mul-result c = search needs

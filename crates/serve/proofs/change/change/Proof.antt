@@ -1,5 +1,5 @@
 use Rattle.serve.proofs.Joint.{storing}
-use Rattle.commands.specs.Decide.{bytesFrom}
+use Rattle.decision.specs.Decide.{bytesFrom}
 use mathlib.Core.List.{List, []}
 use mathlib.Core.Path.{ap, _∙_}
 use Prim.Native.Nat.{ℕ}

@@ -1,0 +1,4 @@
+pub mod Deciding
+pub mod Writing
+pub mod MergingLaws
+pub mod Stores

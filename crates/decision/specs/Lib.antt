@@ -1,0 +1,4 @@
+pub mod Decision
+pub mod Decide
+pub mod Merging
+pub mod Claims

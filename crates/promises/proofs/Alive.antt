@@ -1,0 +1,213 @@
+-- All commands and the owner's read take the same documents for live, a with-meta write compares a row that isn't, and a Get changes nothing.
+use Prim.Native.Nat.{ℕ, _+_, _/_, _%_}
+use mathlib.Core.Path.{_≡_, refl, sym, ap, subst, _∙_}
+use mathlib.Core.Bool.{Bool, true, false, cond, not, _&&_, _||_}
+use mathlib.Core.List.{List, _++_}
+use mathlib.Core.Option.{Option, none, some}
+use native.Mathlib.Omega.{arith}
+use lib.Dec.{eqb}
+use borrow.Author.Tests.{eq-eqb, ne-eqb, not-false, eqb-true}
+use Rattle.octets.specs.Parts.{Bytes}
+use Rattle.octets.proofs.Choices.{cases, neither}
+use Rattle.numbers.specs.declared.Numbers.{Numbers}
+use Rattle.numbers.specs.Order.{greater}
+use Rattle.document.specs.Documents.{Key, Doc}
+use Rattle.document.specs.Stored.{storedOf, live, accepted}
+use Rattle.document.specs.declared.Stored.the-variants.{Nothing}
+use Rattle.header.specs.declared.Header.{Header}
+use Rattle.header.specs.Header.{headerOf}
+use Rattle.shape.specs.Shapes.{among}
+use Rattle.rules.specs.WithMeta.{withMeta}
+use Rattle.request.specs.declared.Gate.{Gate}
+use Rattle.request.specs.declared.Gate.the-variants.{Stop, Whole}
+use Rattle.request.specs.Reading.{frameStatus}
+use Rattle.commands.specs.declared.Context.{Context}
+use Rattle.commands.specs.declared.Instruction.{Instruction}
+use Rattle.commands.specs.declared.MetaKind.{MetaKind}
+use Rattle.commands.specs.declared.Command.{Command}
+use Rattle.commands.specs.declared.Command.the-variants.{Get}
+use Rattle.commands.specs.Rules.{ruleOf, testsOf, guard, firstFailure, statusBy}
+use Rattle.effects.specs.declared.Done.{Done}
+use Rattle.effects.specs.Done.{doneOf}
+use Rattle.decision.specs.Decision.{decision}
+use Rattle.decision.specs.Decide.{docFrom, bytesFrom}
+use Rattle.decode.specs.Decode.{metaCommand, requestOf}
+use Rattle.rows.specs.Row.{Row}
+use Rattle.rows.specs.Table.{tableOf, tableBytes}
+use Rattle.plain.specs.Damage.{sound}
+use Rattle.plain.proofs.TableLaws.{sound-good}
+use Rattle.owner.specs.Owner.{shown, readOf}
+use Rattle.serving.specs.Serve.{reachesDecision, decisionOn, answerOn, frameTable, gateAll, tableBy, servedTable}
+use Rattle.serving.specs.Statuses.{statuses}
+use Rattle.serving.proofs.Change.{unchanged}
+use Rattle.serving.proofs.Formed.{no, by-cond}
+use Rattle.serving.proofs.Gated.{was-open}
+use Rattle.promises.specs.Merge.{docAt, modeAt}
+use Rattle.promises.specs.Expiry.{opcode, headerCas, extrasIn, keyIn, gets, adds, replaces, deletes, keyed, needsLive, toldLive, readLive}
+use Rattle.promises.specs.Expiry.{NotLive, Answers, Reaches, OneLiveness, LiveIsFound, DeadIsCompared, GetKeeps}
+use Rattle.promises.proofs.Asks.{at-opcode, reads, carries, added}
+use Rattle.promises.proofs.Liveness.{dead, alive, later, status, answers, avoids, answered, Without, without}
+use Rattle.promises.proofs.Dead.{and-false, seen, command, rule, instruction, tests, sought, unguarded, not-missing, no-conflict}
+
+or-false : (a : Bool) → (a || false) ≡ a
+or-false true = refl
+or-false false = refl
+
+-- ---- what the owner's read tells
+shown-live : (rows : List Row) (clock : ℕ) (k : Key) (d : Doc) → readLive (shown rows clock k (some d)) ≡ live (storedOf (some d)) clock
+shown-live rows clock k d = cases (live (storedOf (some d)) clock) (λ t. rw t) (λ t. rw t)
+
+shown-none : (clock : ℕ) → live (storedOf none) clock ≡ false
+unfolding live
+shown-none clock = refl
+
+read-row : (rows : List Row) (clock : ℕ) (k : Key) (o : Option Doc) → readLive (shown rows clock k o) ≡ live (storedOf o) clock
+read-row rows clock k none = sym (shown-none clock)
+read-row rows clock k (some d) = shown-live rows clock k d
+
+read-live : (b : List ℕ) (clock : ℕ) (k : Key) → sound b ≡ true → readLive (readOf b clock k) ≡ live (storedOf (docAt b k)) clock
+unfolding readOf
+read-live b clock k e = rw e (read-row (tableOf b .rows) clock k (docAt b k))
+
+-- ---- what a frame's status tells
+module _ (b : List ℕ) (clock : ℕ) (s : List ℕ) where
+  abbrev lives : Bool
+  lives = live (storedOf (docAt b (keyIn s))) clock
+
+  found : lives ≡ true → tests b clock s .missing ≡ false
+  unfolding testsOf
+  found t = rw t (and-false (rule b clock s .needs || guard (instruction b clock s) (rule b clock s)))
+
+  not-found : needsLive s ≡ true → lives ≡ false → tests b clock s .missing ≡ true
+  unfolding testsOf
+  not-found e t = rw (sought b clock s e, t)
+
+  -- an Add without a header CAS
+  contest : rule b clock s .beaten ≡ false → rule b clock s .fresh ≡ true → headerCas s ≡ 0 → (x : Bool) → lives ≡ x → tests b clock s .conflict ≡ x
+  unfolding testsOf
+  contest u f z true t = rw (u, f, unguarded b clock s z, t)
+  contest u f z false t = rw (u, f, unguarded b clock s z, t)
+
+  without-missing : tests b clock s .missing ≡ false → Without 0x01 (statuses (tableOf b) clock s (headerOf s))
+  without-missing m = (refl, (refl, (refl, (refl, (refl, (refl, (refl, (m, (refl, (refl, (refl, (refl, refl))))))))))))
+
+  without-conflict : tests b clock s .conflict ≡ false → Without 0x02 (statuses (tableOf b) clock s (headerOf s))
+  without-conflict k = (refl, (refl, (refl, (refl, (refl, (refl, (refl, (refl, (k, (refl, (refl, (refl, refl))))))))))))
+
+  module _ (room : ℕ) (r : Reaches b clock s room) where
+    pub is-missing : tests b clock s .missing ≡ true → status b clock s room ≡ 0x01
+    unfolding firstFailure
+    is-missing m = later 7 (statuses (tableOf b) clock s (headerOf s)) (r .earlier) ∙ rw m
+
+    pub is-conflict : tests b clock s .missing ≡ false → tests b clock s .conflict ≡ true → status b clock s room ≡ 0x02
+    unfolding firstFailure
+    is-conflict m k = later 7 (statuses (tableOf b) clock s (headerOf s)) (r .earlier) ∙ rw (m, k)
+
+    needed-told : needsLive s ≡ true → (n : ℕ) → status b clock s room ≡ n → not (eqb n 0x01) ≡ lives
+    needed-told e n z =
+        cases lives
+        (λ t. rw (t, ne-eqb n 0x01 (λ y. without 0x01 _ (without-missing (found t)) (z ∙ y))))
+        (λ t. rw (t, eq-eqb n 0x01 (sym z ∙ is-missing (not-found e t))))
+
+    added-told : among (opcode s) adds ≡ true → headerCas s ≡ 0 → (n : ℕ) → status b clock s room ≡ n → eqb n 0x02 ≡ lives
+    unfolding requestOf
+    added-told e c n z =
+        let (needless, (unbeaten, fresh)) = added (seen b clock s) (extrasIn s) (opcode s) e in
+        cases lives
+        (λ t. rw (t, eq-eqb n 0x02 (sym z ∙ is-conflict (not-missing b clock s needless c) (contest unbeaten fresh c true t))))
+        (λ t. rw (t, ne-eqb n 0x02 (λ y. without 0x02 _ (without-conflict (contest unbeaten fresh c false t)) (z ∙ y))))
+
+-- where a document isn't needed, an Add has no header CAS
+add-keyed : (n : ℕ) → among n adds ≡ true → among n keyed ≡ true
+unfolding among
+add-keyed n e = at-opcode (λ x. among x keyed ≡ true) n adds (refl, (refl, tt)) e
+
+add-bare : (s : List ℕ) → among (opcode s) adds ≡ true → needsLive s ≡ false → headerCas s ≡ 0
+add-bare s e f =
+    let (_, g) = neither (among (opcode s) (gets ++ (replaces ++ deletes))) _ f in
+    let (h, _) = neither (among (opcode s) keyed && not (eqb (headerCas s) 0)) _ g in
+    eqb-true (headerCas s) 0 (not-false (eqb (headerCas s) 0) (rw (add-keyed (opcode s) e) at h))
+
+told : (b : List ℕ) (clock : ℕ) (s : List ℕ) (room n : ℕ) → Reaches b clock s room → (needsLive s || among (opcode s) adds) ≡ true
+    → status b clock s room ≡ n → toldLive s n ≡ lives b clock s
+told b clock s room n r e z =
+    cases (needsLive s)
+    (λ t. rw t (needed-told b clock s room r t n z))
+    (λ t. let a : among (opcode s) adds ≡ true = rw t at e in rw t (added-told b clock s room r a (add-bare s a t) n z))
+
+pub one-liveness : OneLiveness
+one-liveness b clock s room n r e (len, a) =
+    told b clock s room n r e (answered b clock s room n _ len a) ∙ sym (read-live b clock (keyIn s) (r .undamaged))
+
+pub live-is-found : LiveIsFound
+live-is-found b clock s room d r at l e =
+    let t : lives b clock s ≡ true = rw at (alive clock d l) in
+    (avoids b clock s room 0x01 (without-missing b clock s (found b clock s t)), read-live b clock (keyIn s) (r .undamaged) ∙ t)
+
+-- ---- with-meta
+module _ (b : List ℕ) (clock : ℕ) (s : List ℕ) (d : Doc) (at : docAt b (keyIn s) ≡ some d) (n : NotLive clock (some d)) (c : headerCas s ≡ 0)
+    (k : MetaKind) (asks : command b clock s ≡ metaCommand k (withMeta (extrasIn s)))
+    (unforced : eqb (withMeta (extrasIn s) .options % 2) 1 ≡ false) (unskipped : eqb (withMeta (extrasIn s) .options / 8 % 2) 1 ≡ false) where
+  abbrev wins : Bool
+  wins = greater (modeAt b) (withMeta (extrasIn s) .numbers) (d .numbers)
+
+  needless : rule b clock s .needs ≡ false
+  unfolding ruleOf metaCommand
+  needless = rw asks
+
+  beaten : rule b clock s .beaten ≡ not wins
+  unfolding ruleOf metaCommand accepted
+  beaten = rw (asks, unforced, unskipped, at)
+
+  unfound : lives b clock s ≡ false
+  unfound = rw at (dead clock (some d) n)
+
+  compared : tests b clock s .conflict ≡ not wins
+  unfolding testsOf
+  compared = rw (beaten, unguarded b clock s c, unfound, and-false (rule b clock s .fresh)) (or-false (not wins))
+
+pub dead-is-compared : DeadIsCompared
+unfolding requestOf
+dead-is-compared b clock s room d r at n e c unforced unskipped =
+    let (k, asks) = carries (seen b clock s) (extrasIn s) (opcode s) e in
+    let needs = not-missing b clock s (needless b clock s d at n c k asks unforced unskipped) c in
+    let x = compared b clock s d at n c k asks unforced unskipped in (
+      λ f. answers b clock s room r 0x02 (is-conflict b clock s room r needs (x ∙ ap not f)),
+      λ t. (avoids b clock s room 0x01 (without-missing b clock s needs), avoids b clock s room 0x02 (without-conflict b clock s (x ∙ ap not t))),
+    )
+
+-- ---- a Get
+module _ (c : Context) where
+  abbrev Kept : Done → Type 0
+  Kept x = (x .store ≡ Nothing) × (x .head ≡ c .head)
+
+  got : (k : Bool) → Kept (doneOf c (Get k))
+  unfolding doneOf
+  got k = (refl, refl)
+
+  get-kept : (i : Instruction) (k : Bool) → i .command ≡ Get k → Kept (decision c i .done)
+  unfolding decision
+  get-kept i k e =
+      by-cond Kept (eqb (statusBy c i (ruleOf c (i .command))) 0) _ _
+      (λ t. subst (λ (x : Command). Kept (doneOf c x)) (sym e) (got k)) (λ t. (refl, refl))
+
+module _ (b : List ℕ) (clock : ℕ) (s : List ℕ) (e : among (opcode s) gets ≡ true) where
+  frame-kept : (answerOn (tableOf b) clock s (headerOf s) .effect .store ≡ none) × (answerOn (tableOf b) clock s (headerOf s) .effect .head ≡ tableOf b .head)
+  unfolding answerOn decisionOn requestOf
+  frame-kept =
+      let (k, asks) = reads (seen b clock s) (extrasIn s) (opcode s) e in
+      let (none-stored, same-head) = get-kept (seen b clock s) (instruction b clock s) k asks in
+      cases (reachesDecision (frameStatus s (headerOf s))) (λ t. rw t (rw none-stored refl, same-head)) (λ t. rw t (refl, refl))
+
+  kept-by : (room : ℕ) → Bytes b → (g : Gate) → gateAll b room s ≡ g → tableBy b clock s g ≡ b
+  unfolding frameTable
+  kept-by room y (Stop n need) o = refl
+  kept-by room y (Whole h) o =
+      let w = was-open b s room h o in
+      let kept = frame-kept in
+      ap (λ (x : Header). frameTable b clock s x) (sym (w .frame .header))
+      ∙ ap tableBytes (unchanged (tableOf b) clock s (headerOf s) (kept .0) (kept .1)) ∙ sound-good b y (w .undamaged) .0
+
+pub get-keeps : GetKeeps
+unfolding servedTable
+get-keeps b clock s room y e = kept-by b clock s e room y (gateAll b room s) refl

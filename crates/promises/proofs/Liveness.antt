@@ -1,0 +1,121 @@
+-- What the tests make of a document that is live by 01's words, or isn't, and the status that a frame is then served with.
+use Prim.Native.Nat.{ℕ, _+_, _≤_, _<_}
+use mathlib.Core.Path.{_≡_, refl, sym, ap, _∙_}
+use mathlib.Core.Bool.{Bool, true, false, cond, not, _&&_, _||_}
+use mathlib.Core.List.{List, [], _∷_, _++_}
+use mathlib.Core.Logic.{_⊎_, inl, inr}
+use mathlib.Core.Option.{Option, none, some}
+use native.Mathlib.Omega.{arith}
+use lib.ListN.{length, take, drop, take-append-drop}
+use lib.Dec.{eqb, ltb, leb}
+use borrow.Author.Tests.{eqb-true, eq-eqb, ne-eqb, le-leb, lt-leb, le-ltb}
+use Rattle.octets.proofs.Choices.{cases}
+use Rattle.numbers.specs.Expiry.{expired}
+use Rattle.document.specs.Documents.{Doc}
+use Rattle.document.specs.Stored.{storedOf, live}
+use Rattle.header.specs.declared.Header.{Header}
+use Rattle.header.specs.Header.{headerOf}
+use Rattle.request.specs.declared.Gate.{Gate}
+use Rattle.request.specs.declared.Gate.the-variants.{Stop, Whole}
+use Rattle.request.specs.Reading.{gateOf}
+use Rattle.commands.specs.Rules.{Check, firstFailure}
+use Rattle.rows.specs.Table.{tableOf}
+use Rattle.plain.specs.Damage.{sound}
+use Rattle.serving.specs.declared.Served.the-variants.{Refused, Done}
+use Rattle.serving.specs.Serve.{decisionOn, answerOn, answerBy, tableBy, frameTable, frameReply, gateAll, served, servedTable}
+use Rattle.serving.specs.Statuses.{statuses}
+use Rattle.serving.proofs.Formed.{no}
+use Rattle.serving.proofs.Gated.{was-open}
+use Rattle.serving.proofs.Statuses.{statuses-in-order}
+use Rattle.promises.specs.Expiry.{NotLive, Live, Passes, Reaches, Answers, Avoids}
+
+-- ---- liveness
+pub dead : (clock : ℕ) (row : Option Doc) → NotLive clock row → live (storedOf row) clock ≡ false
+unfolding live expired
+dead clock none n = refl
+dead clock (some d) (inl t) = rw t
+dead clock (some d) (inr e) = rw (e .document, ne-eqb (d .numbers .expiry) 0 (e .ends), le-leb (d .numbers .expiry) clock (e .past))
+
+and-false : (a : Bool) → (a && false) ≡ false
+and-false true = refl
+and-false false = refl
+
+alive-by : (clock : ℕ) (d : Doc) → d .tomb ≡ false → (d .numbers .expiry ≡ 0) ⊎ (clock < d .numbers .expiry) → live (storedOf (some d)) clock ≡ true
+unfolding live expired
+alive-by clock d e (inl z) = rw (e, z)
+alive-by clock d e (inr l) = rw (e, lt-leb (d .numbers .expiry) clock l, and-false (not (eqb (d .numbers .expiry) 0)))
+
+pub alive : (clock : ℕ) (d : Doc) → Live clock d → live (storedOf (some d)) clock ≡ true
+alive clock d a = alive-by clock d (a .document) (a .unexpired)
+
+-- ---- lists of checks
+-- where the first n pass, the later ones decide
+passed-first : (a b : List Check) → Passes a → firstFailure (a ++ b) ≡ firstFailure b
+unfolding firstFailure
+passed-first [] b p = refl
+passed-first (c ∷ a) b p = rw (p .0) (passed-first a b (p .1))
+
+pub later : (n : ℕ) (l : List Check) → Passes (take n l) → firstFailure l ≡ firstFailure (drop n l)
+later n l p = ap firstFailure (sym (take-append-drop n l)) ∙ passed-first (take n l) (drop n l) p
+
+-- no check with this status fails
+abbrev pub Without : ℕ → List Check → Type 0
+Without n [] = eqb 0 n ≡ false
+Without n (c ∷ cs) = ((eqb (c .status) n && c .fails) ≡ false) × Without n cs
+
+pub without : (n : ℕ) (l : List Check) → Without n l → firstFailure l ≡ n → ⊥
+unfolding firstFailure
+without n [] p e = no (sym (p) ∙ eq-eqb 0 n e)
+without n (c ∷ cs) p e =
+    cases (c .fails)
+    (λ t. let z : c .status ≡ n = rw t at e in no (sym (p .0) ∙ rw (eq-eqb (c .status) n z, t)))
+    (λ t. without n cs (p .1) (rw t at e))
+
+-- ---- a frame that is served
+module _ (b : List ℕ) (clock : ℕ) (s : List ℕ) (room : ℕ) where
+  abbrev pub status : ℕ
+  status = firstFailure (statuses (tableOf b) clock s (headerOf s))
+
+  abbrev decided : ℕ
+  decided = decisionOn (tableOf b) clock s (headerOf s) .status
+
+  listed : decided ≡ status
+  listed = sym (statuses-in-order (tableOf b) clock s (headerOf s))
+
+  opened : Reaches b clock s room → gateAll b room s ≡ Whole (headerOf s)
+  unfolding gateAll
+  opened r = rw (r .undamaged, le-ltb room 1302 (r .roomy)) (r .whole)
+
+  pub table-open : Reaches b clock s room → servedTable b clock s room ≡ frameTable b clock s (headerOf s)
+  unfolding servedTable
+  table-open r = ap (tableBy b clock s) (opened r)
+
+  pub answers : Reaches b clock s room → (n : ℕ) → status ≡ n → Answers b clock s room n
+  unfolding served answerOn
+  answers r n e =
+      let len = length (frameReply b clock s (headerOf s)) in
+      (len, ap (answerBy b clock s) (opened r) ∙ ap (λ (x : ℕ). Done x (24 + headerOf s .body) len) (listed ∙ e))
+
+  answered-by : (n used len : ℕ) (g : Gate) → gateAll b room s ≡ g → answerBy b clock s g ≡ Done n used len → decided ≡ n
+  unfolding answerOn
+  answered-by n used len (Stop m more) o e = absurd (let z : _≡_ {A = ℕ} 0 1 = cc in omega arith)
+  answered-by n used len (Whole h) o e =
+      let same = was-open b s room h o .frame .header in
+      let z : decisionOn (tableOf b) clock s h .status ≡ n = cc in
+      ap (λ (x : Header). decisionOn (tableOf b) clock s x .status) same ∙ z
+
+  pub answered : (n used len : ℕ) → served b clock s room ≡ Done n used len → status ≡ n
+  unfolding served
+  answered n used len e = sym listed ∙ answered-by n used len (gateAll b room s) refl e
+
+  pub avoids : (n : ℕ) → Without n (statuses (tableOf b) clock s (headerOf s)) → Avoids b clock s room n
+  avoids n w used len e = without n (statuses (tableOf b) clock s (headerOf s)) w (answered n used len e)
+
+  opened-by : (n used len : ℕ) (g : Gate) → gateAll b room s ≡ g → answerBy b clock s g ≡ Done n used len → gateAll b room s ≡ Whole (headerOf s)
+  opened-by n used len (Stop m more) o e = absurd (let z : _≡_ {A = ℕ} 0 1 = cc in omega arith)
+  opened-by n used len (Whole h) o e = o ∙ ap Whole (sym (was-open b s room h o .frame .header))
+
+  -- a frame that is served is whole
+  pub was-whole : (n used len : ℕ) → served b clock s room ≡ Done n used len → gateAll b room s ≡ Whole (headerOf s)
+  unfolding served
+  was-whole n used len e = opened-by n used len (gateAll b room s) refl e

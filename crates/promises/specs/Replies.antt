@@ -1,0 +1,49 @@
+-- The reply area under serving, whatever the table, the clock and the received bytes: a reply fits the room that serving asks for, and the reply to another status than 0 is a bare header.
+use Prim.Native.Nat.{ℕ, _≤_}
+use mathlib.Core.Path.{_≡_}
+use mathlib.Core.Bool.{Bool, cond, _&&_}
+use mathlib.Core.List.{List, [], _∷_, _++_}
+use lib.ListN.{length, drop, replicate}
+use lib.Dec.{eqb}
+use Rattle.octets.specs.Parts.{Bytes, part}
+use Rattle.octets.specs.BigEndian.{num, bytesOf}
+use Rattle.shape.specs.Shapes.{among}
+use Rattle.serving.specs.declared.Served.the-variants.{Done}
+use Rattle.serving.specs.Serve.{served, servedReply}
+
+-- "reply length, maybe 0; reply bytes past it unchanged": the area after a reply of so many bytes
+pub record Fits (out : List ℕ) (len : ℕ) (out′ : List ℕ) : Type 0 where
+  -- never over the room that serving asks for, so that it fits
+  pub most : len ≤ 1302
+  pub inside : len ≤ length out
+  pub size : length out′ ≡ length out
+  pub past : drop len out′ ≡ drop len out
+
+-- it rules out a store whose longest reply, to GetK for a key of 250 bytes with a value of 1,024, is cut or runs over what follows it
+abbrev pub ReplyFits : Type 0
+ReplyFits =
+    (b : List ℕ) (clock : ℕ) (s out : List ℕ) (status used len : ℕ) → Bytes b → served b clock s (length out) ≡ Done status used len
+    → Fits out len (servedReply b clock s out)
+
+-- "Its reply is a bare header with that status, the opcode and opaque echoed, CAS 0.": byte by byte, to the received bytes
+abbrev pub bareReply : ℕ → List ℕ → List ℕ
+bareReply status s =
+    -- magic, opcode, key length
+    (0x81 ∷ part s 1 1 ++ (0 ∷ 0 ∷ []))
+    -- extras length, datatype, status
+    ++ ((0 ∷ 0 ∷ bytesOf 2 status)
+    -- body length, opaque, CAS
+    ++ ((0 ∷ 0 ∷ 0 ∷ 0 ∷ []) ++ (part s 12 4 ++ replicate {A = ℕ} 8 0)))
+
+-- "GetQ 09 [..] GetKQ 0d"; "The quiet two send nothing on 0x01."
+abbrev pub silentMiss : ℕ → ℕ → Bool
+silentMiss opcode status = among opcode (0x09 ∷ 0x0d ∷ []) && eqb status 0x01
+
+abbrev pub statusReply : ℕ → List ℕ → List ℕ
+statusReply status s = cond (silentMiss (num s 1 1) status) [] (bareReply status s)
+
+-- it rules out a store that shows the value, or its CAS, beside 0x02, and one whose quiet Set says nothing of 0x82
+abbrev pub StatusReply : Type 0
+StatusReply =
+    (b : List ℕ) (clock : ℕ) (s out : List ℕ) (status used len : ℕ) → Bytes s → served b clock s (length out) ≡ Done status used len → (status ≡ 0 → ⊥)
+    → (len ≡ length (statusReply status s)) × (servedReply b clock s out ≡ statusReply status s ++ drop len out)

@@ -1,0 +1,179 @@
+//! A session's keys: short ones, numbered ones, long ones, and ones that share a fingerprint.
+//!
+//! The damage test compares two keys in full only where their fingerprints agree. Document 01 knows nothing of it:
+//! `crates/fingerprint/specs/Fingerprint.antt` is rendered here to aim at keys that take that way.
+
+use super::Generator;
+use crate::random::Random;
+use crate::rendering::bytes::u64_at;
+use crate::rendering::table::KEY;
+
+/// Keys that share prefixes and differ in the last byte or in length.
+const SHORT: [&[u8]; 12] = [
+    b"a",
+    b"b",
+    b"\0",
+    b"\xff",
+    b"aa",
+    b"ab",
+    b"ab\0",
+    b"contact-0001",
+    b"contact-0002",
+    b"contact-001",
+    b"contact-0001\0",
+    b"1",
+];
+
+#[derive(Clone, Copy, Debug, PartialEq, Eq)]
+enum Style {
+    Short,
+    Numbered,
+    Any,
+    /// 250 bytes that differ in two.
+    Long,
+    /// 8 or 12 to 16 bytes with one fingerprint.
+    Sharing,
+    /// 32 to 250 bytes with one fingerprint, alike from the seventeenth byte on.
+    SharingLong,
+}
+
+impl Generator {
+    /// At least one key more than the rows can hold, all different.
+    pub(super) fn session_keys(&mut self, rows: usize) -> Vec<Vec<u8>> {
+        let count = rows + self.random.between(1, 3);
+        match self.style(count) {
+            Style::Short => self.short_keys(count),
+            Style::Numbered => (0..count).map(|number| format!("contact-{number:04}").into_bytes()).collect(),
+            Style::Any => self.different(count, |random| {
+                let length = random.between(2, *KEY.end());
+                random.bytes(length)
+            }),
+            Style::Long => self.long_keys(count),
+            Style::Sharing => {
+                let print = self.random.u32();
+                let lengths = [8, 12, 13, 14, 15, 16];
+                self.different(count, |random| sharing(print, *random.pick(&lengths), random))
+            }
+            Style::SharingLong => {
+                let length = *self.random.pick(&[32, 33, 47, 48, 100, 249, 250, 250]);
+                let first = self.random.bytes(length);
+                self.different(count, |random| sharing_long(&first, random))
+            }
+        }
+    }
+
+    fn style(&mut self, count: usize) -> Style {
+        match self.random.below(20) {
+            0..=9 if count <= SHORT.len() => Style::Short,
+            0..=2 => Style::Numbered,
+            3 | 4 | 10 => Style::Any,
+            5..=7 | 11..=13 => Style::Sharing,
+            8 | 9 | 14..=16 => Style::SharingLong,
+            _ => Style::Long,
+        }
+    }
+
+    fn short_keys(&mut self, count: usize) -> Vec<Vec<u8>> {
+        let longest = [b'x'; 250];
+        let mut other = longest;
+        other[249] = b'y';
+        let mut keys = SHORT.map(<[u8]>::to_vec).to_vec();
+        keys.extend([longest[..249].to_vec(), longest.to_vec(), other.to_vec()]);
+        self.random.shuffle(&mut keys);
+        keys.truncate(count);
+        keys
+    }
+
+    fn long_keys(&mut self, count: usize) -> Vec<Vec<u8>> {
+        let first = self.random.bytes(*KEY.end());
+        let at = *self.random.pick(&[0, 14, 16, 124, 232, 240, 248]);
+        let numbered = |number: usize| [&first[..at], &(number as u16).to_be_bytes(), &first[at + 2..]].concat();
+        (0..count).map(numbered).collect()
+    }
+
+    fn different(&mut self, count: usize, deal: impl Fn(&mut Random) -> Vec<u8>) -> Vec<Vec<u8>> {
+        let mut keys: Vec<Vec<u8>> = Vec::with_capacity(count);
+        while keys.len() < count {
+            let key = deal(&mut self.random);
+            if !keys.contains(&key) {
+                keys.push(key);
+            }
+        }
+        keys
+    }
+}
+
+/// A key of 8 or 12 to 16 bytes with this fingerprint: its last four bytes make up for the others.
+fn sharing(print: u32, length: usize, random: &mut Random) -> Vec<u8> {
+    let mut key = random.bytes(length);
+    let last = length - 4;
+    key[last..].fill(0);
+    let lacking = print.wrapping_sub(fingerprint(&key));
+    key[last..].copy_from_slice(&if length == 8 { lacking.to_be_bytes() } else { lacking.to_le_bytes() });
+    key
+}
+
+/// A key of 32 bytes or more with other first sixteen bytes and the same fingerprint.
+fn sharing_long(key: &[u8], random: &mut Random) -> Vec<u8> {
+    let first = random.u64();
+    let second = pair(key).wrapping_sub(turned(first));
+    [&first.to_le_bytes(), &second.to_le_bytes(), &key[16..]].concat()
+}
+
+/// `fingerprint`.
+pub fn fingerprint(key: &[u8]) -> u32 {
+    match key.len() {
+        0..=8 => folded(key.iter().fold(0, |number, &byte| number << 8 | u64::from(byte))),
+        9..=15 => folded(mixed(word(key, 0), word(key, key.len() - 8))),
+        length => {
+            let last = length - 16;
+            let mix = |sum, at| mixed(turned(sum), pair(&key[at..]));
+            folded((0..last).step_by(16).fold(pair(&key[last..]), mix))
+        }
+    }
+}
+
+/// `bucketOf`.
+pub fn bucket(print: u32) -> usize {
+    (u64::from(print) * 2_654_435_761 / (1 << 22) % 1_024) as usize
+}
+
+fn turned(sum: u64) -> u64 {
+    sum.rotate_left(5)
+}
+
+fn mixed(sum: u64, word: u64) -> u64 {
+    turned(sum).wrapping_add(word)
+}
+
+fn pair(bytes: &[u8]) -> u64 {
+    mixed(word(bytes, 0), word(bytes, 8))
+}
+
+fn folded(sum: u64) -> u32 {
+    ((sum >> 32) as u32).wrapping_add(sum as u32)
+}
+
+/// Eight bytes, the lowest first.
+fn word(bytes: &[u8], at: usize) -> u64 {
+    u64_at(bytes, at).swap_bytes()
+}
+
+#[cfg(test)]
+mod tests {
+    use super::*;
+
+    #[test]
+    fn keys_share_their_fingerprint() {
+        let mut random = Random::new(1);
+        for length in [8, 12, 13, 14, 15, 16] {
+            assert_eq!(fingerprint(&sharing(0xdead_beef, length, &mut random)), 0xdead_beef);
+        }
+        for length in 32..=250 {
+            let key = random.bytes(length);
+            let other = sharing_long(&key, &mut random);
+            assert_eq!(fingerprint(&key), fingerprint(&other));
+            assert_ne!(key, other);
+        }
+    }
+}
