@@ -46,12 +46,8 @@ use Rattle.promises.specs.Merge.{docAt, modeAt}
 use Rattle.promises.specs.Expiry.{opcode, headerCas, extrasIn, keyIn, gets, adds, replaces, deletes, keyed, needsLive, toldLive, readLive}
 use Rattle.promises.specs.Expiry.{NotLive, Answers, Reaches, OneLiveness, LiveIsFound, DeadIsCompared, GetKeeps}
 use Rattle.promises.proofs.Asks.{at-opcode, reads, carries, added}
-use Rattle.promises.proofs.Liveness.{dead, alive, later, status, answers, avoids, answered, Without, without}
-use Rattle.promises.proofs.Dead.{and-false, seen, command, rule, instruction, tests, sought, unguarded, not-missing, no-conflict}
-
-or-false : (a : Bool) → (a || false) ≡ a
-or-false true = refl
-or-false false = refl
+use Rattle.promises.proofs.Liveness.{and-false, or-false, dead, alive, status, answers, avoids, answered, without}
+use Rattle.promises.proofs.Dead.{seen, command, rule, instruction, tests, sought, unguarded, not-missing, without-missing, without-conflict, is-missing, is-conflict}
 
 -- ---- what the owner's read tells
 shown-live : (rows : List Row) (clock : ℕ) (k : Key) (d : Doc) → readLive (shown rows clock k (some d)) ≡ live (storedOf (some d)) clock
@@ -88,34 +84,20 @@ module _ (b : List ℕ) (clock : ℕ) (s : List ℕ) where
   contest u f z true t = rw (u, f, unguarded b clock s z, t)
   contest u f z false t = rw (u, f, unguarded b clock s z, t)
 
-  without-missing : tests b clock s .missing ≡ false → Without 0x01 (statuses (tableOf b) clock s (headerOf s))
-  without-missing m = (refl, (refl, (refl, (refl, (refl, (refl, (refl, (m, (refl, (refl, (refl, (refl, refl))))))))))))
-
-  without-conflict : tests b clock s .conflict ≡ false → Without 0x02 (statuses (tableOf b) clock s (headerOf s))
-  without-conflict k = (refl, (refl, (refl, (refl, (refl, (refl, (refl, (refl, (k, (refl, (refl, (refl, refl))))))))))))
-
   module _ (room : ℕ) (r : Reaches b clock s room) where
-    pub is-missing : tests b clock s .missing ≡ true → status b clock s room ≡ 0x01
-    unfolding firstFailure
-    is-missing m = later 7 (statuses (tableOf b) clock s (headerOf s)) (r .earlier) ∙ rw m
-
-    pub is-conflict : tests b clock s .missing ≡ false → tests b clock s .conflict ≡ true → status b clock s room ≡ 0x02
-    unfolding firstFailure
-    is-conflict m k = later 7 (statuses (tableOf b) clock s (headerOf s)) (r .earlier) ∙ rw (m, k)
-
     needed-told : needsLive s ≡ true → (n : ℕ) → status b clock s room ≡ n → not (eqb n 0x01) ≡ lives
     needed-told e n z =
         cases lives
-        (λ t. rw (t, ne-eqb n 0x01 (λ y. without 0x01 _ (without-missing (found t)) (z ∙ y))))
-        (λ t. rw (t, eq-eqb n 0x01 (sym z ∙ is-missing (not-found e t))))
+        (λ t. rw (t, ne-eqb n 0x01 (λ y. without 0x01 _ (without-missing b clock s (found t)) (z ∙ y))))
+        (λ t. rw (t, eq-eqb n 0x01 (sym z ∙ is-missing b clock s room r (not-found e t))))
 
     added-told : among (opcode s) adds ≡ true → headerCas s ≡ 0 → (n : ℕ) → status b clock s room ≡ n → eqb n 0x02 ≡ lives
     unfolding requestOf
     added-told e c n z =
         let (needless, (unbeaten, fresh)) = added (seen b clock s) (extrasIn s) (opcode s) e in
         cases lives
-        (λ t. rw (t, eq-eqb n 0x02 (sym z ∙ is-conflict (not-missing b clock s needless c) (contest unbeaten fresh c true t))))
-        (λ t. rw (t, ne-eqb n 0x02 (λ y. without 0x02 _ (without-conflict (contest unbeaten fresh c false t)) (z ∙ y))))
+        (λ t. rw (t, eq-eqb n 0x02 (sym z ∙ is-conflict b clock s room r (not-missing b clock s needless c) (contest unbeaten fresh c true t))))
+        (λ t. rw (t, ne-eqb n 0x02 (λ y. without 0x02 _ (without-conflict b clock s (contest unbeaten fresh c false t)) (z ∙ y))))
 
 -- where a document isn't needed, an Add has no header CAS
 add-keyed : (n : ℕ) → among n adds ≡ true → among n keyed ≡ true

@@ -40,7 +40,7 @@ use Rattle.promises.specs.Merge.{docAt}
 use Rattle.promises.specs.Expiry.{opcode, extrasIn, keyIn, initialIn, counterExpiry, NotLive, Live, BeginsAt, Answers, DeadCounts, LiveCounts}
 use Rattle.promises.proofs.Asks.{counts}
 use Rattle.promises.proofs.Liveness.{dead, alive, avoids, answered, was-whole}
-use Rattle.promises.proofs.Dead.{seen, command, count-needs, not-missing, no-conflict, no-number}
+use Rattle.promises.proofs.Dead.{seen, command, count-needs, without-missing, without-conflict, without-number, not-missing, no-conflict, no-number}
 
 -- what a served frame stores is what its key has then
 pub stored-at : (b : List ℕ) (clock : ℕ) (s : List ℕ) (room : ℕ) (d : Doc) → Bytes b → Bytes s → gateAll b room s ≡ Whole (headerOf s)
@@ -115,12 +115,9 @@ unfolding requestOf ruleOf
 dead-counts b clock s room y z n e c x =
     let (up, asks) = counts (seen b clock s) (extrasIn s) (opcode s) e in
     let needless = count-needs b clock s e ∙ ne-eqb (counterExpiry s) 0xffffffff x in
-    let m = not-missing b clock s needless c in
-    let k = no-conflict b clock s n (rw asks) c in
-    let v = no-number b clock s n in
     record {
-      found = avoids b clock s room 0x01 (refl, (refl, (refl, (refl, (refl, (refl, (refl, (m, (refl, (refl, (refl, (refl, refl))))))))))));
-      free = avoids b clock s room 0x02 (refl, (refl, (refl, (refl, (refl, (refl, (refl, (refl, (k, (refl, (refl, (refl, refl))))))))))));
-      number = avoids b clock s room 0x06 (refl, (refl, (refl, (refl, (refl, (refl, (refl, (refl, (refl, (v, (refl, (refl, refl))))))))))));
+      found = avoids b clock s room 0x01 (without-missing b clock s (not-missing b clock s needless c));
+      free = avoids b clock s room 0x02 (without-conflict b clock s (no-conflict b clock s n (rw asks) c));
+      number = avoids b clock s room 0x06 (without-number b clock s (no-number b clock s n));
       stored = anew b clock s room up asks n y z;
     }

@@ -13,25 +13,17 @@ use Rattle.commands.specs.declared.Context.{Context}
 use Rattle.commands.specs.declared.Command.{Command}
 use Rattle.commands.specs.declared.Instruction.{Instruction}
 use Rattle.commands.specs.declared.Tests.{Tests}
-use Rattle.commands.specs.Rules.{Rule, ruleOf, testsOf, guard, firstFailure}
+use Rattle.commands.specs.Rules.{Rule, Check, ruleOf, testsOf, guard, firstFailure}
 use Rattle.decision.specs.Decide.{instructionOf}
 use Rattle.decode.specs.Decode.{requestOf}
 use Rattle.rows.specs.Table.{tableOf}
 use Rattle.serving.specs.Serve.{contextOn}
 use Rattle.serving.specs.Statuses.{testsOn, statuses}
 use Rattle.promises.specs.Merge.{docAt}
-use Rattle.promises.specs.Expiry.{opcode, headerCas, extrasIn, keyIn, gets, replaces, deletes, keyed, counters, counterExpiry, needsLive, NotLive, DeadIsMissing, DeadIsWritten}
+use Rattle.promises.specs.Expiry.{opcode, headerCas, extrasIn, keyIn, gets, replaces, deletes, keyed, counters, counterExpiry, needsLive, NotLive, Reaches, DeadIsMissing, DeadIsWritten}
 use Rattle.promises.proofs.Asks.{ask, needs, guarded, writes, counts}
-use Rattle.promises.proofs.Liveness.{dead, later, status, answers, avoids}
+use Rattle.promises.proofs.Liveness.{and-false, or-true, dead, later, Without, status, answers, avoids}
 use Rattle.promises.proofs.Keeps.{status-keeps}
-
-pub and-false : (a : Bool) → (a && false) ≡ false
-and-false true = refl
-and-false false = refl
-
-or-true : (a : Bool) → (a || true) ≡ true
-or-true true = refl
-or-true false = refl
 
 -- needed, or guarded by a header CAS
 asked-for : (g n x : Bool) → (g || n) ≡ true → x ≡ true → (n || (g && x)) ≡ true
@@ -89,6 +81,28 @@ module _ (b : List ℕ) (clock : ℕ) (s : List ℕ) where
   unfolding testsOf
   not-missing e z = rw (e, unguarded z)
 
+  -- where a test doesn't fail, its status isn't given
+  abbrev list : List Check
+  list = statuses (tableOf b) clock s (headerOf s)
+
+  pub without-missing : tests .missing ≡ false → Without 0x01 list
+  without-missing m = (refl, (refl, (refl, (refl, (refl, (refl, (refl, (m, (refl, (refl, (refl, (refl, refl))))))))))))
+
+  pub without-conflict : tests .conflict ≡ false → Without 0x02 list
+  without-conflict k = (refl, (refl, (refl, (refl, (refl, (refl, (refl, (refl, (k, (refl, (refl, (refl, refl))))))))))))
+
+  pub without-number : tests .number ≡ false → Without 0x06 list
+  without-number v = (refl, (refl, (refl, (refl, (refl, (refl, (refl, (refl, (refl, (v, (refl, (refl, refl))))))))))))
+
+  -- where it is the first that fails, its status is
+  pub is-missing : (room : ℕ) → Reaches b clock s room → tests .missing ≡ true → status b clock s room ≡ 0x01
+  unfolding firstFailure
+  is-missing room r m = later 7 list (r .earlier) ∙ rw m
+
+  pub is-conflict : (room : ℕ) → Reaches b clock s room → tests .missing ≡ false → tests .conflict ≡ true → status b clock s room ≡ 0x02
+  unfolding firstFailure
+  is-conflict room r m k = later 7 list (r .earlier) ∙ rw (m, k)
+
   -- the tests of 0x01, 0x02 and 0x06, where the row isn't live
   module _ (n : NotLive clock (docAt b (keyIn s))) where
     pub missing : needsLive s ≡ true → tests .missing ≡ true
@@ -104,19 +118,14 @@ module _ (b : List ℕ) (clock : ℕ) (s : List ℕ) where
     no-number = rw (dead clock (docAt b (keyIn s)) n) (and-false (rule .counts))
 
 pub dead-is-missing : DeadIsMissing
-unfolding firstFailure
 dead-is-missing b clock s room r n e =
-    let l = later 7 (statuses (tableOf b) clock s (headerOf s)) (r .earlier) in
-    let z : status b clock s room ≡ 0x01 = l ∙ rw (missing b clock s n e) in
-    let (len, a) = answers b clock s room r 0x01 z in
+    let (len, a) = answers b clock s room r 0x01 (is-missing b clock s room r (missing b clock s n e)) in
     ((len, a), status-keeps b clock s room 0x01 (24 + headerOf s .body) len (r .bytes) a (λ y. absurd (omega arith)))
 
 pub dead-is-written : DeadIsWritten
 unfolding requestOf
 dead-is-written b clock s room n e z =
-    let (needs, beaten) = writes (seen b clock s) (extrasIn s) (opcode s) e in
-    let m = not-missing b clock s needs z in
-    let k = no-conflict b clock s n beaten z in (
-      avoids b clock s room 0x01 (refl, (refl, (refl, (refl, (refl, (refl, (refl, (m, (refl, (refl, (refl, (refl, refl)))))))))))),
-      avoids b clock s room 0x02 (refl, (refl, (refl, (refl, (refl, (refl, (refl, (refl, (k, (refl, (refl, (refl, refl)))))))))))),
+    let (needs, beaten) = writes (seen b clock s) (extrasIn s) (opcode s) e in (
+      avoids b clock s room 0x01 (without-missing b clock s (not-missing b clock s needs z)),
+      avoids b clock s room 0x02 (without-conflict b clock s (no-conflict b clock s n beaten z)),
     )

@@ -36,9 +36,17 @@ dead clock none n = refl
 dead clock (some d) (inl t) = rw t
 dead clock (some d) (inr e) = rw (e .document, ne-eqb (d .numbers .expiry) 0 (e .ends), le-leb (d .numbers .expiry) clock (e .past))
 
-and-false : (a : Bool) → (a && false) ≡ false
+pub and-false : (a : Bool) → (a && false) ≡ false
 and-false true = refl
 and-false false = refl
+
+pub or-true : (a : Bool) → (a || true) ≡ true
+or-true true = refl
+or-true false = refl
+
+pub or-false : (a : Bool) → (a || false) ≡ a
+or-false true = refl
+or-false false = refl
 
 alive-by : (clock : ℕ) (d : Doc) → d .tomb ≡ false → (d .numbers .expiry ≡ 0) ⊎ (clock < d .numbers .expiry) → live (storedOf (some d)) clock ≡ true
 unfolding live expired

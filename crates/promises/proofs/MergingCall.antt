@@ -2,13 +2,12 @@
 use Prim.Native.Nat.{ℕ, _+_, _-_, _≤_}
 use mathlib.Core.Path.{_≡_, refl}
 use mathlib.Core.Bool.{true, false, not}
-use mathlib.Core.Logic.{⊎-elim}
 use mathlib.Core.List.{List, [], _∷_, map}
 use native.Mathlib.Omega.{arith}
 use lib.ListN.{length}
 use lib.Dec.{ltb, eqb}
-use borrow.Author.Tests.{eqb-true, eqb-false, not-true, ltb-false}
-use Rattle.octets.proofs.Choices.{cond-elim, either as one-of}
+use borrow.Author.Tests.{eqb-false, not-true, ltb-false}
+use Rattle.octets.proofs.Choices.{cond-elim}
 use Rattle.octets.proofs.Lists.{part-length, part-most}
 use Rattle.numbers.specs.declared.Mode.{Mode}
 use Rattle.numbers.specs.declared.Mode.the-variants.{ByRevision, LastWrite}
@@ -34,22 +33,21 @@ use Rattle.decode.specs.Decode as decoding
 use Rattle.merge.specs.Merge.{All}
 use Rattle.promises.specs.Calls.{Call}
 use Rattle.promises.specs.Merge.{optionsFor, MergingCall}
-use Rattle.serving.proofs.Formed.{no}
+use Rattle.promises.proofs.Asks.{at-opcode}
 
 -- what a call asks for
 abbrev pub asked : Call → abstract.RequestAt
 asked c = record { clock = c .clock; request = requestOf (c .received) (headerOf (c .received)) }
 
 -- ---- the command
-kind-of : (op : ℕ) (extras : List ℕ) → among op (0xa2 ∷ 0xa3 ∷ 0xa8 ∷ 0xa9 ∷ []) ≡ true
-    → (k : MetaKind) × SetOrDelete k × (commandOf (shapeOf op .operation) extras ≡ decoding.metaCommand k (withMeta extras))
-unfolding among commandOf shapeOf
+abbrev Kinded : List ℕ → ℕ → Type 0
+Kinded extras n = (k : MetaKind) × SetOrDelete k × (commandOf (shapeOf n .operation) extras ≡ decoding.metaCommand k (withMeta extras))
+
+kind-of : (op : ℕ) (extras : List ℕ) → among op (0xa2 ∷ 0xa3 ∷ 0xa8 ∷ 0xa9 ∷ []) ≡ true → Kinded extras op
+unfolding commandOf shapeOf
 kind-of op extras e =
-    ⊎-elim (λ z. rw (eqb-true op 0xa2 z) (Set, tt, refl))
-    (λ e₁. ⊎-elim (λ z. rw (eqb-true op 0xa3 z) (Set, tt, refl))
-    (λ e₂. ⊎-elim (λ z. rw (eqb-true op 0xa8 z) (Delete, tt, refl))
-    (λ e₃. ⊎-elim (λ z. rw (eqb-true op 0xa9 z) (Delete, tt, refl)) (λ z. no z)
-    (one-of (eqb op 0xa9) _ e₃)) (one-of (eqb op 0xa8) _ e₂)) (one-of (eqb op 0xa3) _ e₁)) (one-of (eqb op 0xa2) _ e)
+    at-opcode (Kinded extras) op (0xa2 ∷ 0xa3 ∷ 0xa8 ∷ 0xa9 ∷ [])
+    ((Set, tt, refl), ((Set, tt, refl), ((Delete, tt, refl), ((Delete, tt, refl), tt)))) e
 
 record Metaed (m : Mode) (x : Command) : Type 0 where
   with-meta : x ≡ Metas (metaIn x)
