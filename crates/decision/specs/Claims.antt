@@ -13,7 +13,7 @@ use Rattle.document.specs.Documents.{Doc}
 use Rattle.document.specs.Stored.{storedOf, hasRow, numbersOf, accepted}
 use Rattle.commands.specs.declared.MetaKind.{MetaKind}
 use Rattle.commands.specs.declared.Command.{Command}
-use Rattle.commands.specs.declared.Command.the-variants.{Get, Write, Delete, Count, Noop, Version, WithMeta}
+use Rattle.commands.specs.declared.Command.the-variants.{Get, Write, Delete, Count, Noop, Version, WithMeta, GetKeys}
 use Rattle.commands.specs.declared.Meta.{Meta}
 use Rattle.effects.specs.Done.{isDelete}
 use Rattle.decision.specs.Decide.{Request, Effect, decide}
@@ -45,6 +45,7 @@ Formed (Count k) = k .expiry < 2 ^ 32
 Formed Noop = Unit {0}
 Formed Version = Unit {0}
 Formed (WithMeta w) = NumbersFit (w .numbers) × (1 ≤ w .numbers .cas .0) × BareDelete (w .kind) (w .numbers .flags) (w .numbers .expiry)
+Formed (GetKeys n) = Unit {0}
 
 -- "A non-zero status changes no table byte": it stores nothing and leaves the head
 abbrev pub StatusStoresNothing : Type 0

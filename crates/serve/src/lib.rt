@@ -25,6 +25,7 @@ use commands::Instruction;
 use decision::Decision;
 use decode::Decoded;
 use document::Head;
+use effects::Reply;
 use engine::Checked;
 use header::Header;
 use request::Gate;
@@ -53,6 +54,44 @@ fn decided(head: Head, clock: u32, l: Lookup, old: &[u8], ask: Instruction) -> D
     )
 }
 
+// Writes the keys that a listing shows, and the reply's header before them.
+fn put_listing(
+    b: &[u8],
+    clock: u32,
+    out: &mut [u8],
+    h: Header,
+    d: Decision,
+    start: &[u8],
+    count: u32,
+) -> usize {
+    if d.silent {
+        return 0;
+    }
+    let n = table::put_keys(b, clock, start, count, out);
+    let done = d.done;
+    let cas = done.cas;
+    reply::put_value_header(out, h.opcode, h.opaque, d.status, n as u32, cas);
+    24 + n
+}
+
+// Writes a decision's reply and answers its length. old: the stored value.
+fn put_answer(
+    b: &[u8],
+    clock: u32,
+    out: &mut [u8],
+    h: Header,
+    d: Decision,
+    key: &[u8],
+    old: &[u8],
+) -> usize {
+    let done = d.done;
+    let reply = done.reply;
+    match reply {
+        Reply::Keys(count) => put_listing(b, clock, out, h, d, key, count),
+        _ => reply::put_reply(out, h.opcode, h.opaque, d, key, old),
+    }
+}
+
 // Answers and stores a frame whose form is right, or right but for a value over 1,024 bytes. key and value are parts of
 // the received bytes s.
 fn serve_formed(
@@ -75,7 +114,7 @@ fn serve_formed(
     let size = ask.size;
     let old = octets::part(b, l.at, l.len);
     let d = decided(head, clock, l, old, ask);
-    let n = reply::put_reply(out, h.opcode, h.opaque, d, key, old);
+    let n = put_answer(b, clock, out, h, d, key, old);
     let done = d.done;
     change::change(b, l, key, done, octets::part(value, 0, size));
     let frame = header::layout_of(h);

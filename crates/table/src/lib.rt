@@ -1,4 +1,4 @@
-// The four calls by which serving and the owner's calls reach a table's rows: checked, find, store and purge. Which engine
+// The five calls by which serving and the owner's calls reach a table's rows: checked, find, store, purge and put_keys. Which engine
 // keeps the rows is decided here and nowhere above. Every function is total on any bytes; what it means on a table that is
 // not damaged is in specs/Claims.antt.
 ghost use mathlib.Core.Path.{_≡_};
@@ -122,4 +122,10 @@ pub fn purge(b: &mut [u8], clock: u32, bound: Cas) -> usize
     ensures { λ r. ⌜ (r ≡ freedRows (goneDoc clock (bound .0)) (now (b .entry))) × (now (b .exit) ≡ purgedRows (goneDoc clock (bound .0)) (now (b .entry))) ⌝ }
 {
     plain_writer::purge(b, clock, bound)
+}
+
+// Writes a listing's value from byte 24 on and answers its length. Nothing where the room is under 1,302 bytes or the rows are over
+// 256.
+pub fn put_keys(b: &[u8], clock: u32, start: &[u8], count: u32, out: &mut [u8]) -> usize {
+    plain_listing::put_keys(b, clock, start, count, out)
 }
