@@ -37,7 +37,7 @@ use Rattle.rows.specs.Table.{tableOf, tableBytes}
 use Rattle.plain.specs.Damage.{sound}
 use Rattle.plain.proofs.TableLaws.{sound-good}
 use Rattle.owner.specs.Owner.{shown, readOf}
-use Rattle.serving.specs.Serve.{reachesDecision, decisionOn, answerOn, frameTable, gateAll, tableBy, servedTable}
+use Rattle.serving.specs.Serve.{reachesDecision, decisionOn, frameEffect, frameTable, gateAll, tableBy, servedTable}
 use Rattle.serving.specs.Statuses.{statuses}
 use Rattle.serving.proofs.Change.{unchanged}
 use Rattle.serving.proofs.Formed.{no, by-cond}
@@ -174,8 +174,8 @@ module _ (c : Context) where
       (λ t. subst (λ (x : Command). Kept (doneOf c x)) (sym e) (got k)) (λ t. (refl, refl))
 
 module _ (b : List ℕ) (clock : ℕ) (s : List ℕ) (e : among (opcode s) gets ≡ true) where
-  frame-kept : (answerOn (tableOf b) clock s (headerOf s) .effect .store ≡ none) × (answerOn (tableOf b) clock s (headerOf s) .effect .head ≡ tableOf b .head)
-  unfolding answerOn decisionOn requestOf
+  frame-kept : (frameEffect (tableOf b) clock s (headerOf s) .store ≡ none) × (frameEffect (tableOf b) clock s (headerOf s) .head ≡ tableOf b .head)
+  unfolding frameEffect decisionOn requestOf
   frame-kept =
       let (k, asks) = reads (seen b clock s) (extrasIn s) (opcode s) e in
       let (none-stored, same-head) = get-kept (seen b clock s) (instruction b clock s) k asks in

@@ -40,7 +40,7 @@ use Rattle.plain.proofs.TableLaws.{sound-good, good-sound}
 use Rattle.serving.specs.declared.Served.{Served}
 use Rattle.serving.specs.declared.Served.the-variants.{Done}
 use Rattle.serving.specs.Reply.{replyBytes}
-use Rattle.serving.specs.Serve.{reachesDecision, decisionOn, answerOn, tableChanged, frameChange, frameTable, frameReply, gateAll, answerBy, tableBy, replyBy, served, servedTable, servedReply}
+use Rattle.serving.specs.Serve.{reachesDecision, decisionOn, frameEffect, tableChanged, frameChange, frameTable, frameReply, gateAll, answerBy, tableBy, replyBy, served, servedTable, servedReply}
 use Rattle.serving.proofs.Change.{changing, unchanged}
 use Rattle.serving.proofs.Gated.{was-open}
 use Rattle.promises.specs.Merge.{docAt}
@@ -158,8 +158,8 @@ module _ (b : List ℕ) (clock : ℕ) (s : List ℕ) (d : Doc) (y : Bytes b) (z 
   unfolding decisionOn
   decided = cases (reachesDecision (frameStatus s h)) (λ r. rw r rows-alike) (λ r. rw r (refl, tt))
 
-  effects : answerOn t clock s h .effect ≡ answerOn u clock s h .effect
-  unfolding answerOn
+  effects : frameEffect t clock s h ≡ frameEffect u clock s h
+  unfolding frameEffect
   effects = ap (effectOf (requestOf s h)) (decided .0)
 
   -- ---- a whole frame
@@ -177,7 +177,7 @@ module _ (b : List ℕ) (clock : ℕ) (s : List ℕ) (d : Doc) (y : Bytes b) (z 
     Ends = (frameTable b clock s h ≡ frameTable grave clock s h) ⊎ ((frameTable b clock s h ≡ b) × (frameTable grave clock s h ≡ grave))
 
     abbrev effect : Effect
-    effect = answerOn t clock s h .effect
+    effect = frameEffect t clock s h
 
     -- nothing stored: both stay
     stay : effect .store ≡ none → Ends
@@ -210,8 +210,8 @@ module _ (b : List ℕ) (clock : ℕ) (s : List ℕ) (d : Doc) (y : Bytes b) (z 
   unfolding gateAll
   gates n = rw (undamaged, grave-sound)
 
-  statuses-alike : answerOn (tableOf b) clock s h .effect .status ≡ answerOn (tableOf grave) clock s h .effect .status
-  statuses-alike = ap (λ (x : Effect). x .status) effects ∙ ap (λ (x : Table). answerOn x clock s h .effect .status) (sym grave-table)
+  statuses-alike : frameEffect (tableOf b) clock s h .status ≡ frameEffect (tableOf grave) clock s h .status
+  statuses-alike = ap (λ (x : Effect). x .status) effects ∙ ap (λ (x : Table). frameEffect x clock s h .status) (sym grave-table)
 
   module _ (out : List ℕ) where
     abbrev By : Gate → Type 0

@@ -22,7 +22,7 @@ use Rattle.commands.specs.Rules.{Check, firstFailure}
 use Rattle.rows.specs.Table.{tableOf}
 use Rattle.plain.specs.Damage.{sound}
 use Rattle.serving.specs.declared.Served.the-variants.{Refused, Done}
-use Rattle.serving.specs.Serve.{decisionOn, answerOn, answerBy, tableBy, frameTable, frameReply, gateAll, served, servedTable}
+use Rattle.serving.specs.Serve.{decisionOn, frameEffect, answerBy, tableBy, frameTable, frameReply, gateAll, served, servedTable}
 use Rattle.serving.specs.Statuses.{statuses}
 use Rattle.serving.proofs.Formed.{no}
 use Rattle.serving.proofs.Gated.{was-open}
@@ -99,13 +99,13 @@ module _ (b : List ℕ) (clock : ℕ) (s : List ℕ) (room : ℕ) where
   table-open r = ap (tableBy b clock s) (opened r)
 
   pub answers : Reaches b clock s room → (n : ℕ) → status ≡ n → Answers b clock s room n
-  unfolding served answerOn
+  unfolding served frameEffect
   answers r n e =
       let len = length (frameReply b clock s (headerOf s)) in
       (len, ap (answerBy b clock s) (opened r) ∙ ap (λ (x : ℕ). Done x (24 + headerOf s .body) len) (listed ∙ e))
 
   answered-by : (n used len : ℕ) (g : Gate) → gateAll b room s ≡ g → answerBy b clock s g ≡ Done n used len → decided ≡ n
-  unfolding answerOn
+  unfolding frameEffect
   answered-by n used len (Stop m more) o e = absurd (let z : _≡_ {A = ℕ} 0 1 = cc in omega arith)
   answered-by n used len (Whole h) o e =
       let same = was-open b s room h o .frame .header in

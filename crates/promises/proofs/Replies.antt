@@ -37,7 +37,7 @@ use Rattle.rows.specs.Table.{Table, tableOf}
 use Rattle.rows.specs.Find.{findRow}
 use Rattle.serving.specs.declared.Served.the-variants.{Done}
 use Rattle.serving.specs.Reply.{replyHeader, replyBytes}
-use Rattle.serving.specs.Serve.{reachesDecision, contextOn, decisionOn, answerOn, frameReply, answerBy, replyBy, gateAll, served, servedReply}
+use Rattle.serving.specs.Serve.{reachesDecision, contextOn, decisionOn, frameEffect, frameReply, answerBy, replyBy, gateAll, served, servedReply}
 use Rattle.serving.proofs.Formed.{by-cond, no}
 use Rattle.serving.proofs.Gated.{was-open}
 use Rattle.reply.specs.Fitting.{bareHeader}
@@ -162,10 +162,10 @@ alone-size st s y l =
 
 module _ (b : List ℕ) (clock : ℕ) (s : List ℕ) where
   abbrev StatusAlone : Header → Type 0
-  StatusAlone h = (answerOn (tableOf b) clock s h .effect .status ≡ 0 → ⊥) → frameReply b clock s h ≡ statusReply (answerOn (tableOf b) clock s h .effect .status) s
+  StatusAlone h = (frameEffect (tableOf b) clock s h .status ≡ 0 → ⊥) → frameReply b clock s h ≡ statusReply (frameEffect (tableOf b) clock s h .status) s
 
   frame-status : Bytes s → 24 ≤ length s → StatusAlone (headerOf s)
-  unfolding frameReply answerOn
+  unfolding frameReply frameEffect
   frame-status y l n =
       let h = headerOf s in
       let key = bytesIn s (keySpan h) in
@@ -178,7 +178,7 @@ status-by : (b : List ℕ) (clock : ℕ) (s out : List ℕ) (st used len : ℕ) 
 status-by b clock s out st used len (Stop n need) q y e z = absurd (let z : _≡_ {A = ℕ} 0 1 = cc in omega arith)
 status-by b clock s out st used len (Whole h) q y e z =
     let w = was-open b s (length out) h q in
-    let p : answerOn (tableOf b) clock s h .effect .status ≡ st = cc in
+    let p : frameEffect (tableOf b) clock s h .status ≡ st = cc in
     let l : length (frameReply b clock s h) ≡ len = cc in
     let f = subst (StatusAlone b clock s) (w .frame .header) (frame-status b clock s y (w .frame .long)) (λ v. z (sym p ∙ v)) ∙ ap (λ (k : ℕ). statusReply k s) p in
     let m = alone-size st s y (w .frame .long) in

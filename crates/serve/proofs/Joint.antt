@@ -46,7 +46,7 @@ use Rattle.table.proofs.Keeping.{head-put}
 use Rattle.serving.specs.declared.Served.{Served}
 use Rattle.serving.specs.declared.Served.the-variants.{Done}
 use Rattle.serving.specs.Reply.{replyBytes}
-use Rattle.serving.specs.Serve.{reachesDecision, decisionOn, answerOn, frameTable, frameReply}
+use Rattle.serving.specs.Serve.{reachesDecision, decisionOn, frameEffect, frameTable, frameReply}
 use Rattle.serving.specs.Serves.{ServesFrame}
 use Rattle.serving.proofs.Change.{Storing, changing, unchanged, raised, raised-good, puts}
 use Rattle.reply.specs.Fitting.{bareHeader, fittingReply}
@@ -57,12 +57,12 @@ use Rattle.serve.specs.Change.{storedWith}
 -- ---- a frame whose status the reader gives: its reply is a bare header
 module _ (b s : List ℕ) (clock : ℕ) (h : Header) (g : reachesDecision (frameStatus s h) ≡ false) where
   refused-table : Bytes b → sound b ≡ true → frameTable b clock s h ≡ b
-  unfolding frameTable answerOn tableOf
+  unfolding frameTable frameEffect tableOf
   refused-table y sb =
       ap tableBytes (unchanged (tableOf b) clock s h (rw (refused-is b s clock h g)) (rw (refused-is b s clock h g))) ∙ sound-good b y sb .0
 
-  refused-status : answerOn (tableOf b) clock s h .effect .status ≡ frameStatus s h
-  unfolding answerOn
+  refused-status : frameEffect (tableOf b) clock s h .status ≡ frameStatus s h
+  unfolding frameEffect
   refused-status = ap (λ (x : Decision). x .status) (refused-is b s clock h g)
 
   -- what answering with a bare header leaves
@@ -105,14 +105,14 @@ no-doc st value e = rw e
 
 -- storing what a frame asks for, by the lookup of its key, is the engine's put
 changed-is : (b s : List ℕ) (clock : ℕ) (h : Header) (w : Bool) → Bytes b → Bytes s → 24 + h .body ≤ length s → sound b ≡ true
-    → (w ≡ false → answerOn (tableOf b) clock s h .effect .store ≡ none)
-    → storedWith b (lookupOf w b (bytesIn s (keySpan h))) (bytesIn s (keySpan h)) (answerOn (tableOf b) clock s h .effect .store) (answerOn (tableOf b) clock s h .effect .head)
+    → (w ≡ false → frameEffect (tableOf b) clock s h .store ≡ none)
+    → storedWith b (lookupOf w b (bytesIn s (keySpan h))) (bytesIn s (keySpan h)) (frameEffect (tableOf b) clock s h .store) (frameEffect (tableOf b) clock s h .head)
     ≡ frameTable b clock s h
 unfolding frameTable
 changed-is b s clock h w y z inside sb none-if =
     let t = tableOf b in
     let key = bytesIn s (keySpan h) in
-    let x = answerOn t clock s h .effect in
+    let x = frameEffect t clock s h in
     let good = sound-good b y sb in
     let c = changing t clock s h (good .1) z inside in
     options (x .store)
@@ -161,19 +161,19 @@ module _ (b s : List ℕ) (clock : ℕ) (h : Header) (y : Bytes b) (z : Bytes s)
   unfolding decisionOn tableOf
   decision-is = rw g (decided-is ∙ ap (decision (seeing (headOf b) (storedOf row) free clock (numberOf (docValue row)))) eq)
 
-  status-is : d .status ≡ answerOn (tableOf b) clock s h .effect .status
-  unfolding answerOn
+  status-is : d .status ≡ frameEffect (tableOf b) clock s h .status
+  unfolding frameEffect
   status-is = ap (λ (x : Decision). x .status) decision-is
 
-  head-is : d .done .head ≡ answerOn (tableOf b) clock s h .effect .head
-  unfolding answerOn
+  head-is : d .done .head ≡ frameEffect (tableOf b) clock s h .head
+  unfolding frameEffect
   head-is = ap (λ (x : Decision). x .done .head) decision-is
 
-  store-is : (v : List ℕ) → v ≡ bareValue s h → docFrom (d .done .store) (bytesFrom (d .done .source) v) ≡ answerOn (tableOf b) clock s h .effect .store
-  unfolding answerOn requestOf
+  store-is : (v : List ℕ) → v ≡ bareValue s h → docFrom (d .done .store) (bytesFrom (d .done .source) v) ≡ frameEffect (tableOf b) clock s h .store
+  unfolding frameEffect requestOf
   store-is v ev = λ i. docFrom (decision-is i .done .store) (bytesFrom (decision-is i .done .source) (ev i))
 
-  store-none : (v : List ℕ) → v ≡ bareValue s h → w ≡ false → answerOn (tableOf b) clock s h .effect .store ≡ none
+  store-none : (v : List ℕ) → v ≡ bareValue s h → w ≡ false → frameEffect (tableOf b) clock s h .store ≡ none
   store-none v ev e =
       sym (store-is v ev) ∙ no-doc (d .done .store) _ (ap (λ (x : Decision). x .done .store) decided-is
       ∙ stores-none (seeing (headOf b) (storedOf row) free clock (numberOf (docValue row))) q (sym ew ∙ e))

@@ -45,8 +45,8 @@ module _ (c : Context) (frame : List ℕ) (n : ℕ) where
   done-keeps (WithMeta w) p = (λ e. none-some _ (sym e), λ d e. p)
 
 pub decide-keeps : (h : Head) (row : Option Doc) (free : Bool) (clock : ℕ) (q : Request) (n : ℕ) → Named n (q .command)
-    → (decide h row free clock q .effect .store ≡ none → decide h row free clock q .effect .head ≡ h)
-    × ((d : Doc) → decide h row free clock q .effect .store ≡ some d → 1 ≤ n)
+    → (decide h row free clock q .store ≡ none → decide h row free clock q .head ≡ h)
+    × ((d : Doc) → decide h row free clock q .store ≡ some d → 1 ≤ n)
 unfolding decide decision
 decide-keeps h row free clock q n p =
     let c = contextOf h row free clock in
