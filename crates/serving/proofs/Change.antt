@@ -18,7 +18,7 @@ use Rattle.request.specs.Reading.{frameStatus, bytesIn, extrasSpan, keySpan, va
 use Rattle.document.specs.Documents.{Key, Doc}
 use Rattle.document.specs.declared.Head.{Head}
 use Rattle.document.specs.Head.{marked}
-use Rattle.decision.specs.Decide.{Answer, decide}
+use Rattle.decision.specs.Decide.{Effect, decide}
 use Rattle.decision.specs.Claims.{StoredSound}
 use Rattle.decision.proofs.Stores.{stores-with-room, stores-sound}
 use Rattle.decode.specs.Decode.{requestOf}
@@ -38,34 +38,34 @@ module _ (t : Table) (clock : ℕ) (s : List ℕ) (h : Header) where
   abbrev key : Key
   key = bytesIn s (keySpan h)
 
-  abbrev answer : Answer
-  answer = frameEffect t clock s h
+  abbrev effect : Effect
+  effect = frameEffect t clock s h
 
   abbrev mark : ℕ
-  mark = answer .head .mark .0
+  mark = effect .head .mark .0
 
   -- a document that a frame stores
   pub record Storing (d : Doc) : Type 0 where
     pub entry : EntryGood mark (record { key = key; doc = d })
-    pub head : answer .head ≡ marked (t .head) mark
+    pub head : effect .head ≡ marked (t .head) mark
     pub grows : t .head .mark .0 ≤ mark
     pub fits : mark < 2 ^ 64
     pub room : findRow (t .rows) key ≡ none → 0 < freeRows (t .rows)
 
   -- a frame stores nothing and keeps the head, or what it stores is as above
   pub record Changing : Type 0 where
-    pub keeps : answer .store ≡ none → answer .head ≡ t .head
-    pub stores : (d : Doc) → answer .store ≡ some d → Storing d
+    pub keeps : effect .store ≡ none → effect .head ≡ t .head
+    pub stores : (d : Doc) → effect .store ≡ some d → Storing d
 
   refused : reachesDecision (frameStatus s h) ≡ false → Changing
   unfolding frameEffect decisionOn
   refused f = record { keeps = λ e. rw f; stores = λ d e. none-some d (rw f at e) }
 
   module _ (g : Good t) (y : Bytes s) (whole : 24 + h .body ≤ length s) (o : reachesDecision (frameStatus s h) ≡ true) where
-    abbrev decided : Answer
+    abbrev decided : Effect
     decided = decide (t .head) (findRow (t .rows) key) (ltb 0 (freeRows (t .rows))) clock (requestOf s h)
 
-    is-decided : decided ≡ answer
+    is-decided : decided ≡ effect
     unfolding frameEffect decisionOn decide
     is-decided = rw o
 
@@ -89,7 +89,7 @@ module _ (t : Table) (clock : ℕ) (s : List ℕ) (h : Header) where
     kept = decide-keeps (t .head) (findRow (t .rows) key) (ltb 0 (freeRows (t .rows))) clock (requestOf s h) (h .keylen) (command-right s y h o .1)
 
     -- the same, of the decision
-    abbrev At : Answer → Type 0
+    abbrev At : Effect → Type 0
     At x =
         (x .store ≡ none → x .head ≡ t .head)
         × ((d : Doc) → x .store ≡ some d
@@ -122,7 +122,7 @@ module _ (t : Table) (clock : ℕ) (s : List ℕ) (h : Header) where
 
     went : Changing
     went =
-        let p : At answer = subst At is-decided at-decided in
+        let p : At effect = subst At is-decided at-decided in
         record {
           keeps = p .0;
           stores = λ d e. let q = p .1 d e in record { entry = q .0; head = q .1 .0; grows = q .1 .1 .0; fits = q .1 .1 .1 .0; room = q .1 .1 .1 .1 };

@@ -123,9 +123,3 @@ pub fn purge(b: &mut [u8], clock: u32, bound: Cas) -> usize
 {
     plain_writer::purge(b, clock, bound)
 }
-
-// Writes a listing's value from byte 24 on and answers its length. Nothing where the room is under 1,302 bytes or the rows are over
-// 256.
-pub fn put_keys(b: &[u8], clock: u32, start: &[u8], count: u32, out: &mut [u8]) -> usize {
-    plain_listing::put_keys(b, clock, start, count, out)
-}
