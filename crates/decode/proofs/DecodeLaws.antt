@@ -17,8 +17,9 @@ use Rattle.shape.specs.Shapes.{commands, shapeOf}
 use Rattle.shape.proofs.ShapeLaws.{each-shape}
 use Rattle.shape.specs.declared.Shape.{Shape}
 use Rattle.header.specs.declared.Header.{Header}
-use Rattle.rules.specs.WithMeta.{withMeta}
-use Rattle.rules.specs.Rules.{withMetaOk, metaSize, countOf, countOk, metaStatus, fieldStatus}
+use Rattle.with_meta.specs.WithMeta.{withMeta}
+use Rattle.with_meta.specs.FieldRules.{withMetaOk}
+use Rattle.rules.specs.Rules.{metaSize, countOf, countOk, metaStatus, fieldStatus}
 use Rattle.rules.proofs.RuleLaws.{field-count, field-meta, field-plain}
 use Rattle.request.specs.Reading.{extrasSpan, valueSpan, bytesIn}
 use Rattle.commands.specs.declared.Instruction.{Instruction}

@@ -11,9 +11,10 @@ use Rattle.shape.specs.declared.Shape.{Shape}
 use Rattle.shape.specs.declared.Operation.{Operation}
 use Rattle.shape.specs.declared.Operation.the-variants as Operations
 use Rattle.header.specs.declared.Header.{Header}
-use Rattle.rules.specs.WithMeta.{withMeta}
-use Rattle.rules.specs.declared.WithMeta.{WithMeta}
-use Rattle.rules.specs.Rules.{withMetaOk, metaSize, countOf}
+use Rattle.with_meta.specs.WithMeta.{withMeta}
+use Rattle.with_meta.specs.declared.WithMeta.{WithMeta}
+use Rattle.with_meta.specs.FieldRules.{withMetaOk}
+use Rattle.rules.specs.Rules.{metaSize, countOf}
 use Rattle.request.specs.Reading.{extrasSpan, keySpan, valueSpan, bytesIn}
 use Rattle.commands.specs.declared.Kind.{Kind}
 use Rattle.commands.specs.declared.Kind.the-variants.{Set, Add, Replace}

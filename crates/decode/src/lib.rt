@@ -9,9 +9,9 @@ use commands::Meta;
 use commands::MetaKind;
 use commands::Plain;
 use header::Header;
-use rules::WithMeta;
 use shape::Operation;
 use shape::Shape;
+use with_meta::WithMeta;
 
 fn plain_of(kind: Kind, extras: &[u8]) -> Command
     ensures { λ r. ⌜ r ≡ plainOf kind (now (extras .entry)) ⌝ }
@@ -119,8 +119,8 @@ fn list_decoded(shape: Shape, h: Header, extras: &[u8], size: usize) -> Decoded
 fn meta_decoded(shape: Shape, h: Header, kind: MetaKind, extras: &[u8], value: &[u8]) -> Decoded
     ensures { λ r. ⌜ r ≡ metaDecoded shape h kind (now (extras .entry)) (now (value .entry)) ⌝ }
 {
-    let w = rules::with_meta(extras);
-    if !rules::with_meta_ok(shape.meta, w, value) {
+    let w = with_meta::read(extras);
+    if !with_meta::with_meta_ok(shape.meta, w, value) {
         return Decoded::Broken;
     }
     Decoded::Whole(instruction_with(

@@ -17,7 +17,7 @@ use Rattle.document.specs.declared.Stored.the-variants.{Nothing}
 use Rattle.header.specs.declared.Header.{Header}
 use Rattle.header.specs.Header.{headerOf}
 use Rattle.shape.specs.Shapes.{among}
-use Rattle.rules.specs.WithMeta.{withMeta}
+use Rattle.with_meta.specs.WithMeta.{withMeta}
 use Rattle.request.specs.declared.Gate.{Gate}
 use Rattle.request.specs.declared.Gate.the-variants.{Stop, Whole}
 use Rattle.request.specs.Reading.{frameStatus}

@@ -10,7 +10,7 @@ use Rattle.octets.specs.BigEndian.{num}
 use Rattle.octets.proofs.Choices.{cases, neither}
 use Rattle.shape.specs.declared.Shape.{Shape}
 use Rattle.shape.specs.Shapes.{commands, unbuilt, among, shapeBy, lookUp, shapeOf, Command as Known}
-use Rattle.rules.specs.WithMeta.{withMeta}
+use Rattle.with_meta.specs.WithMeta.{withMeta}
 use Rattle.commands.specs.declared.MetaKind.{MetaKind}
 use Rattle.commands.specs.declared.MetaKind.the-variants.{Set as SetMeta, Add as AddMeta, Delete as DeleteMeta}
 use Rattle.commands.specs.declared.Command.{Command}

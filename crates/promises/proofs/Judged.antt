@@ -9,9 +9,10 @@ use Rattle.numbers.specs.Expiry.{expired, passes, absolute}
 use Rattle.document.specs.Stored.{accepted, live}
 use Rattle.shape.specs.Shapes.{commands, unbuilt, lookUp, among, shapeOf}
 use Rattle.header.specs.Header.{headerOf, frontBytes, middleBytes, backBytes, headerBytes}
-use Rattle.rules.specs.WithMeta.{carriedNumbers, optionsOf, sectionOf, withMeta}
-use Rattle.rules.specs.Section.{fieldOk, fieldSize, walk, fieldsOk, sectionOk}
-use Rattle.rules.specs.Rules.{formOk, numbersOk, bodyOk, withMetaOk, metaSize, fieldRulesOk, judged, status}
+use Rattle.with_meta.specs.WithMeta.{carriedNumbers, optionsOf, sectionOf, withMeta}
+use Rattle.with_meta.specs.Section.{fieldOk, fieldSize, walk, fieldsOk, sectionOk}
+use Rattle.with_meta.specs.FieldRules.{numbersOk, bodyOk, withMetaOk}
+use Rattle.rules.specs.Rules.{formOk, metaSize, fieldRulesOk, judged, status}
 use Rattle.request.specs.Reading.{gateOf, extrasSpan, keySpan, valueSpan, frameStatus}
 use Rattle.commands.specs.Rules.{ruleOf, testsOf, firstStatus, firstFailure}
 use Rattle.effects.specs.Done.{doneOf}

@@ -15,8 +15,8 @@ use Rattle.shape.specs.declared.Shape.{Shape}
 use Rattle.shape.specs.Shapes.{among, shapeOf}
 use Rattle.header.specs.declared.Header.{Header}
 use Rattle.header.specs.Header.{headerOf}
-use Rattle.rules.specs.declared.WithMeta.{WithMeta}
-use Rattle.rules.specs.WithMeta.{withMeta}
+use Rattle.with_meta.specs.declared.WithMeta.{WithMeta}
+use Rattle.with_meta.specs.WithMeta.{withMeta}
 use Rattle.rules.specs.Rules.{formOk, fieldRulesOk, metaSize, judged, status}
 use Rattle.rules.proofs.RuleLaws.{parts-inside}
 use Rattle.request.proofs.Gated.{whole-frame}

@@ -20,8 +20,8 @@ use Rattle.engine.specs.Engine.{isSome}
 use Rattle.document.specs.Stored.{accepted}
 use Rattle.shape.specs.Shapes.{among, shapeOf}
 use Rattle.header.specs.Header.{headerOf}
-use Rattle.rules.specs.WithMeta.{withMeta}
-use Rattle.rules.specs.Section.{sectionOk}
+use Rattle.with_meta.specs.WithMeta.{withMeta}
+use Rattle.with_meta.specs.Section.{sectionOk}
 use Rattle.rules.specs.Rules.{status}
 use Rattle.request.specs.declared.Gate.{Gate}
 use Rattle.request.specs.declared.Gate.the-variants.{Whole}

@@ -15,7 +15,7 @@ use Rattle.numbers.specs.Order.{greater}
 use Rattle.document.specs.Documents.{Key, Doc}
 use Rattle.shape.specs.Shapes.{among}
 use Rattle.header.specs.Header.{headerOf}
-use Rattle.rules.specs.WithMeta.{withMeta}
+use Rattle.with_meta.specs.WithMeta.{withMeta}
 use Rattle.request.specs.declared.Gate.the-variants.{Whole}
 use Rattle.request.specs.Reading.{gateOf, bytesIn, extrasSpan, keySpan}
 use Rattle.commands.specs.Rules.{Check}

@@ -14,7 +14,7 @@ use Rattle.engine.specs.Engine.{isSome}
 use Rattle.document.specs.Head.{marked}
 use Rattle.shape.specs.Shapes.{among}
 use Rattle.header.specs.Header.{headerOf}
-use Rattle.rules.specs.WithMeta.{withMeta}
+use Rattle.with_meta.specs.WithMeta.{withMeta}
 use Rattle.request.specs.declared.Gate.the-variants.{Whole}
 use Rattle.request.specs.Reading.{gateOf, frameStatus, extrasSpan, bytesIn}
 use Rattle.decision.specs.Merging.{writeOf}

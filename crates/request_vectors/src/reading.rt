@@ -35,7 +35,7 @@ fn show_again(received: &[u8], f: Frame) {
 fn show_accepted(received: &[u8], f: Frame) {
     show::frame(f);
     if is_with_meta(f.fields.opcode) {
-        show::with_meta(rules::with_meta(parts::extras(received)));
+        show::with_meta(with_meta::read(parts::extras(received)));
     }
     show_again(received, f);
 }

@@ -3,7 +3,7 @@ use numbers::Numbers;
 use request::Fields;
 use request::Frame;
 use request::Span;
-use rules::WithMeta;
+use with_meta::WithMeta;
 
 pub(crate) fn text(s: &[u8]) {
     io::write_all(1, s);

@@ -14,7 +14,7 @@ use Rattle.shape.specs.Shapes.{shapeOf}
 use Rattle.shape.proofs.ShapeLaws.{any-shape}
 use Rattle.shape.specs.declared.Shape.{Shape}
 use Rattle.header.specs.declared.Header.{Header}
-use Rattle.rules.specs.WithMeta.{withMeta}
+use Rattle.with_meta.specs.WithMeta.{withMeta}
 use Rattle.rules.specs.Rules.{extrasOk, keyOk, formOk, countOk, metaSize, fieldRulesOk, formStatus, metaStatus, fieldStatus, judged, status}
 
 -- no opcode has the status 0x03 whatever follows it

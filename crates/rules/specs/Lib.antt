@@ -1,3 +1,1 @@
-pub mod Section
-pub mod WithMeta
 pub mod Rules

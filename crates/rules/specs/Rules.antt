@@ -1,8 +1,8 @@
 -- Statuses 1 to 3 of document 01, "first that applies", save the rules that need mode or clock.
-use Prim.Native.Nat.{ℕ, _+_, _-_, _/_, _%_}
+use Prim.Native.Nat.{ℕ, _+_, _-_}
 use mathlib.Core.List.{List}
 use mathlib.Core.Bool.{Bool, true, not, _&&_, _||_, cond}
-use lib.ListN.{length, drop}
+use lib.ListN.{length}
 use lib.Dec.{ltb, leb, eqb}
 use Rattle.octets.specs.BigEndian.{num}
 use Rattle.shape.specs.Shapes.{shapeOf}
@@ -10,9 +10,9 @@ use Rattle.shape.specs.declared.Shape.{Shape}
 use Rattle.shape.specs.declared.Extras.{Extras}
 use Rattle.shape.specs.declared.Extras.the-variants.{Nothing, FlagsExpiry, Counter, Meta, Count}
 use Rattle.header.specs.declared.Header.{Header}
-use Rattle.rules.specs.declared.WithMeta.{WithMeta}
-use Rattle.rules.specs.WithMeta.{withMeta, sectionOf}
-use Rattle.rules.specs.Section.{sectionOk}
+use Rattle.with_meta.specs.declared.WithMeta.{WithMeta}
+use Rattle.with_meta.specs.WithMeta.{withMeta, sectionOf}
+use Rattle.with_meta.specs.FieldRules.{withMetaOk}
 
 -- "wrong extras size": the sizes that each class may have
 abbrev pub extrasOk : Extras → ℕ → Bool
@@ -46,34 +46,6 @@ countOk FlagsExpiry extras = true
 countOk Counter extras = true
 countOk Meta extras = true
 countOk Count extras = not (eqb (countOf extras) 0)
-
--- the largest CAS and revision that a request carries
-abbrev pub largestNumber : ℕ
-largestNumber = 0xfffffffeffffffff
-
--- "CAS outside 1 to 0xfffffffeffffffff; revision over that; option bits other than 0x0f; 0x04 without 0x08"
-unfoldable pub numbersOk : WithMeta → Bool
-numbersOk w =
-    leb 1 (w .numbers .cas .0)
-    && (leb (w .numbers .cas .0) largestNumber
-    && (leb (w .numbers .revision .0) largestNumber
-    && (leb (w .options) 0x0f
-    && (eqb (w .options / 4 % 2) 0 || eqb (w .options / 8 % 2) 1))))
-
--- "for Set and Add, no value byte before the extended meta; for Delete, such a byte, or flags or expiry not 0", n being the bytes before it
-unfoldable pub bodyOk : ℕ → WithMeta → ℕ → Bool
-bodyOk meta w n =
-    (eqb meta 1 && leb 1 n)
-    || (eqb meta 2 && (eqb n 0 && (eqb (w .numbers .flags) 0 && eqb (w .numbers .expiry) 0)))
-
--- the field rules of a with-meta request, meta being its shape's; "a section longer than what follows the key"
-unfoldable pub withMetaOk : ℕ → WithMeta → List ℕ → Bool
-unfolding numbersOk bodyOk
-withMetaOk meta w value =
-    leb (w .section) (length value)
-    && (numbersOk w
-    && (bodyOk meta w (length value - w .section)
-    && sectionOk (drop (length value - w .section) value)))
 
 -- how many bytes of extended meta end the value
 unfoldable pub metaSize : Shape → List ℕ → ℕ

@@ -16,9 +16,10 @@ use Rattle.shape.specs.declared.Shape.{Shape}
 use Rattle.shape.specs.Shapes.{commands, shapeOf}
 use Rattle.shape.proofs.ShapeLaws.{each-shape, any-shape}
 use Rattle.header.specs.declared.Header.{Header}
-use Rattle.rules.specs.declared.WithMeta.{WithMeta}
-use Rattle.rules.specs.WithMeta.{withMeta, carriedNumbers}
-use Rattle.rules.specs.Rules.{formOk, extrasOk, keyOk, countOk, numbersOk, bodyOk, withMetaOk, fieldRulesOk, judged, status}
+use Rattle.with_meta.specs.declared.WithMeta.{WithMeta}
+use Rattle.with_meta.specs.WithMeta.{withMeta, carriedNumbers}
+use Rattle.with_meta.specs.FieldRules.{numbersOk, bodyOk, withMetaOk}
+use Rattle.rules.specs.Rules.{formOk, extrasOk, keyOk, countOk, fieldRulesOk, judged, status}
 use Rattle.rules.proofs.RuleLaws.{formed}
 use Rattle.request.specs.Reading.{extrasSpan, valueSpan, bytesIn, frameStatus}
 use Rattle.commands.specs.declared.Kind.{Kind}

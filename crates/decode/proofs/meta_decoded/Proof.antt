@@ -5,15 +5,15 @@ use Rattle.decode.specs.Decode.{metaDecoded}
 use Rattle.decode.proofs.meta_decoded.Statement.{statement}
 use Rattle.decode.proofs.meta_decoded.Tie as tie
 
-with-meta-requires : tie.Need-with-meta-requires
-with-meta-requires c κs = search needs
+read-requires : tie.Need-read-requires
+read-requires c κs = search needs
 
 with-meta-ok-requires : tie.Need-with-meta-ok-requires
 with-meta-ok-requires c κs = search needs
 
 returns : tie.Need-returns
 unfolding metaDecoded
-returns c = simp (← c .before .before .with-meta .ensures, sym (c .before .with-meta-ok .ensures) ∙ not-true _ (c .if1 .taken))
+returns c = simp (← c .before .before .read .ensures, sym (c .before .with-meta-ok .ensures) ∙ not-true _ (c .if1 .taken))
 
 meta-of-requires : tie.Need-meta-of-requires
 meta-of-requires c κs = search needs
@@ -32,7 +32,7 @@ unfolding metaDecoded
 returns-2 c =
     let p = c .before .before .before .before in
     simp (
-      ← p .before .before .with-meta .ensures,
+      ← p .before .before .read .ensures,
       sym (p .before .with-meta-ok .ensures) ∙ not-false _ (p .if1 .left),
       c .instruction-with .ensures,
       c .before .before .before .meta-of .ensures,
@@ -43,7 +43,7 @@ pub meta-decoded-spec : {M : Type 1} → statement M
 meta-decoded-spec =
     tie.close
     (tie.spec
-    with-meta-requires
+    read-requires
     with-meta-ok-requires
     returns
     meta-of-requires

@@ -3,15 +3,15 @@ use borrow.Author.Needs.{needs}
 use Rattle.rules.proofs.meta_status.Statement.{statement}
 use Rattle.rules.proofs.meta_status.Tie as tie
 
-with-meta-requires : tie.Need-with-meta-requires
-with-meta-requires c κs = tt
+read-requires : tie.Need-read-requires
+read-requires c κs = tt
 
 with-meta-ok-requires : tie.Need-with-meta-ok-requires
 with-meta-ok-requires c κs = tt
 
 returns : tie.Need-returns
 unfolding metaStatus
-returns c = simp (← c .before .before .with-meta .ensures, ← c .before .with-meta-ok .ensures, c .if1 .taken)
+returns c = simp (← c .before .before .read .ensures, ← c .before .with-meta-ok .ensures, c .if1 .taken)
 
 cast-too-large : tie.Need-cast-too-large
 cast-too-large c = search needs
@@ -25,7 +25,7 @@ returns-2 c =
     let p3 = c .before .before .before in
     let p4 = p3 .before in
     let p5 = p4 .before in
-    simp (← p5 .with-meta .ensures, ← p4 .with-meta-ok .ensures, p3 .if1 .left, ← c .before .too-large .ensures, c .if2 .taken)
+    simp (← p5 .read .ensures, ← p4 .with-meta-ok .ensures, p3 .if1 .left, ← c .before .too-large .ensures, c .if2 .taken)
 
 returns-3 : tie.Need-returns-3
 unfolding metaStatus
@@ -33,13 +33,13 @@ returns-3 c =
     let p3 = c .before .before .before in
     let p4 = p3 .before in
     let p5 = p4 .before in
-    simp (← p5 .with-meta .ensures, ← p4 .with-meta-ok .ensures, p3 .if1 .left, ← c .before .too-large .ensures, c .if2 .left)
+    simp (← p5 .read .ensures, ← p4 .with-meta-ok .ensures, p3 .if1 .left, ← c .before .too-large .ensures, c .if2 .left)
 
 pub meta-status-spec : {M : Type 1} → statement M
 meta-status-spec =
     tie.close
     (tie.spec
-    with-meta-requires
+    read-requires
     with-meta-ok-requires
     returns
     cast-too-large

@@ -1,4 +1,4 @@
--- `rules::fields_ok` meets its contract. The loop's invariant: the fields from the place on are right exactly if all are.
+-- `with_meta::fields_ok` meets its contract. The loop's invariant: the fields from the place on are right exactly if all are.
 use mathlib.Core.Path.{_≡_, refl, sym, ap, _∙_}
 use mathlib.Core.Bool.{true, false}
 use Prim.Native.Nat.{ℕ, _+_, _-_, _≤_}
@@ -8,10 +8,10 @@ use borrow.Author.Tests.{not-true, not-false}
 use denote.Ref.{now}
 use lib.ListN.{length, drop, length-drop, drop-of-length-le}
 use lib.Seq.{drop-drop}
-use Rattle.rules.specs.Section.{fieldOk, fieldSize, fieldsOk}
-use Rattle.rules.proofs.SectionLaws.{fields-end, fields-next, fields-stop, field-inside}
-use Rattle.rules.proofs.fields_ok.Statement.{statement}
-use Rattle.rules.proofs.fields_ok.Tie as tie
+use Rattle.with_meta.specs.Section.{fieldOk, fieldSize, fieldsOk}
+use Rattle.with_meta.proofs.SectionLaws.{fields-end, fields-next, fields-stop, field-inside}
+use Rattle.with_meta.proofs.fields_ok.Statement.{statement}
+use Rattle.with_meta.proofs.fields_ok.Tie as tie
 
 abbrev Inv-loop : tie.InvT-loop
 Inv-loop s at₀ at = (at ≤ length s) × (fieldsOk s ≡ fieldsOk (drop at s))

@@ -1,6 +1,6 @@
-use Rattle.rules.specs.Section.{sectionOk}
-use Rattle.rules.proofs.section_ok.Statement.{statement}
-use Rattle.rules.proofs.section_ok.Tie as tie
+use Rattle.with_meta.specs.Section.{sectionOk}
+use Rattle.with_meta.proofs.section_ok.Statement.{statement}
+use Rattle.with_meta.proofs.section_ok.Tie as tie
 
 rest-requires : tie.Need-rest-requires
 rest-requires c κs = tt

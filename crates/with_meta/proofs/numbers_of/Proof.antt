@@ -1,6 +1,6 @@
-use Rattle.rules.specs.WithMeta.{carriedNumbers}
-use Rattle.rules.proofs.numbers_of.Statement.{statement}
-use Rattle.rules.proofs.numbers_of.Tie as tie
+use Rattle.with_meta.specs.WithMeta.{carriedNumbers}
+use Rattle.with_meta.proofs.numbers_of.Statement.{statement}
+use Rattle.with_meta.proofs.numbers_of.Tie as tie
 
 be32-requires : tie.Need-be32-requires
 be32-requires c κs = tt

@@ -1,7 +1,7 @@
 use borrow.Author.Tests.{eq-eqb, ne-eqb}
-use Rattle.rules.specs.WithMeta.{sectionOf}
-use Rattle.rules.proofs.section_of.Statement.{statement}
-use Rattle.rules.proofs.section_of.Tie as tie
+use Rattle.with_meta.specs.WithMeta.{sectionOf}
+use Rattle.with_meta.proofs.section_of.Statement.{statement}
+use Rattle.with_meta.proofs.section_of.Tie as tie
 
 be16-requires : tie.Need-be16-requires
 be16-requires c κs = tt

@@ -1,8 +1,8 @@
 use borrow.Author.Tests.{le-leb, lt-leb}
-use Rattle.rules.specs.Rules.{withMetaOk}
+use Rattle.with_meta.specs.FieldRules.{withMetaOk}
 use borrow.Author.Needs.{needs}
-use Rattle.rules.proofs.with_meta_ok.Statement.{statement}
-use Rattle.rules.proofs.with_meta_ok.Tie as tie
+use Rattle.with_meta.proofs.with_meta_ok.Statement.{statement}
+use Rattle.with_meta.proofs.with_meta_ok.Tie as tie
 
 cast-section : tie.Need-cast-section
 cast-section c = search needs

@@ -1,6 +1,6 @@
-use Rattle.rules.specs.WithMeta.{withMeta}
-use Rattle.rules.proofs.with_meta.Statement.{statement}
-use Rattle.rules.proofs.with_meta.Tie as tie
+use Rattle.with_meta.specs.WithMeta.{withMeta}
+use Rattle.with_meta.proofs.read.Statement.{statement}
+use Rattle.with_meta.proofs.read.Tie as tie
 
 numbers-of-requires : tie.Need-numbers-of-requires
 numbers-of-requires c κs = tt
@@ -15,6 +15,6 @@ returns : tie.Need-returns
 unfolding withMeta
 returns c = simp ((c .before .before .numbers-of) .ensures, (c .before .options-of) .ensures, (c .section-of) .ensures)
 
-pub with-meta-spec : {M : Type 1} → statement M
-with-meta-spec =
+pub read-spec : {M : Type 1} → statement M
+read-spec =
     tie.close (tie.spec numbers-of-requires options-of-requires section-of-requires returns)

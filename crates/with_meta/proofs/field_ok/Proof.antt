@@ -1,8 +1,8 @@
 use borrow.Author.Tests.{le-leb, lt-leb}
-use Rattle.rules.specs.Section.{fieldOk}
+use Rattle.with_meta.specs.Section.{fieldOk}
 use borrow.Author.Needs.{needs}
-use Rattle.rules.proofs.field_ok.Statement.{statement}
-use Rattle.rules.proofs.field_ok.Tie as tie
+use Rattle.with_meta.proofs.field_ok.Statement.{statement}
+use Rattle.with_meta.proofs.field_ok.Tie as tie
 
 returns : tie.Need-returns
 unfolding fieldOk

@@ -6,7 +6,7 @@ use lib.ListN.{length}
 use lib.Dec.{eqb, leb}
 use Rattle.octets.specs.BigEndian.{num}
 use Rattle.numbers.specs.declared.Numbers.{Numbers}
-use Rattle.rules.specs.declared.WithMeta.{WithMeta}
+use Rattle.with_meta.specs.declared.WithMeta.{WithMeta}
 
 unfoldable pub carriedNumbers : List ℕ → Numbers
 carriedNumbers extras = record {

@@ -1,7 +1,7 @@
 use borrow.Author.Tests.{le-leb, lt-leb}
-use Rattle.rules.specs.WithMeta.{optionsOf}
-use Rattle.rules.proofs.options_of.Statement.{statement}
-use Rattle.rules.proofs.options_of.Tie as tie
+use Rattle.with_meta.specs.WithMeta.{optionsOf}
+use Rattle.with_meta.proofs.options_of.Statement.{statement}
+use Rattle.with_meta.proofs.options_of.Tie as tie
 
 be32-requires : tie.Need-be32-requires
 be32-requires c κs = tt

@@ -9,7 +9,7 @@ use lib.Dec.{leb, eqb}
 use borrow.Author.Tests.{ne-eqb, eqb-false, leb-true}
 use Rattle.octets.specs.BigEndian.{num}
 use Rattle.octets.proofs.Choices.{cases, both}
-use Rattle.rules.specs.Section.{fieldOk, fieldSize, walk, fieldsOk}
+use Rattle.with_meta.specs.Section.{fieldOk, fieldSize, walk, fieldsOk}
 
 size-least : (l : List ℕ) → 1 ≤ fieldSize l
 unfolding fieldSize

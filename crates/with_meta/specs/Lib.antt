@@ -1,0 +1,3 @@
+pub mod WithMeta
+pub mod Section
+pub mod FieldRules
