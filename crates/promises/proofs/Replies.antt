@@ -36,7 +36,7 @@ use Rattle.decode.specs.Decode.{plainOf, counterOf, metaCommand, commandOf, req
 use Rattle.rows.specs.Table.{Table, tableOf}
 use Rattle.rows.specs.Find.{findRow}
 use Rattle.serving.specs.declared.Served.the-variants.{Done}
-use Rattle.serving.specs.Reply.{replyHeader, replyBytes}
+use Rattle.serving.specs.Reply.{shownBy, replyHeader, replyBytes}
 use Rattle.serving.specs.Serve.{reachesDecision, contextOn, decisionOn, frameEffect, frameReply, answerBy, replyBy, gateAll, served, servedReply}
 use Rattle.serving.proofs.Formed.{by-cond, no}
 use Rattle.serving.proofs.Gated.{was-open}
@@ -88,7 +88,7 @@ module _ (c : Context) (extras : List ℕ) (op st : ℕ) (z : eqb st 0 ≡ false
 
   others : Each Speaks op (drop 2 commands)
   unfolding commands ruleOf commandOf plainOf counterOf metaCommand
-  others = (speaks, (speaks, (speaks, (speaks, (speaks, (speaks, (speaks, (speaks, (speaks, (speaks, (speaks, tt)))))))))))
+  others = (speaks, (speaks, (speaks, (speaks, (speaks, (speaks, (speaks, (speaks, (speaks, (speaks, (speaks, (speaks, tt))))))))))))
 
   silent-is : silentBy (shapeOf op) ≡ silentMiss op st
   unfolding shapeOf lookUp commands among unbuilt ruleOf commandOf
@@ -169,9 +169,9 @@ module _ (b : List ℕ) (clock : ℕ) (s : List ℕ) where
   frame-status y l n =
       let h = headerOf s in
       let key = bytesIn s (keySpan h) in
-      let old = docValue (findRow (tableOf b .rows) key) in
-      ap (λ (d : Decision). replyBytes (h .opcode) (h .opaque) d key old) (decides-alone (tableOf b) clock s h n)
-      ∙ alone-reply s (tableOf b .head) (decisionOn (tableOf b) clock s h .status) key old y l
+      let shown : Decision → List ℕ = λ d. shownBy (d .done .reply) (tableOf b .rows) clock key in
+      ap (λ (d : Decision). replyBytes (h .opcode) (h .opaque) d key (shown d)) (decides-alone (tableOf b) clock s h n)
+      ∙ alone-reply s (tableOf b .head) (decisionOn (tableOf b) clock s h .status) key (docValue (findRow (tableOf b .rows) key)) y l
 
 status-by : (b : List ℕ) (clock : ℕ) (s out : List ℕ) (st used len : ℕ) (g : Gate) → gateAll b (length out) s ≡ g → Bytes s → answerBy b clock s g ≡ Done st used len → (st ≡ 0 → ⊥)
     → (len ≡ length (statusReply st s)) × (replyBy b clock s out g ≡ statusReply st s ++ drop len out)
