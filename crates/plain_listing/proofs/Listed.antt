@@ -78,8 +78,8 @@ module _ (clock : ℕ) (start : Key) where
         let m : n - i + 1 ≡ n - (i - 1) = omega arith in
         let a : at + 1312 ≡ 16 + i * 1312 = omega arith in
         let rows : rowsOf (n - (i - 1)) (drop at b) ≡ rowOf (rowAt b (i - 1)) ∷ rowsOf (n - i) (drop (16 + i * 1312) b) =
-            sym (ap (λ (x : ℕ). rowsOf x (drop at b)) m) ∙ first-row b at (n - i)
-            ∙ (λ j. rowOf (sym (row-there b (i - 1) (omega arith)) j) ∷ rowsOf (n - i) (drop (a j) b)) in
+        sym (ap (λ (x : ℕ). rowsOf x (drop at b)) m) ∙ first-row b at (n - i)
+        ∙ (λ j. rowOf (sym (row-there b (i - 1) (omega arith)) j) ∷ rowsOf (n - i) (drop (a j) b)) in
         with-row (rowOf (rowAt b (i - 1))) (rowsOf (n - i) (drop (16 + i * 1312) b)) ∙ ap (λ (ws : List Row). sortKeys (keysListed clock start ws)) (sym rows)
 
     pub sorted-all : n ≡ rowCount b → sortedFrom 0 ≡ sortKeys (keysListed clock start (tableOf b .rows))

@@ -1,7 +1,7 @@
 -- Keys written one after the other, as many as the count and the room let.
 use native.Mathlib.Omega.{arith}
 use mathlib.Core.Path.{_≡_, refl, sym, ap, _∙_}
-use mathlib.Core.Bool.{Bool, true, false, _&&_, _||_, cond}
+use mathlib.Core.Bool.{Bool, true, false, _&&_, _||_}
 use mathlib.Core.List.{List, [], _∷_, _++_}
 use Prim.Native.Nat.{ℕ, _+_, _-_, _≤_}
 use lib.Dec.{eqb, ltb, leb}
@@ -9,7 +9,7 @@ use lib.ListN.{length, length-append}
 use borrow.Author.Tests.{eqb-true, eqb-false, ltb-true, ltb-false, le-leb, lt-leb, leb-true, leb-false}
 use Rattle.octets.specs.Parts.{written}
 use Rattle.octets.specs.BigEndian.{bytesOf}
-use Rattle.octets.proofs.Choices.{cases, both, either, neither}
+use Rattle.octets.proofs.Choices.{cases, both, neither}
 use Rattle.octets.proofs.Lists.{written-fits, written-not, length-written, pasted-none, then-two}
 use Rattle.octets.proofs.Numbers.{length-bytes}
 use Rattle.document.specs.Documents.{Key}

@@ -15,7 +15,7 @@ abbrev μ-loop : tie.MeasureT-loop
 μ-loop order₀ first p place j₀ order j = p - j
 
 loop-holds : tie.Need-loop-holds Inv-loop μ-loop
-loop-holds c = 
+loop-holds c =
     let a = (c .args) in
     let q = (c .pre) in
     ((omega arith, omega (arith, q .1)), (refl, move-start (a .order .now) (a .first) (omega (arith, q .0)) (omega (arith, q .1))))
@@ -36,14 +36,16 @@ loop-less : tie.Need-loop-less Inv-loop μ-loop
 loop-less c = search needs
 
 loop-again : tie.Need-loop-again Inv-loop μ-loop
-loop-again c = 
+loop-again c =
     let a = (c .before .before .before .args) in
     let q = (c .before .before .before .pre) in
-    let l = (c .before .before .loop) in
-    ((omega arith, omega arith), (
-      length-set (l .order) (l .j - 1) (getD (l .order) (l .j) 0) ∙ l .inv .1 .0,
-      move-step (a .order .now) (a .first) (omega (arith, q .0)) (omega (arith, q .1)) (l .j) (l .inv .0 .0) (omega (arith, q .0)) (l .order) (omega (arith, q .0)) (l .inv .1 .1),
-    ))
+    let l = (c .before .before .loop) in (
+      (omega arith, omega arith),
+      (
+        length-set (l .order) (l .j - 1) (getD (l .order) (l .j) 0) ∙ l .inv .1 .0,
+        move-step (a .order .now) (a .first) (omega (arith, q .0)) (omega (arith, q .1)) (l .j) (l .inv .0 .0) (omega (arith, q .0)) (l .order) (omega (arith, q .0)) (l .inv .1 .1),
+      ),
+    )
 
 sub-order-2 : tie.Need-sub-order-2 Inv-loop μ-loop
 sub-order-2 c = search needs
@@ -55,7 +57,7 @@ same-length : tie.Need-same-length Inv-loop μ-loop
 same-length c = search needs
 
 returns : tie.Need-returns Inv-loop μ-loop
-returns c = 
+returns c =
     let a = (c .before .before .args) in
     let q = (c .before .before .pre) in
     let l = (c .before .loop) in

@@ -17,7 +17,7 @@ be16-requires : tie.Need-be16-requires
 be16-requires c κs = search needs
 
 returns : tie.Need-returns
-returns c = 
+returns c =
     let a = (c .before .before .before .before .args) in
     sym (listed-free (a .clock) (a .start .now) (a .r .now) (sym ((c .before .be16) .ensures) ∙ (c .if1) .taken))
 
@@ -28,7 +28,7 @@ live-requires : tie.Need-live-requires
 live-requires c κs = search needs
 
 returns-2 : tie.Need-returns-2
-returns-2 c = 
+returns-2 c =
     let a = (c .before .before .before .before .before .before .before .args) in
     sym (listed-dead (a .clock) (a .start .now) (a .r .now) (λ z. (c .before .before .before .if1) .left ((c .before .before .before .before .be16) .ensures ∙ z))
     (ap (λ (m : Metadata). live (Used m) (a .clock)) (sym ((c .before .before .metadata) .ensures)) ∙ sym ((c .before .live) .ensures) ∙ not-true _ ((c .if2) .taken)))
@@ -46,7 +46,7 @@ is-below-requires : tie.Need-is-below-requires
 is-below-requires c κs = search needs
 
 returns-3 : tie.Need-returns-3
-returns-3 c = 
+returns-3 c =
     let a = (c .before .before .before .before .before .before .before .before .before .before .args) in
     ap not ((c .is-below) .ensures) ∙ ap (λ (k : List ℕ). not (keyBelow k (a .start .now))) ((c .before .part) .ensures ∙ ap (part (a .r .now) 32) ((c .before .before .be162) .ensures))
     ∙ sym (listed-live (a .clock) (a .start .now) (a .r .now) (λ z. (c .before .before .before .before .before .before .if1) .left ((c .before .before .before .before .before .before .before .be16) .ensures ∙ z))

@@ -35,7 +35,7 @@ part-requires : tie.Need-part-requires
 part-requires c κs = search needs
 
 returns : tie.Need-returns
-returns c = 
+returns c =
     let a = (c .before .before .before .before .args) in
     let r = part (a .b .now) (16 + a .i * 1312) (16 + a .i * 1312 + 1312 - (16 + a .i * 1312)) in
     (c .part) .ensures ∙ ap (part r 32) ((c .before .be16) .ensures) ∙ key-cut (a .b .now) r (a .i) (c .before .before .before .before .pre) (row-cut (a .b .now) (16 + a .i * 1312))

@@ -5,11 +5,9 @@ use Rattle.listing.proofs.Sorting.{sort-order}
 use Rattle.listing.specs.Listing.{InOrder}
 use Rattle.rows.specs.Table.{rowCount, rowAt, rowsOf}
 use Rattle.rows.specs.Row.{rowOf}
-use Rattle.document.specs.Documents.{Key}
 use lib.ListN.{length, drop}
-use mathlib.Core.List.{List}
 use mathlib.Core.Path.{_≡_, refl, sym, ap, _∙_, subst}
-use Prim.Native.Nat.{ℕ, _+_, _-_, _*_, _≤_, _<_}
+use Prim.Native.Nat.{_+_, _-_, _*_, _≤_}
 use native.Mathlib.Omega.{arith}
 use borrow.Author.Needs.{needs}
 use Rattle.plain_listing.proofs.put_in_order.Statement.{statement}
@@ -24,18 +22,25 @@ abbrev μ-loop : tie.MeasureT-loop
 μ-loop b n clock start order₀ first₀ i₀ order first i = i
 
 loop-holds : tie.Need-loop-holds Inv-loop μ-loop
-loop-holds c = 
+loop-holds c =
     let a = (c .before .before .before .args) in
     let q = (c .before .before .before .pre) in
-    let b = a .b .now in
-    ((omega arith, (omega arith, omega arith)), (refl, (none-within (rowCount b) (a .order .now) 256 (omega (arith, q .1 .1)),
-    keys-none b (a .order .now) 256 (omega (arith, q .1 .1)) ∙ sym (sorted-none (a .clock) (a .start .now) b (a .n)))))
+    let b = a .b .now in (
+      (omega arith, (omega arith, omega arith)),
+      (
+        refl,
+        (
+          none-within (rowCount b) (a .order .now) 256 (omega (arith, q .1 .1)),
+          keys-none b (a .order .now) 256 (omega (arith, q .1 .1)) ∙ sym (sorted-none (a .clock) (a .start .now) b (a .n)),
+        ),
+      ),
+    )
 
 sub-i : tie.Need-sub-i Inv-loop μ-loop
 sub-i c = search needs
 
 put-row-requires : tie.Need-put-row-requires Inv-loop μ-loop
-put-row-requires c κs = 
+put-row-requires c κs =
     let a = (c .before .before .before .before .before .before .args) in
     let q = (c .before .before .before .before .before .before .pre) in
     let l = (c .before .before .loop) in
@@ -48,7 +53,7 @@ loop-less : tie.Need-loop-less Inv-loop μ-loop
 loop-less c = search needs
 
 loop-again : tie.Need-loop-again Inv-loop μ-loop
-loop-again c = 
+loop-again c =
     let a = (c .before .before .before .before .before .before .before .before .before .args) in
     let q = (c .before .before .before .before .before .before .before .before .before .pre) in
     let l = (c .before .before .before .before .before .loop) in
@@ -69,7 +74,7 @@ same-length : tie.Need-same-length Inv-loop μ-loop
 same-length c = search needs
 
 returns : tie.Need-returns Inv-loop μ-loop
-returns c = 
+returns c =
     let a = (c .before .before .before .before .before .args) in
     let q = (c .before .before .before .before .before .pre) in
     let l = (c .before .loop) in

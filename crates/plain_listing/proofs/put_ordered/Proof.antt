@@ -3,7 +3,7 @@ use native.Mathlib.Nat.{zero-add}
 use Rattle.plain_listing.proofs.Writing.{leftBytes, all-written, stops, has-left, has-room, length-more, long-more, written-more}
 use Rattle.plain_listing.proofs.Placing.{place-below, keys-step, keys-none}
 use Rattle.plain_listing.proofs.Listed.{key-short}
-use Rattle.plain_listing.specs.Places.{keyAt, keysOf}
+use Rattle.plain_listing.specs.Places.{keysOf}
 use Rattle.listing.specs.Listing.{taken, keysBytes}
 use Rattle.document.specs.Documents.{Key}
 use Rattle.rows.specs.Table.{rowCount}
@@ -11,7 +11,7 @@ use Rattle.octets.specs.Parts.{written}
 use lib.ListN.{length, getD}
 use mathlib.Core.List.{List, _∷_}
 use mathlib.Core.Path.{_≡_, refl, sym, ap, _∙_}
-use Prim.Native.Nat.{ℕ, _+_, _-_, _≤_, _<_}
+use Prim.Native.Nat.{ℕ, _+_, _-_, _≤_}
 use native.Mathlib.Omega.{arith}
 use borrow.Author.Needs.{needs}
 use Rattle.plain_listing.proofs.put_ordered.Statement.{statement}
@@ -27,7 +27,7 @@ abbrev μ-loop : tie.MeasureT-loop
 μ-loop b order first count out₀ size₀ left₀ j₀ out size left j = length order - j
 
 loop-holds : tie.Need-loop-holds Inv-loop μ-loop
-loop-holds c = 
+loop-holds c =
     ((omega arith, omega arith), (refl, (zero-add _, refl)))
 
 shared-slice-read-key-at : tie.Need-shared-slice-read-key-at Inv-loop μ-loop
@@ -37,7 +37,7 @@ cast-key-at : tie.Need-cast-key-at Inv-loop μ-loop
 cast-key-at c = omega (arith, (c .shared-slice-known3) .given ((c .before .before .loop) .j))
 
 key-at-requires : tie.Need-key-at-requires Inv-loop μ-loop
-key-at-requires c κs = 
+key-at-requires c κs =
     let a = (c .before .before .before .before .before .before .args) in
     let q = (c .before .before .before .before .before .before .pre) in
     let l = (c .before .before .loop) in
@@ -47,7 +47,7 @@ sub-if1 : tie.Need-sub-if1 Inv-loop μ-loop
 sub-if1 c = search needs
 
 add-if1 : tie.Need-add-if1 Inv-loop μ-loop
-add-if1 c = 
+add-if1 c =
     let a = c .before .before .before .before .before .before .before .args in
     let q = c .before .before .before .before .before .before .before .pre in
     let l = c .before .before .before .loop in
@@ -58,7 +58,7 @@ same-length : tie.Need-same-length Inv-loop μ-loop
 same-length c = (c .before .before .before .before .loop) .inv .1 .0
 
 returns : tie.Need-returns Inv-loop μ-loop
-returns c = 
+returns c =
     let a = (c .before .before .before .before .before .before .before .before .args) in
     let q = (c .before .before .before .before .before .before .before .before .pre) in
     let l = (c .before .before .before .before .loop) in
@@ -83,7 +83,7 @@ put-bytes-requires : tie.Need-put-bytes-requires Inv-loop μ-loop
 put-bytes-requires c κs = tt
 
 add-size : tie.Need-add-size Inv-loop μ-loop
-add-size c = 
+add-size c =
     let a = (c .before .before .before .before .before .before .before .before .before .before .before .before .before .before .before .before .args) in
     let q = (c .before .before .before .before .before .before .before .before .before .before .before .before .before .before .before .before .pre) in
     let l = (c .before .before .before .before .before .before .before .before .before .before .before .before .loop) in
@@ -91,14 +91,14 @@ add-size c =
     omega (arith, key-short (a .b .now) (getD (a .order .now) (l .j) 0) p, ap length ((c .before .before .before .before .before .before .before .before .before .key-at) .ensures))
 
 add-size-2 : tie.Need-add-size-2 Inv-loop μ-loop
-add-size-2 c = 
+add-size-2 c =
     let a = (c .before .before .before .before .before .before .before .before .before .before .before .before .before .before .before .before .args) in
     let q = (c .before .before .before .before .before .before .before .before .before .before .before .before .before .before .before .before .pre) in
     let l = (c .before .before .before .before .before .before .before .before .before .before .before .before .loop) in
     omega (arith, has-room (l .out) (l .size) (l .left) ((c .before .before .before .before .before .before .before .before .before .key-at) .result .now) (keysOf (a .b .now) (a .order .now) (l .j + 1)) (omega (arith, q .0, l .inv .1 .0)) (l .inv .0 .1) ((c .before .before .before .before .before .before .before .before .if1) .left))
 
 sub-left : tie.Need-sub-left Inv-loop μ-loop
-sub-left c = 
+sub-left c =
     let a = (c .before .before .before .before .before .before .before .before .before .before .before .before .before .before .before .before .args) in
     let q = (c .before .before .before .before .before .before .before .before .before .before .before .before .before .before .before .before .pre) in
     let l = (c .before .before .before .before .before .before .before .before .before .before .before .before .loop) in
@@ -111,7 +111,7 @@ loop-less : tie.Need-loop-less Inv-loop μ-loop
 loop-less c = falls (length ((c .before .before .before .before .before .before .before .before .before .before .before .before .before .before .before .before .args) .order .now)) ((c .before .before .before .before .before .before .before .before .before .before .before .before .loop) .j) ((c .before .before .before .before .before .before .before .before .before .before .before .loop-test) .taken)
 
 loop-again : tie.Need-loop-again Inv-loop μ-loop
-loop-again c = 
+loop-again c =
     let a = (c .before .before .before .before .before .before .before .before .before .before .before .before .before .before .before .before .args) in
     let q = (c .before .before .before .before .before .before .before .before .before .before .before .before .before .before .before .before .pre) in
     let l = (c .before .before .before .before .before .before .before .before .before .before .before .before .loop) in
@@ -139,7 +139,7 @@ same-length-2 : tie.Need-same-length-2 Inv-loop μ-loop
 same-length-2 c = search needs
 
 returns-2 : tie.Need-returns-2 Inv-loop μ-loop
-returns-2 c = 
+returns-2 c =
     let a = (c .before .before .before .before .before .args) in
     let q = (c .before .before .before .before .before .pre) in
     let l = (c .before .loop) in

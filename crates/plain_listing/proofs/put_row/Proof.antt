@@ -35,7 +35,7 @@ is-listed-requires : tie.Need-is-listed-requires
 is-listed-requires c κs = tt
 
 returns : tie.Need-returns
-returns c = 
+returns c =
     let a = (c .before .before .before .before .before .before .args) in
     let q = (c .before .before .before .before .before .before .pre) in
     let b = a .b .now in
@@ -62,7 +62,7 @@ same-length : tie.Need-same-length
 same-length c = search needs
 
 returns-2 : tie.Need-returns-2
-returns-2 c = 
+returns-2 c =
     let a = (c .before .before .before .before .before .before .before .before .before .before .before .before .before .args) in
     let q = (c .before .before .before .before .before .before .before .before .before .before .before .before .before .pre) in
     let b = a .b .now in
@@ -72,12 +72,17 @@ returns-2 c =
     let moved = (c .before .before .insert) .ensures .1 in
     let order′ = (c .before .before .insert) .last .0 in
     let cut = row-cut b (16 + a .i * 1312) ∙ sym (row-there b (a .i) (q .0 .0 .0)) in
-    let is = ap (λ (r : List ℕ). isListed (a .clock) (a .start .now) (rowOf r)) (sym cut) ∙ sym ((c .before .before .before .before .before .before .before .before .is-listed) .ensures) in
-    ((omega arith, omega arith), ((c .before .before .insert) .ensures .0, (
-      put-within b order (a .first) p (a .i) order′ low moved (rowCount b) (q .1 .0) (q .0 .0 .0),
-      put-placed b order (a .first) p (a .i) order′ low moved ((c .before .before .before .before .before .key-at) .result .now) ((c .before .before .before .before .before .key-at) .ensures) ((c .before .before .before .before .position) .ensures .1)
-          ∙ sym (with-one (a .clock) (a .start .now) b (a .i) (keysOf b order (a .first)) (is ∙ not-false _ ((c .before .before .before .before .before .before .before .if1) .left))),
-    )))
+    let is = ap (λ (r : List ℕ). isListed (a .clock) (a .start .now) (rowOf r)) (sym cut) ∙ sym ((c .before .before .before .before .before .before .before .before .is-listed) .ensures) in (
+      (omega arith, omega arith),
+      (
+        (c .before .before .insert) .ensures .0,
+        (
+          put-within b order (a .first) p (a .i) order′ low moved (rowCount b) (q .1 .0) (q .0 .0 .0),
+          put-placed b order (a .first) p (a .i) order′ low moved ((c .before .before .before .before .before .key-at) .result .now) ((c .before .before .before .before .before .key-at) .ensures) ((c .before .before .before .before .position) .ensures .1)
+              ∙ sym (with-one (a .clock) (a .start .now) b (a .i) (keysOf b order (a .first)) (is ∙ not-false _ ((c .before .before .before .before .before .before .before .if1) .left))),
+        ),
+      ),
+    )
 
 pub put-row-spec : {M : Type 1} → statement M
 put-row-spec =
