@@ -1,6 +1,5 @@
 -- For the code alone: places of rows put in key order, on any memory. What it writes on a table that is not damaged is the listing of its documents.
 use Prim.Native.Nat.{ℕ, _<_}
-use mathlib.Core.Path.{_≡_}
 use mathlib.Core.Bool.{Bool, false, not, _&&_, _||_, cond}
 use mathlib.Core.List.{List, [], _∷_, map}
 use mathlib.Core.Option.{none, some}
@@ -11,7 +10,7 @@ use Rattle.document.specs.Documents.{Key}
 use Rattle.document.specs.Stored.{storedOf, live}
 use Rattle.rows.specs.Row.{Row, keyOf}
 use Rattle.rows.specs.Table.{rowCount, rowAt, tableOf}
-use Rattle.listing.specs.Listing.{listing}
+use Rattle.listing.specs.Listing.{insertKey, listing}
 use Rattle.plain.specs.Plain.{plain}
 
 -- the key of the row at a place
@@ -27,15 +26,6 @@ abbrev pub Within : ℕ → List ℕ → Type 0
 Within n [] = Unit {0}
 Within n (i ∷ is) = (i < n) × Within n is
 
--- no key stands before one that comes before it
-abbrev pub NoneBelow : Key → List Key → Type 0
-NoneBelow k [] = Unit {0}
-NoneBelow k (x ∷ xs) = (keyBelow x k ≡ false) × NoneBelow k xs
-
-abbrev pub InOrder : List Key → Type 0
-InOrder [] = Unit {0}
-InOrder (x ∷ xs) = NoneBelow x xs × InOrder xs
-
 -- a row with a live document whose key is at or after the start key
 abbrev pub isListed : ℕ → Key → Row → Bool
 isListed clock start none = false
@@ -44,6 +34,10 @@ isListed clock start (some e) = live (storedOf (some (e .doc))) clock && not (ke
 abbrev pub rowKey : Row → Key
 rowKey none = []
 rowKey (some e) = e .key
+
+-- keys in order, and the key of a row among them where it is listed
+abbrev pub withKey : ℕ → Key → Row → List Key → List Key
+withKey clock start w ks = cond (isListed clock start w) (insertKey (rowKey w) ks) ks
 
 -- the keys of such rows, in the order of rows
 abbrev pub keysListed : ℕ → Key → List Row → List Key

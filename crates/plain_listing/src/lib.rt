@@ -2,14 +2,14 @@
 // far as they fit.
 ghost use mathlib.Core.Path.{_≡_};
 ghost use mathlib.Core.List.{_++_, _∷_};
-ghost use Prim.Native.Nat.{_-_, _≤_, _<_};
+ghost use Prim.Native.Nat.{_+_, _-_, _≤_, _<_};
 ghost use lib.ListN.{length, take, drop};
 ghost use Rattle.octets.specs.Parts.{written};
 ghost use Rattle.keys.specs.Keys.{keyBelow};
 ghost use Rattle.rows.specs.Row.{rowOf};
-ghost use Rattle.rows.specs.Table.{rowCount, tableOf};
-ghost use Rattle.listing.specs.Listing.{insertKey, sortKeys, taken, keysBytes};
-ghost use Rattle.plain_listing.specs.Places.{keyAt, keysOf, Within, InOrder, isListed, keysListed, fittingKeys};
+ghost use Rattle.rows.specs.Table.{rowCount, rowAt, tableOf};
+ghost use Rattle.listing.specs.Listing.{insertKey, sortKeys, InOrder, taken, keysBytes};
+ghost use Rattle.plain_listing.specs.Places.{keyAt, keysOf, Within, isListed, withKey, keysListed, fittingKeys};
 use document::Stored;
 use keys::Side;
 use listing::LIMIT;
@@ -97,6 +97,24 @@ fn insert(order: &mut [u8], first: usize, p: usize, place: u8)
     order[p - 1] = place;
 }
 
+// Puts the place of a row in key order where the row is listed, and answers where the places begin then.
+fn put_row(b: &[u8], i: usize, clock: u32, start: &[u8], order: &mut [u8], first: usize) -> usize
+    requires { ⌜ ((i < rowCount (now b)) × (i < 256)) × ((length (now order) ≡ 256) × ((1 ≤ first) × (first ≤ 256))) ⌝ }
+    requires { ⌜ Within (rowCount (now b)) (drop first (now order)) × InOrder (keysOf (now b) (now order) first) ⌝ }
+    ensures { λ r. ⌜ ((r ≤ first) × (first ≤ r + 1)) × ((length (now (order .exit)) ≡ 256)
+        × (Within (rowCount (now (b .entry))) (drop r (now (order .exit)))
+        × (keysOf (now (b .entry)) (now (order .exit)) r ≡ withKey clock (now (start .entry)) (rowOf (rowAt (now (b .entry)) i)) (keysOf (now (b .entry)) (now (order .entry)) first)))) ⌝ }
+{
+    let at = HEADER + i * ROW;
+    let end = at + ROW;
+    if !is_listed(&b[at..end], clock, start) {
+        return first;
+    }
+    let p = position(b, order, first, key_at(b, i));
+    insert(order, first, p, i as u8);
+    first - 1
+}
+
 // Puts the places of the rows that are listed in key order at the end of order, from the last row to the first.
 fn put_in_order(b: &[u8], n: usize, clock: u32, start: &[u8], order: &mut [u8]) -> usize
     requires { ⌜ (n ≡ rowCount (now b)) × ((n ≤ 256) × (length (now order) ≡ 256)) ⌝ }
@@ -108,13 +126,7 @@ fn put_in_order(b: &[u8], n: usize, clock: u32, start: &[u8], order: &mut [u8]) 
     let mut i = n;
     while 0 < i {
         i -= 1;
-        let at = HEADER + i * ROW;
-        let end = at + ROW;
-        if is_listed(&b[at..end], clock, start) {
-            let p = position(b, order, first, key_at(b, i));
-            insert(order, first, p, i as u8);
-            first -= 1;
-        }
+        first = put_row(b, i, clock, start, order, first);
     }
     first
 }
