@@ -15,10 +15,13 @@ ghost use Rattle.decision.specs.Decision.{decision};
 ghost use Rattle.decision.specs.Decide.{instructionOf};
 ghost use Rattle.decode.specs.Decode.{requestOf, bareValue};
 ghost use Rattle.plain.specs.Damage.{sound};
-ghost use Rattle.rows.specs.Table.{headOf};
+ghost use Rattle.document.specs.Documents.{docValue};
+ghost use Rattle.rows.specs.Table.{headOf, tableOf};
+ghost use Rattle.rows.specs.Find.{findRow};
 ghost use Rattle.table.specs.Calls.{hasPlace};
 ghost use Rattle.serving.specs.Serve.{reachesDecision};
 ghost use Rattle.serving.specs.Serves.{Serves, ServesFrame};
+ghost use Rattle.serve.specs.Answer.{ReplyWritten};
 ghost use Rattle.reply.specs.Fitting.{bareHeader};
 use commands::Context;
 use commands::Instruction;
@@ -58,36 +61,41 @@ fn decided(head: Head, clock: u32, l: Lookup, old: &[u8], ask: Instruction) -> D
 fn put_listing(
     b: &[u8],
     clock: u32,
-    out: &mut [u8],
     h: Header,
     d: Decision,
     start: &[u8],
     count: u32,
-) -> usize {
+    out: &mut [u8],
+) -> usize
+    requires { ⌜ (sound (now b) ≡ true) × ((1302 ≤ length (now out)) × (d .done .reply ≡ Reply.Keys count)) ⌝ }
+    ensures { λ r. ⌜ ReplyWritten (now (b .entry)) clock h d (now (start .entry)) (now (out .entry)) r (now (out .exit)) ⌝ }
+{
     if d.silent {
         return 0;
     }
     let n = table::put_keys(b, clock, start, count, out);
-    let done = d.done;
-    let cas = done.cas;
+    let cas = d.done.cas;
     reply::put_value_header(out, h.opcode, h.opaque, d.status, n as u32, cas);
     24 + n
 }
 
-// Writes a decision's reply and answers its length. old: the stored value.
+// Writes a decision's reply and answers its length. old: the value stored for the key.
 fn put_answer(
     b: &[u8],
     clock: u32,
-    out: &mut [u8],
     h: Header,
     d: Decision,
     key: &[u8],
     old: &[u8],
-) -> usize {
-    let done = d.done;
-    let reply = done.reply;
+    out: &mut [u8],
+) -> usize
+    requires { ⌜ (sound (now b) ≡ true) × (1302 ≤ length (now out)) ⌝ }
+    requires { ⌜ (length (now key) ≤ 250) × ((length (now old) ≤ 1024) × (now old ≡ docValue (findRow (tableOf (now b) .rows) (now key)))) ⌝ }
+    ensures { λ r. ⌜ ReplyWritten (now (b .entry)) clock h d (now (key .entry)) (now (out .entry)) r (now (out .exit)) ⌝ }
+{
+    let reply = d.done.reply;
     match reply {
-        Reply::Keys(count) => put_listing(b, clock, out, h, d, key, count),
+        Reply::Keys(count) => put_listing(b, clock, h, d, key, count, out),
         _ => reply::put_reply(out, h.opcode, h.opaque, d, key, old),
     }
 }
@@ -114,7 +122,7 @@ fn serve_formed(
     let size = ask.size;
     let old = octets::part(b, l.at, l.len);
     let d = decided(head, clock, l, old, ask);
-    let n = put_answer(b, clock, out, h, d, key, old);
+    let n = put_answer(b, clock, h, d, key, old, out);
     let done = d.done;
     change::change(b, l, key, done, octets::part(value, 0, size));
     let frame = header::layout_of(h);
