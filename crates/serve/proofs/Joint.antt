@@ -49,9 +49,9 @@ use Rattle.serving.specs.Reply.{replyBytes}
 use Rattle.serving.specs.Serve.{reachesDecision, decisionOn, frameEffect, frameTable, frameReply}
 use Rattle.serving.specs.Serves.{ServesFrame}
 use Rattle.serving.proofs.Change.{Storing, changing, unchanged, raised, raised-good, puts}
-use Rattle.reply.specs.Fitting.{bareHeader, fittingReply}
-use Rattle.reply.proofs.Replies.{fitting}
+use Rattle.reply.specs.Fitting.{bareHeader}
 use Rattle.reply.proofs.Frames.{bare-reply, refused-is, refused-reply, refused-length, key-short}
+use Rattle.serve.specs.Answer.{replyFrom, ReplyWritten}
 use Rattle.serve.specs.Change.{storedWith}
 
 -- ---- a frame whose status the reader gives: its reply is a bare header
@@ -126,6 +126,17 @@ changed-is b s clock h w y z inside sb none-if =
     ∙ puts t clock s h (good .1) d q .bytes
     ∙ ap (λ (o : Option Doc). tableBytes (record { head = x .head; rows = storeRow plain (t .rows) key o })) (sym e))
 
+-- the key of a frame that goes on, and the value stored for it
+pub shown-parts : (b s : List ℕ) (h : Header) → Bytes b → sound b ≡ true → reachesDecision (frameStatus s h) ≡ true → (k : List ℕ) (w : Bool) (l : Lookup) (old : List ℕ)
+    → k ≡ bytesIn s (keySpan h) → l ≡ lookupOf w b k → old ≡ part b (l .at) (l .len)
+    → (length k ≤ 250) × ((length old ≤ 1024) × (old ≡ docValue (findRow (tableOf b .rows) k)))
+shown-parts b s h y sb g k w l old ek el eo =
+    let f = finds-sound b k w y sb in
+    let e = eo ∙ ap (λ (x : Lookup). part b (x .at) (x .len)) el in (
+      omega (arith, ap length ek, key-short s h g),
+      (omega (arith, ap length e, part-most b (lookupOf w b k .at) (lookupOf w b k .len), f .short), e ∙ f .value),
+    )
+
 module _ (b s : List ℕ) (clock : ℕ) (h : Header) (y : Bytes b) (z : Bytes s) (sb : sound b ≡ true) (inside : 24 + h .body ≤ length s)
     (g : reachesDecision (frameStatus s h) ≡ true) (k : List ℕ) (w : Bool) (l : Lookup) (old : List ℕ) (hd : Head) (q : Instruction) (d : Decision)
     (ek : k ≡ bytesIn s (keySpan h)) (ew : w ≡ isMutation (q .command)) (el : l ≡ lookupOf w b k) (eo : old ≡ part b (l .at) (l .len)) (eh : hd ≡ headOf b)
@@ -178,22 +189,18 @@ module _ (b s : List ℕ) (clock : ℕ) (h : Header) (y : Bytes b) (z : Bytes s)
       sym (store-is v ev) ∙ no-doc (d .done .store) _ (ap (λ (x : Decision). x .done .store) decided-is
       ∙ stores-none (seeing (headOf b) (storedOf row) free clock (numberOf (docValue row))) q (sym ew ∙ e))
 
-  reply-is : replyBytes (h .opcode) (h .opaque) d k old ≡ frameReply b clock s h
+  reply-is : replyFrom b clock h d k ≡ frameReply b clock s h
   unfolding frameReply
-  reply-is = λ i. replyBytes (h .opcode) (h .opaque) (decision-is i) (ek i) (old-is i)
+  reply-is = λ i. replyFrom b clock h (decision-is i) (ek i)
 
   -- what answering and storing by the decision leaves
-  pub formed-by : (v : List ℕ) (r : Served) (n : ℕ) (b′ out out′ : List ℕ) → v ≡ bareValue s h → 1302 ≤ length out
-      → n ≡ length (fittingReply (length out) (h .opcode) (h .opaque) d k old) → r ≡ Done (d .status) (24 + h .body) n
-      → out′ ≡ written out 0 (fittingReply (length out) (h .opcode) (h .opaque) d k old)
+  pub formed-by : (v : List ℕ) (r : Served) (n : ℕ) (b′ out out′ : List ℕ) → v ≡ bareValue s h → ReplyWritten b clock h d k out n out′
+      → r ≡ Done (d .status) (24 + h .body) n
       → b′ ≡ storedWith b l k (docFrom (d .done .store) (bytesFrom (d .done .source) v)) (d .done .head)
       → ServesFrame b clock s h out r b′ out′
-  formed-by v r n b′ out out′ ev lo en er eout eb =
-      let lk : length k ≤ 250 = omega (arith, ap length ek, key-short s h g) in
-      let lv : length old ≤ 1024 = omega (arith, ap length (old-is ∙ sym (finds .value)), part-most b (lookupOf w b key .at) (lookupOf w b key .len), finds .short) in
-      let fit = fitting (length out) (h .opcode) (h .opaque) d k old lo lk lv ∙ reply-is in
+  formed-by v r n b′ out out′ ev reply er eb =
       record {
-        answer = er ∙ (λ i. Done (status-is i) (24 + h .body) ((en ∙ ap length fit) i));
+        answer = er ∙ (λ i. Done (status-is i) (24 + h .body) ((reply .size ∙ ap length reply-is) i));
         table = eb ∙ (λ i. storedWith b (found i) (ek i) (store-is v ev i) (head-is i)) ∙ changed-is b s clock h w y z inside sb (store-none v ev);
-        reply = eout ∙ ap (written out 0) fit;
+        reply = reply .bytes ∙ ap (written out 0) reply-is;
       }

@@ -74,7 +74,8 @@ fn put_listing(
         return 0;
     }
     let n = table::put_keys(b, clock, start, count, out);
-    let cas = d.done.cas;
+    let done = d.done;
+    let cas = done.cas;
     reply::put_value_header(out, h.opcode, h.opaque, d.status, n as u32, cas);
     24 + n
 }
@@ -93,7 +94,8 @@ fn put_answer(
     requires { ⌜ (length (now key) ≤ 250) × ((length (now old) ≤ 1024) × (now old ≡ docValue (findRow (tableOf (now b) .rows) (now key)))) ⌝ }
     ensures { λ r. ⌜ ReplyWritten (now (b .entry)) clock h d (now (key .entry)) (now (out .entry)) r (now (out .exit)) ⌝ }
 {
-    let reply = d.done.reply;
+    let done = d.done;
+    let reply = done.reply;
     match reply {
         Reply::Keys(count) => put_listing(b, clock, h, d, key, count, out),
         _ => reply::put_reply(out, h.opcode, h.opaque, d, key, old),
