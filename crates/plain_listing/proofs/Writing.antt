@@ -10,7 +10,7 @@ use borrow.Author.Tests.{ltb-true, ltb-false, le-leb, lt-leb, leb-true, leb-fals
 use Rattle.octets.specs.Parts.{written}
 use Rattle.octets.specs.BigEndian.{bytesOf}
 use Rattle.octets.proofs.Choices.{cases, both}
-use Rattle.octets.proofs.Lists.{written-fits, written-not, length-written, pasted-none, then-two}
+use Rattle.octets.proofs.Lists.{written-none, written-not, length-written, then-two}
 use Rattle.octets.proofs.Numbers.{length-bytes}
 use Rattle.document.specs.Documents.{Key}
 use Rattle.listing.specs.Listing.{keySize, keysBytes, taken}
@@ -49,17 +49,17 @@ abbrev pub leftBytes : ℕ → ℕ → List Key → List ℕ
 leftBytes left size ks = keysBytes (taken left (1278 - size) ks)
 
 -- where nothing is left, all is written
-pub written-none : (s : List ℕ) (at : ℕ) → written s at [] ≡ s
-written-none s at =
+pub nothing-written : (s : List ℕ) (at : ℕ) → written s at [] ≡ s
+nothing-written s at =
     cases (leb at (length s))
-    (λ t. let h = leb-true at (length s) t in written-fits s at [] (omega arith) ∙ pasted-none s at h)
-    (λ f. let h = leb-false at (length s) f in written-not s at [] (omega arith))
+    (λ t. written-none s at (leb-true at (length s) t))
+    (λ f. written-not s at [] (omega (arith, leb-false at (length s) f)))
 
 pub all-written : (out₀ out rest whole : List ℕ) (size : ℕ) → rest ≡ [] → size + length rest ≡ length whole
     → written out (24 + size) rest ≡ written out₀ 24 whole → (size ≡ length whole) × (out ≡ written out₀ 24 whole)
 all-written out₀ out rest whole size z l w = (
   omega (arith, ap length z, l),
-  sym (written-none out (24 + size)) ∙ ap (written out (24 + size)) (sym z) ∙ w,
+  sym (nothing-written out (24 + size)) ∙ ap (written out (24 + size)) (sym z) ∙ w,
 )
 
 -- the code's test for one more key

@@ -1,4 +1,4 @@
-use Rattle.plain_listing.proofs.Writing.{written-none}
+use Rattle.plain_listing.proofs.Writing.{nothing-written}
 use Rattle.plain_listing.proofs.Listed.{fitting-none, fitting-all}
 use Rattle.listing.specs.Listing.{taken, keysBytes}
 use Rattle.document.specs.Documents.{Key}
@@ -22,7 +22,7 @@ returns c =
     let a = at5 .args in
     let out = a .out .now in
     let z = fitting-none (length out) (a .b .now) (a .clock) (a .start .now) (a .count) (c .before .rows-in .result) (c .before .rows-in .ensures) (c .if1 .taken) in
-    (sym (ap length z), sym (ap (written out 24) z ∙ written-none out 24))
+    (sym (ap length z), sym (ap (written out 24) z ∙ nothing-written out 24))
 
 slice-aggregate-put-in-order : tie.Need-slice-aggregate-put-in-order
 slice-aggregate-put-in-order c = search needs
