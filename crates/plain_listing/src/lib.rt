@@ -131,7 +131,8 @@ fn put_in_order(b: &[u8], n: usize, clock: u32, start: &[u8], order: &mut [u8]) 
     first
 }
 
-// Writes keys from byte 24 on, as many as the count and the limit let, and answers their length.
+// Writes keys from byte 24 on, as many as the count and the limit let, and answers their length. After one that doesn't fit, none
+// is left to write.
 fn put_ordered(b: &[u8], order: &[u8], first: usize, count: u32, out: &mut [u8]) -> usize
     requires { ⌜ (1302 ≤ length (now out)) × ((length (now order) ≡ 256) × ((first ≤ 256) × Within (rowCount (now b)) (drop first (now order)))) ⌝ }
     ensures { λ r. ⌜ (r ≡ length (keysBytes (taken count 1278 (keysOf (now (b .entry)) (now (order .entry)) first))))
@@ -140,16 +141,17 @@ fn put_ordered(b: &[u8], order: &[u8], first: usize, count: u32, out: &mut [u8])
     let mut size: usize = 0;
     let mut left = count;
     let mut j = first;
-    while j < order.len() {
+    while (j < order.len()) & (0 < left) {
         let key = key_at(b, order[j] as usize);
-        if (left == 0) | (LIMIT - size < 4 + key.len()) {
-            return size;
-        }
-        octets::put_be(out, 24 + size, 4, key.len() as u64);
-        octets::put_bytes(out, 28 + size, key);
-        size += 4 + key.len();
-        left -= 1;
         j += 1;
+        if LIMIT - size < 4 + key.len() {
+            left = 0;
+        } else {
+            octets::put_be(out, 24 + size, 4, key.len() as u64);
+            octets::put_bytes(out, 28 + size, key);
+            size += 4 + key.len();
+            left -= 1;
+        }
     }
     size
 }

@@ -16,8 +16,8 @@ abbrev μ-loop : tie.MeasureT-loop
 
 loop-holds : tie.Need-loop-holds Inv-loop μ-loop
 loop-holds c =
-    let a = (c .args) in
-    let q = (c .pre) in
+    let a = c .args in
+    let q = c .pre in
     ((omega arith, omega (arith, q .1)), (refl, move-start (a .order .now) (a .first) (omega (arith, q .0)) (omega (arith, q .1))))
 
 slice-read-order : tie.Need-slice-read-order Inv-loop μ-loop
@@ -37,9 +37,9 @@ loop-less c = search needs
 
 loop-again : tie.Need-loop-again Inv-loop μ-loop
 loop-again c =
-    let a = (c .before .before .before .args) in
-    let q = (c .before .before .before .pre) in
-    let l = (c .before .before .loop) in (
+    let a = c .before .before .before .args in
+    let q = c .before .before .before .pre in
+    let l = c .before .before .loop in (
       (omega arith, omega arith),
       (
         length-set (l .order) (l .j - 1) (getD (l .order) (l .j) 0) ∙ l .inv .1 .0,
@@ -58,9 +58,9 @@ same-length c = search needs
 
 returns : tie.Need-returns Inv-loop μ-loop
 returns c =
-    let a = (c .before .before .args) in
-    let q = (c .before .before .pre) in
-    let l = (c .before .loop) in
+    let a = c .before .before .args in
+    let q = c .before .before .pre in
+    let l = c .before .loop in
     let e : l .j ≡ a .p = omega arith in (
       length-set (l .order) (a .p - 1) (a .place) ∙ l .inv .1 .0 ∙ q .0,
       move-end (a .order .now) (a .first) (omega (arith, q .0)) (omega (arith, q .1)) (a .p) (q .1 .1 .0) (omega (arith, q .0)) (l .order) (a .place)

@@ -36,9 +36,9 @@ part-requires c κs = search needs
 
 returns : tie.Need-returns
 returns c =
-    let a = (c .before .before .before .before .args) in
+    let a = c .before .before .before .before .args in
     let r = part (a .b .now) (16 + a .i * 1312) (16 + a .i * 1312 + 1312 - (16 + a .i * 1312)) in
-    (c .part) .ensures ∙ ap (part r 32) ((c .before .be16) .ensures) ∙ key-cut (a .b .now) r (a .i) (c .before .before .before .before .pre) (row-cut (a .b .now) (16 + a .i * 1312))
+    c .part .ensures ∙ ap (part r 32) (c .before .be16 .ensures) ∙ key-cut (a .b .now) r (a .i) (c .before .before .before .before .pre) (row-cut (a .b .now) (16 + a .i * 1312))
 
 pub key-at-spec : {M : Type 1} → statement M
 key-at-spec =

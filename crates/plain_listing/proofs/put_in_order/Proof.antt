@@ -23,8 +23,8 @@ abbrev μ-loop : tie.MeasureT-loop
 
 loop-holds : tie.Need-loop-holds Inv-loop μ-loop
 loop-holds c =
-    let a = (c .before .before .before .args) in
-    let q = (c .before .before .before .pre) in
+    let a = c .before .before .before .args in
+    let q = c .before .before .before .pre in
     let b = a .b .now in (
       (omega arith, (omega arith, omega arith)),
       (
@@ -41,9 +41,10 @@ sub-i c = search needs
 
 put-row-requires : tie.Need-put-row-requires Inv-loop μ-loop
 put-row-requires c κs =
-    let a = (c .before .before .before .before .before .before .args) in
-    let q = (c .before .before .before .before .before .before .pre) in
-    let l = (c .before .before .loop) in
+    let at6 = c .before .before .before .before .before .before in
+    let a = at6 .args in
+    let q = at6 .pre in
+    let l = c .before .before .loop in
     let b = a .b .now in (
       ((omega (arith, q .0, l .inv .0), omega (arith, q .1 .0, l .inv .0)), (l .inv .1 .0 ∙ q .1 .1, (omega (arith, q .1 .0, l .inv .0), l .inv .0 .1 .0))),
       (l .inv .1 .1 .0, subst InOrder (sym (l .inv .1 .1 .1)) (sort-order (keysListed (a .clock) (a .start .now) (rowsOf (a .n - l .i) (drop (16 + l .i * 1312) b))))),
@@ -54,18 +55,20 @@ loop-less c = search needs
 
 loop-again : tie.Need-loop-again Inv-loop μ-loop
 loop-again c =
-    let a = (c .before .before .before .before .before .before .before .before .before .args) in
-    let q = (c .before .before .before .before .before .before .before .before .before .pre) in
-    let l = (c .before .before .before .before .before .loop) in
+    let at5 = c .before .before .before .before .before in
+    let at9 = at5 .before .before .before .before in
+    let a = at9 .args in
+    let q = at9 .pre in
+    let l = at5 .loop in
     let b = a .b .now in
-    let r = (c .before .before .put-row) .ensures in (
+    let r = c .before .before .put-row .ensures in (
       (omega (arith, l .inv .0), (omega (arith, l .inv .0, r .0), omega (arith, l .inv .0, r .0))),
       (
         r .1 .0 ∙ sym (q .1 .1),
         (
           r .1 .1 .0,
           r .1 .1 .1 ∙ ap (withKey (a .clock) (a .start .now) (rowOf (rowAt b (l .i - 1)))) (l .inv .1 .1 .1)
-              ∙ sorted-more (a .clock) (a .start .now) b (a .n) (l .i) ((c .before .before .before .before .loop-test) .taken) (l .inv .0 .0) (q .0),
+              ∙ sorted-more (a .clock) (a .start .now) b (a .n) (l .i) (c .before .before .before .before .loop-test .taken) (l .inv .0 .0) (q .0),
         ),
       ),
     )
@@ -75,11 +78,12 @@ same-length c = search needs
 
 returns : tie.Need-returns Inv-loop μ-loop
 returns c =
-    let a = (c .before .before .before .before .before .args) in
-    let q = (c .before .before .before .before .before .pre) in
-    let l = (c .before .loop) in
+    let at5 = c .before .before .before .before .before in
+    let a = at5 .args in
+    let q = at5 .pre in
+    let l = c .before .loop in
     let b = a .b .now in
-    let z : l .i ≡ 0 = omega (arith, (c .loop-test) .left) in (
+    let z : l .i ≡ 0 = omega (arith, c .loop-test .left) in (
       (l .inv .0 .1 .0, l .inv .1 .0 ∙ q .1 .1),
       (l .inv .1 .1 .0, l .inv .1 .1 .1 ∙ ap (sortedFrom (a .clock) (a .start .now) b (a .n)) z ∙ sorted-all (a .clock) (a .start .now) b (a .n) (q .0)),
     )

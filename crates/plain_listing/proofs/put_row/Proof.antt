@@ -36,12 +36,13 @@ is-listed-requires c κs = tt
 
 returns : tie.Need-returns
 returns c =
-    let a = (c .before .before .before .before .before .before .args) in
-    let q = (c .before .before .before .before .before .before .pre) in
+    let at6 = c .before .before .before .before .before .before in
+    let a = at6 .args in
+    let q = at6 .pre in
     let b = a .b .now in
     let cut = row-cut b (16 + a .i * 1312) ∙ sym (row-there b (a .i) (q .0 .0 .0)) in
-    let is = ap (λ (r : List ℕ). isListed (a .clock) (a .start .now) (rowOf r)) (sym cut) ∙ sym ((c .before .is-listed) .ensures) in
-    ((omega arith, omega arith), (q .0 .1 .0, (q .1 .0, sym (with-none (a .clock) (a .start .now) b (a .i) (keysOf b (a .order .now) (a .first)) (is ∙ not-true _ ((c .if1) .taken))))))
+    let is = ap (λ (r : List ℕ). isListed (a .clock) (a .start .now) (rowOf r)) (sym cut) ∙ sym (c .before .is-listed .ensures) in
+    ((omega arith, omega arith), (q .0 .1 .0, (q .1 .0, sym (with-none (a .clock) (a .start .now) b (a .i) (keysOf b (a .order .now) (a .first)) (is ∙ not-true _ (c .if1 .taken))))))
 
 key-at-requires : tie.Need-key-at-requires
 key-at-requires c κs = search needs
@@ -63,23 +64,27 @@ same-length c = search needs
 
 returns-2 : tie.Need-returns-2
 returns-2 c =
-    let a = (c .before .before .before .before .before .before .before .before .before .before .before .before .before .args) in
-    let q = (c .before .before .before .before .before .before .before .before .before .before .before .before .before .pre) in
+    let at5 = c .before .before .before .before .before in
+    let at7 = at5 .before .before in
+    let at8 = at7 .before in
+    let at13 = at8 .before .before .before .before .before in
+    let a = at13 .args in
+    let q = at13 .pre in
     let b = a .b .now in
     let order = a .order .now in
-    let p = (c .before .before .before .before .position) .result in
-    let low = (c .before .before .before .before .position) .ensures .0 .0 in
-    let moved = (c .before .before .insert) .ensures .1 in
-    let order′ = (c .before .before .insert) .last .0 in
+    let p = c .before .before .before .before .position .result in
+    let low = c .before .before .before .before .position .ensures .0 .0 in
+    let moved = c .before .before .insert .ensures .1 in
+    let order′ = c .before .before .insert .last .0 in
     let cut = row-cut b (16 + a .i * 1312) ∙ sym (row-there b (a .i) (q .0 .0 .0)) in
-    let is = ap (λ (r : List ℕ). isListed (a .clock) (a .start .now) (rowOf r)) (sym cut) ∙ sym ((c .before .before .before .before .before .before .before .before .is-listed) .ensures) in (
+    let is = ap (λ (r : List ℕ). isListed (a .clock) (a .start .now) (rowOf r)) (sym cut) ∙ sym (at8 .is-listed .ensures) in (
       (omega arith, omega arith),
       (
-        (c .before .before .insert) .ensures .0,
+        c .before .before .insert .ensures .0,
         (
           put-within b order (a .first) p (a .i) order′ low moved (rowCount b) (q .1 .0) (q .0 .0 .0),
-          put-placed b order (a .first) p (a .i) order′ low moved ((c .before .before .before .before .before .key-at) .result .now) ((c .before .before .before .before .before .key-at) .ensures) ((c .before .before .before .before .position) .ensures .1)
-              ∙ sym (with-one (a .clock) (a .start .now) b (a .i) (keysOf b order (a .first)) (is ∙ not-false _ ((c .before .before .before .before .before .before .before .if1) .left))),
+          put-placed b order (a .first) p (a .i) order′ low moved (at5 .key-at .result .now) (at5 .key-at .ensures) (c .before .before .before .before .position .ensures .1)
+              ∙ sym (with-one (a .clock) (a .start .now) b (a .i) (keysOf b order (a .first)) (is ∙ not-false _ (at7 .if1 .left))),
         ),
       ),
     )
