@@ -13,11 +13,10 @@ use Rattle.octets.proofs.Numbers.{length-bytes}
 use Rattle.document.specs.Documents.{Key, Entry}
 use Rattle.listing.specs.Listing.{keySize, keysBytes, taken, keysFrom, listedKeys, listing}
 
-pub bytes-next : (k : Key) (ks : List Key) → length (keysBytes (k ∷ ks)) ≡ keySize k + length (keysBytes ks)
-bytes-next k ks =
-    let a = length-append (bytesOf 4 (length k)) (k ++ keysBytes ks) in
-    let b = length-append k (keysBytes ks) in
-    omega (arith, a, b, length-bytes 4 (length k))
+-- how many bytes a key adds
+pub bytes-more : (k : Key) (rest : List ℕ) → length (bytesOf 4 (length k) ++ (k ++ rest)) ≡ keySize k + length rest
+bytes-more k rest =
+    omega (arith, length-append (bytesOf 4 (length k)) (k ++ rest), length-append k rest, length-bytes 4 (length k))
 
 pub taken-short : (count room : ℕ) (ks : List Key) → length (keysBytes (taken count room ks)) ≤ room
 taken-short count room [] = omega arith
@@ -25,7 +24,7 @@ taken-short count room (k ∷ ks) =
     cases (leb 1 count && leb (keySize k) room)
     (λ t.
     let f = leb-true (keySize k) room (both (leb 1 count) (leb (keySize k) room) t .1) in
-    rw t (omega (arith, f, bytes-next k (taken (count - 1) (room - keySize k) ks), taken-short (count - 1) (room - keySize k) ks)))
+    rw t (omega (arith, f, bytes-more k (keysBytes (taken (count - 1) (room - keySize k) ks)), taken-short (count - 1) (room - keySize k) ks)))
     (λ t. rw t (omega arith))
 
 pub listing-short : (docs : List Entry) (clock : ℕ) (start : Key) (count : ℕ) → length (listing docs clock start count) ≤ 1278

@@ -14,23 +14,9 @@ use Rattle.octets.proofs.Lists.{written-none, written-not, length-written, then
 use Rattle.octets.proofs.Numbers.{length-bytes}
 use Rattle.document.specs.Documents.{Key}
 use Rattle.listing.specs.Listing.{keySize, keysBytes, taken}
+use Rattle.listing.proofs.Taken.{bytes-more, taken-short}
 use Rattle.plain_listing.specs.Places.{keysOf}
 use Rattle.plain_listing.proofs.Placing.{keys-none}
-
--- how many bytes a key adds
-bytes-more : (k : Key) (rest : List ℕ) → length (bytesOf 4 (length k) ++ (k ++ rest)) ≡ 4 + (length k + length rest)
-bytes-more k rest = length-append (bytesOf 4 (length k)) (k ++ rest) ∙ (λ i. length-bytes 4 (length k) i + length-append k rest i)
-
--- the keys that are taken fit the room
-taken-short : (count room : ℕ) (ks : List Key) → length (keysBytes (taken count room ks)) ≤ room
-taken-short count room [] = omega arith
-taken-short count room (k ∷ ks) =
-    cases (leb 1 count && leb (keySize k) room)
-    (λ t.
-    let fit = leb-true (keySize k) room (both (leb 1 count) (leb (keySize k) room) t .1) in
-    let rest = keysBytes (taken (count - 1) (room - keySize k) ks) in
-    rw t (omega (arith, bytes-more k rest, taken-short (count - 1) (room - keySize k) ks)))
-    (λ f. rw f (omega arith))
 
 -- the next key: one that doesn't fit, and one that does
 module _ (left room : ℕ) (k : Key) (ks : List Key) where
