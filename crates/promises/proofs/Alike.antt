@@ -34,7 +34,7 @@ use Rattle.listing.specs.Listing.{liveKeys, sortKeys, fromKey, taken, keysBytes
 use Rattle.rows.specs.Row.{Row}
 use Rattle.rows.specs.Find.{findRow}
 use Rattle.plain.specs.Plain.{plain, usedRows, replace, putRow}
-use Rattle.serving.specs.Reply.{shownBy, bodyOf, replyHeader, replyBytes}
+use Rattle.serving.specs.Reply.{replyShows, bodyOf, replyHeader, replyBytes}
 use Rattle.serving.proofs.Formed.{by-cond}
 use Rattle.promises.proofs.Asks.{IsPlain}
 
@@ -48,7 +48,7 @@ Blind (Keys n) = Unit {0}
 
 -- with the same live keys in both tables, a listing is the same too
 module _ (rows rows′ : List Row) (clock : ℕ) (key : Key) (keys : liveKeys clock (plain .docs rows) ≡ liveKeys clock (plain .docs rows′)) where
-  blind-value : (r : Reply) → Blind r → replyValue r (shownBy r rows clock key) ≡ replyValue r (shownBy r rows′ clock key)
+  blind-value : (r : Reply) → Blind r → replyValue r (replyShows r rows clock key) ≡ replyValue r (replyShows r rows′ clock key)
   unfolding listing listedKeys keysFrom
   blind-value Bare p = refl
   blind-value (Found flags keyed) p = absurd p
@@ -57,7 +57,7 @@ module _ (rows rows′ : List Row) (clock : ℕ) (key : Key) (keys : liveKeys cl
   blind-value (Keys n) p = λ i. keysBytes (taken n 1278 (fromKey key (sortKeys (keys i))))
 
   pub blind-reply : (op opaque : ℕ) (x : Decision) → Blind (x .done .reply)
-      → replyBytes op opaque x key (shownBy (x .done .reply) rows clock key) ≡ replyBytes op opaque x key (shownBy (x .done .reply) rows′ clock key)
+      → replyBytes op opaque x key (replyShows (x .done .reply) rows clock key) ≡ replyBytes op opaque x key (replyShows (x .done .reply) rows′ clock key)
   unfolding replyBytes replyHeader
   blind-reply op opaque x p = rw (blind-value (x .done .reply) p)
 

@@ -39,7 +39,7 @@ use Rattle.plain.proofs.ChangeLaws.{put-good}
 use Rattle.plain.proofs.TableLaws.{sound-good, good-sound}
 use Rattle.serving.specs.declared.Served.{Served}
 use Rattle.serving.specs.declared.Served.the-variants.{Done}
-use Rattle.serving.specs.Reply.{shownBy, replyBytes}
+use Rattle.serving.specs.Reply.{replyShows, replyBytes}
 use Rattle.serving.specs.Serve.{reachesDecision, decisionOn, frameEffect, tableChanged, frameChange, frameTable, frameReply, gateAll, answerBy, tableBy, replyBy, served, servedTable, servedReply}
 use Rattle.serving.proofs.Change.{changing, unchanged}
 use Rattle.serving.proofs.Gated.{was-open}
@@ -167,7 +167,7 @@ module _ (b : List ℕ) (clock : ℕ) (s : List ℕ) (d : Doc) (y : Bytes b) (z 
   unfolding frameReply
   replies =
       let keys = put-dead clock (t .rows) k d (tombstoneOf d) there dead-row dead-grave in
-      let shown : List Row → Decision → List ℕ = λ rows x. replyBytes (h .opcode) (h .opaque) x k (shownBy (x .done .reply) rows clock k) in
+      let shown : List Row → Decision → List ℕ = λ rows x. replyBytes (h .opcode) (h .opaque) x k (replyShows (x .done .reply) rows clock k) in
       blind-reply (t .rows) (u .rows) clock k keys (h .opcode) (h .opaque) (decisionOn t clock s h) (decided .1)
       ∙ ap (shown (u .rows)) (decided .0)
       ∙ ap (λ (x : Table). shown (x .rows) (decisionOn x clock s h)) (sym grave-table)

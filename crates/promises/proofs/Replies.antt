@@ -36,7 +36,7 @@ use Rattle.decode.specs.Decode.{plainOf, counterOf, metaCommand, commandOf, req
 use Rattle.rows.specs.Table.{Table, tableOf}
 use Rattle.rows.specs.Find.{findRow}
 use Rattle.serving.specs.declared.Served.the-variants.{Done}
-use Rattle.serving.specs.Reply.{shownBy, replyHeader, replyBytes}
+use Rattle.serving.specs.Reply.{replyShows, replyHeader, replyBytes}
 use Rattle.serving.specs.Serve.{reachesDecision, contextOn, decisionOn, frameEffect, frameReply, answerBy, replyBy, gateAll, served, servedReply}
 use Rattle.serving.proofs.Formed.{by-cond, no}
 use Rattle.serving.proofs.Gated.{was-open}
@@ -169,7 +169,7 @@ module _ (b : List ℕ) (clock : ℕ) (s : List ℕ) where
   frame-status y l n =
       let h = headerOf s in
       let key = bytesIn s (keySpan h) in
-      let shown : Decision → List ℕ = λ d. shownBy (d .done .reply) (tableOf b .rows) clock key in
+      let shown : Decision → List ℕ = λ d. replyShows (d .done .reply) (tableOf b .rows) clock key in
       ap (λ (d : Decision). replyBytes (h .opcode) (h .opaque) d key (shown d)) (decides-alone (tableOf b) clock s h n)
       ∙ alone-reply s (tableOf b .head) (decisionOn (tableOf b) clock s h .status) key (docValue (findRow (tableOf b .rows) key)) y l
 

@@ -26,7 +26,7 @@ use Rattle.rows.specs.Row.{Row}
 use Rattle.rows.specs.Find.{findRow}
 use Rattle.rows.specs.Good.{AllGood}
 use Rattle.plain.specs.Plain.{plain}
-use Rattle.serving.specs.Reply.{shownBy, bodyOf, replyHeader, replyBytes}
+use Rattle.serving.specs.Reply.{replyShows, bodyOf, replyHeader, replyBytes}
 use Rattle.reply.specs.Fitting.{unfit, fittingReply}
 
 shown-most : (keyed : Bool) (key : List ℕ) → length (cond keyed key []) ≤ length key
@@ -61,7 +61,7 @@ body-most VersionReply key old h k = omega arith
 body-most (Keys n) key old h k = omega arith
 
 -- the same of what a table shows
-pub shown-body-most : (r : Reply) (mark : ℕ) (rows : List Row) (clock : ℕ) (key : Key) → length key ≤ 250 → AllGood mark rows → length (bodyOf r key (shownBy r rows clock key)) ≤ 1278
+pub shown-body-most : (r : Reply) (mark : ℕ) (rows : List Row) (clock : ℕ) (key : Key) → length key ≤ 250 → AllGood mark rows → length (bodyOf r key (replyShows r rows clock key)) ≤ 1278
 shown-body-most Bare mark rows clock key h g = body-most Bare key (docValue (findRow rows key)) h (value-short mark rows key g)
 shown-body-most (Found flags keyed) mark rows clock key h g = body-most (Found flags keyed) key (docValue (findRow rows key)) h (value-short mark rows key g)
 shown-body-most (Counted n) mark rows clock key h g = body-most (Counted n) key (docValue (findRow rows key)) h (value-short mark rows key g)

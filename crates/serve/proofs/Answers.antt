@@ -28,7 +28,7 @@ use Rattle.rows.specs.Find.{findRow}
 use Rattle.plain.specs.Plain.{plain}
 use Rattle.plain.specs.Damage.{sound}
 use Rattle.plain_listing.specs.Places.{fittingKeys}
-use Rattle.serving.specs.Reply.{shownBy, bodyOf, headerWith, replyHeader, replyBytes}
+use Rattle.serving.specs.Reply.{replyShows, bodyOf, headerWith, replyHeader, replyBytes}
 use Rattle.reply.specs.Fitting.{fittingReply}
 use Rattle.reply.proofs.Replies.{Bodied, no-reply, replied, fitting}
 use Rattle.serve.specs.Answer.{replyFrom, ReplyWritten}
@@ -52,12 +52,12 @@ module _ (b : List ℕ) (clock : ℕ) (start : Key) (count : ℕ) (out : List �
   keys-short = omega (arith, ap length all-fit, listing-short (plain .docs (tableOf b .rows)) clock start count)
 
   module _ (h : Header) (d : Decision) (lists : d .done .reply ≡ Keys count) where
-    body-is : keys ≡ bodyOf (d .done .reply) start (shownBy (d .done .reply) (tableOf b .rows) clock start)
-    body-is = all-fit ∙ ap (λ (r : Reply). bodyOf r start (shownBy r (tableOf b .rows) clock start)) (sym lists)
+    body-is : keys ≡ bodyOf (d .done .reply) start (replyShows (d .done .reply) (tableOf b .rows) clock start)
+    body-is = all-fit ∙ ap (λ (r : Reply). bodyOf r start (replyShows r (tableOf b .rows) clock start)) (sym lists)
 
     header-is : (n : ℕ) → n ≡ length keys
         → headerWith (h .opcode) (h .opaque) (d .status) 0 0 n (d .done .cas)
-        ≡ replyHeader (h .opcode) (h .opaque) d start (shownBy (d .done .reply) (tableOf b .rows) clock start)
+        ≡ replyHeader (h .opcode) (h .opaque) d start (replyShows (d .done .reply) (tableOf b .rows) clock start)
     unfolding replyHeader
     header-is n e =
         let size = e ∙ ap length body-is in
@@ -70,14 +70,14 @@ module _ (b : List ℕ) (clock : ℕ) (start : Key) (count : ℕ) (out : List �
         → out₂ ≡ written out₁ 0 (headerBytes (headerWith (h .opcode) (h .opaque) (d .status) 0 0 n (d .done .cas)))
         → ReplyWritten b clock h d start out (24 + n) out₂
     listing-written n out₁ out₂ f en e₁ e₂ =
-        let body : Bodied (d .done .reply) start (shownBy (d .done .reply) (tableOf b .rows) clock start) n out out₁ = (en ∙ ap length body-is, e₁ ∙ ap (written out 24) body-is) in
+        let body : Bodied (d .done .reply) start (replyShows (d .done .reply) (tableOf b .rows) clock start) n out out₁ = (en ∙ ap length body-is, e₁ ∙ ap (written out 24) body-is) in
         let p = replied (h .opcode) (h .opaque) d start _ out out₁ out₂ n _ f (omega (arith, keys-short)) body (header-is n en) e₂ in
         record { size = p .0; bytes = p .1 }
 
 -- a reply that shows the stored value
 module _ (b : List ℕ) (clock : ℕ) (h : Header) (d : Decision) (key old out : List ℕ) where
   abbrev Stored : Reply → Type 0
-  Stored r = shownBy r (tableOf b .rows) clock key ≡ docValue (findRow (tableOf b .rows) key)
+  Stored r = replyShows r (tableOf b .rows) clock key ≡ docValue (findRow (tableOf b .rows) key)
 
   -- by its tag, every reply but a listing
   pub shows-stored : (r : Reply) → OneOf (0 ∷ (1 ∷ (2 ∷ (3 ∷ [])))) (Declared.tagOf the-type r) → Stored r

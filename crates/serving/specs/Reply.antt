@@ -17,12 +17,12 @@ use Rattle.decision.specs.declared.Decision.{Decision}
 use Rattle.decision.specs.Decide.{replyExtras, replyKey, replyValue}
 
 -- what a table shows a reply: the keys listed, or the value stored for the request's key
-abbrev pub shownBy : Reply → List Row → ℕ → Key → List ℕ
-shownBy Bare rows clock key = docValue (findRow rows key)
-shownBy (Found flags keyed) rows clock key = docValue (findRow rows key)
-shownBy (Counted n) rows clock key = docValue (findRow rows key)
-shownBy VersionReply rows clock key = docValue (findRow rows key)
-shownBy (Keys count) rows clock key = listing (plain .docs rows) clock key count
+abbrev pub replyShows : Reply → List Row → ℕ → Key → List ℕ
+replyShows Bare rows clock key = docValue (findRow rows key)
+replyShows (Found flags keyed) rows clock key = docValue (findRow rows key)
+replyShows (Counted n) rows clock key = docValue (findRow rows key)
+replyShows VersionReply rows clock key = docValue (findRow rows key)
+replyShows (Keys count) rows clock key = listing (plain .docs rows) clock key count
 
 -- extras, key and value in a row, for a request's key and what the table shows
 abbrev pub bodyOf : Reply → List ℕ → List ℕ → List ℕ

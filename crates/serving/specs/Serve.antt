@@ -27,7 +27,7 @@ use Rattle.plain.specs.Damage.{sound, checkedOutcome}
 use Rattle.rows.specs.Find.{findRow, freeRows}
 use Rattle.serving.specs.declared.Served.{Served}
 use Rattle.serving.specs.declared.Served.the-variants.{Refused, Done}
-use Rattle.serving.specs.Reply.{shownBy, replyBytes}
+use Rattle.serving.specs.Reply.{replyShows, replyBytes}
 
 -- ---- 01's numbers for each answer; what it doesn't have is 0
 -- its outcome, 0 where a frame was served
@@ -98,7 +98,7 @@ unfoldable pub frameReply : List ℕ → ℕ → List ℕ → Header → List �
 unfolding decisionOn
 frameReply b clock s h =
     let x = decisionOn (tableOf b) clock s h in
-    replyBytes (h .opcode) (h .opaque) x (bytesIn s (keySpan h)) (shownBy (x .done .reply) (tableOf b .rows) clock (bytesIn s (keySpan h)))
+    replyBytes (h .opcode) (h .opaque) x (bytesIn s (keySpan h)) (replyShows (x .done .reply) (tableOf b .rows) clock (bytesIn s (keySpan h)))
 
 -- ---- serving: by the gate
 abbrev pub answerBy : List ℕ → ℕ → List ℕ → Gate → Served

@@ -33,7 +33,10 @@ part-same-block-start : tie.Need-part-same-block-start Inv-loop μ-loop
 part-same-block-start c = search needs
 
 part-same-block-end : tie.Need-part-same-block-end Inv-loop μ-loop
-part-same-block-end c = let a = (c .before .before .before .before .args) in let l = (c .before .loop) in omega (arith, both-least 32 (length (a .s .now) - l .i) (length (a .t .now) - l .i) ((c .loop-test) .taken) .0)
+part-same-block-end c =
+    let a = (c .before .before .before .before .args) in
+    let l = (c .before .loop) in
+    omega (arith, both-least 32 (length (a .s .now) - l .i) (length (a .t .now) - l .i) ((c .loop-test) .taken) .0)
 
 sub-same-block-2 : tie.Need-sub-same-block-2 Inv-loop μ-loop
 sub-same-block-2 c = search needs
@@ -42,7 +45,10 @@ part-same-block-start-2 : tie.Need-part-same-block-start-2 Inv-loop μ-loop
 part-same-block-start-2 c = search needs
 
 part-same-block-end-2 : tie.Need-part-same-block-end-2 Inv-loop μ-loop
-part-same-block-end-2 c = let a = (c .before .before .before .before .before .args) in let l = (c .before .before .loop) in omega (arith, both-least 32 (length (a .s .now) - l .i) (length (a .t .now) - l .i) ((c .before .loop-test) .taken) .1)
+part-same-block-end-2 c =
+    let a = (c .before .before .before .before .before .args) in
+    let l = (c .before .before .loop) in
+    omega (arith, both-least 32 (length (a .s .now) - l .i) (length (a .t .now) - l .i) ((c .before .loop-test) .taken) .1)
 
 same-block-requires : tie.Need-same-block-requires Inv-loop μ-loop
 same-block-requires c κs = search needs
@@ -54,7 +60,10 @@ add-i : tie.Need-add-i Inv-loop μ-loop
 add-i c = search needs
 
 loop-less : tie.Need-loop-less Inv-loop μ-loop
-loop-less c = let a = (c .before .before .before .before .before .before .before .before .args) in let l = (c .before .before .before .before .before .loop) in omega (arith, both-least 32 (length (a .s .now) - l .i) (length (a .t .now) - l .i) ((c .before .before .before .before .loop-test) .taken) .0)
+loop-less c =
+    let a = (c .before .before .before .before .before .before .before .before .args) in
+    let l = (c .before .before .before .before .before .loop) in
+    omega (arith, both-least 32 (length (a .s .now) - l .i) (length (a .t .now) - l .i) ((c .before .before .before .before .loop-test) .taken) .0)
 
 loop-again : tie.Need-loop-again Inv-loop μ-loop
 loop-again c = let a = (c .before .before .before .before .before .before .before .before .args) in

@@ -35,15 +35,22 @@ add-i : tie.Need-add-i Inv-loop μ-loop
 add-i c = search needs
 
 loop-less : tie.Need-loop-less Inv-loop μ-loop
-loop-less c = let a = (c .before .before .before .before .before .before .before .args) in let l = (c .before .before .before .before .loop) in omega (arith, both-least 8 (length (a .s .now) - l .i) (length (a .t .now) - l .i) ((c .before .before .before .loop-test) .taken) .0)
+loop-less c =
+    let a = (c .before .before .before .before .before .before .before .args) in
+    let l = (c .before .before .before .before .loop) in
+    omega (arith, both-least 8 (length (a .s .now) - l .i) (length (a .t .now) - l .i) ((c .before .before .before .loop-test) .taken) .0)
 
 loop-again : tie.Need-loop-again Inv-loop μ-loop
 loop-again c = let a = (c .before .before .before .before .before .before .before .args) in
     let l = (c .before .before .before .before .loop) in
     let q = both-least 8 (length (a .s .now) - l .i) (length (a .t .now) - l .i) ((c .before .before .before .loop-test) .taken) in
     let h : l .i + 8 ≤ length (a .s .now) = omega (arith, q .0) in
-    let k : l .i + 8 ≤ length (a .t .now) = omega (arith, q .1) in
-    ((h, k), word-alike (a .s .now) (a .t .now) (l .i) (λ j. (c .before .before .before .before .before .before .shared-slice-known) .given j .fits) (λ j. (c .before .before .before .before .before .shared-slice-known2) .given j .fits) h k (l .inv .1) (sym ((c .before .before .word) .ensures) ∙ (c .if1) .left ∙ (c .before .word2) .ensures))
+    let k : l .i + 8 ≤ length (a .t .now) = omega (arith, q .1) in (
+      (h, k),
+      word-alike (a .s .now) (a .t .now) (l .i) (λ j. (c .before .before .before .before .before .before .shared-slice-known) .given j .fits)
+          (λ j. (c .before .before .before .before .before .shared-slice-known2) .given j .fits) h k (l .inv .1)
+          (sym ((c .before .before .word) .ensures) ∙ (c .if1) .left ∙ (c .before .word2) .ensures),
+    )
 
 returns-2 : tie.Need-returns-2 Inv-loop μ-loop
 returns-2 c = search needs

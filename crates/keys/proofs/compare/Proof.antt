@@ -14,7 +14,9 @@ side-from-requires : tie.Need-side-from-requires
 side-from-requires c κs = search needs
 
 returns : tie.Need-returns
-returns c = let a = (c .before .before .before .before .before .args) in (c .side-from) .ensures ∙ side-alike (a .s .now) (a .t .now) ((c .before .alike-words) .result) ((c .before .alike-words) .ensures .1)
+returns c =
+    let a = (c .before .before .before .before .before .args) in
+    (c .side-from) .ensures ∙ side-alike (a .s .now) (a .t .now) ((c .before .alike-words) .result) ((c .before .alike-words) .ensures .1)
 
 pub compare-spec : {M : Type 1} → statement M
 compare-spec =

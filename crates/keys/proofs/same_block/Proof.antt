@@ -31,10 +31,16 @@ loop-less : tie.Need-loop-less Inv-loop μ-loop
 loop-less c = search needs
 
 loop-again : tie.Need-loop-again Inv-loop μ-loop
-loop-again c = let l = (c .before .before .before .loop) in let a = (c .before .before .before .before .args) in (omega arith, l .inv .1 ∙ same-next (a .s .now) (a .t .now) (l .i) (l .apart) (omega arith) (omega arith))
+loop-again c =
+    let l = (c .before .before .before .loop) in
+    let a = (c .before .before .before .before .args) in
+    (omega arith, l .inv .1 ∙ same-next (a .s .now) (a .t .now) (l .i) (l .apart) (omega arith) (omega arith))
 
 returns : tie.Need-returns Inv-loop μ-loop
-returns c = let l = (c .before .loop) in let a = (c .before .before .args) in sym (l .inv .1 ∙ same-end (a .s .now) (a .t .now) (l .i) (l .apart) (omega arith) (omega arith))
+returns c =
+    let l = (c .before .loop) in
+    let a = (c .before .before .args) in
+    sym (l .inv .1 ∙ same-end (a .s .now) (a .t .now) (l .i) (l .apart) (omega arith) (omega arith))
 
 pub same-block-spec : {M : Type 1} → statement M
 same-block-spec =

@@ -24,13 +24,15 @@ returns : tie.Need-returns
 returns c = let a = (c .before .before .before .before .before .before .args) in
     let q = both-least 8 (length (a .s .now) - a .at) (length (a .t .now) - a .at) ((c .before .before .before .if1) .taken) in
     let l : num (a .s .now) (a .at) 8 < num (a .t .now) (a .at) 8 = omega (arith, (c .before .before .be64) .ensures, (c .before .be642) .ensures, (c .if2) .taken) in
-    sym (word-less (a .s .now) (a .t .now) (a .at) (λ j. (c .before .before .before .before .before .shared-slice-known) .given j .fits) (λ j. (c .before .before .before .before .shared-slice-known2) .given j .fits) (omega (arith, q .0)) (omega (arith, q .1)) l)
+    sym (word-less (a .s .now) (a .t .now) (a .at) (λ j. (c .before .before .before .before .before .shared-slice-known) .given j .fits)
+    (λ j. (c .before .before .before .before .shared-slice-known2) .given j .fits) (omega (arith, q .0)) (omega (arith, q .1)) l)
 
 returns-2 : tie.Need-returns-2
 returns-2 c = let a = (c .before .before .before .before .before .before .before .args) in
     let q = both-least 8 (length (a .s .now) - a .at) (length (a .t .now) - a .at) ((c .before .before .before .before .if1) .taken) in
     let l : num (a .t .now) (a .at) 8 < num (a .s .now) (a .at) 8 = omega (arith, (c .before .before .before .be64) .ensures, (c .before .before .be642) .ensures, (c .if3) .taken) in
-    sym (word-greater (a .s .now) (a .t .now) (a .at) (λ j. (c .before .before .before .before .before .before .shared-slice-known) .given j .fits) (λ j. (c .before .before .before .before .before .shared-slice-known2) .given j .fits) (omega (arith, q .0)) (omega (arith, q .1)) l)
+    sym (word-greater (a .s .now) (a .t .now) (a .at) (λ j. (c .before .before .before .before .before .before .shared-slice-known) .given j .fits)
+    (λ j. (c .before .before .before .before .before .shared-slice-known2) .given j .fits) (omega (arith, q .0)) (omega (arith, q .1)) l)
 
 side-bytes-requires : tie.Need-side-bytes-requires
 side-bytes-requires c κs = search needs

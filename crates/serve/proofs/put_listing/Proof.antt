@@ -20,7 +20,8 @@ cast-put-value-header c =
     let f = c .before .before .before .before .before .before .before .before .before .before .before in
     let a = f .args in
     let p = f .pre in
-    record { fits = omega (arith, c .before .before .before .before .before .put-keys .ensures, keys-short (now (a .b)) (a .clock) (now (a .start)) (a .count) (now (a .out)) (p .0) (p .1 .0)) }
+    let size = c .before .before .before .before .before .put-keys .ensures in
+    record { fits = omega (arith, size, keys-short (now (a .b)) (a .clock) (now (a .start)) (a .count) (now (a .out)) (p .0) (p .1 .0)) }
 
 put-value-header-requires : tie.Need-put-value-header-requires
 put-value-header-requires c κs = search needs
@@ -30,7 +31,8 @@ add-result c =
     let f = c .before .before .before .before .before .before .before .before .before .before .before .before .before .before in
     let a = f .args in
     let p = f .pre in
-    record { fits = omega (arith, c .before .before .before .before .before .before .before .before .put-keys .ensures, keys-short (now (a .b)) (a .clock) (now (a .start)) (a .count) (now (a .out)) (p .0) (p .1 .0)) }
+    let size = c .before .before .before .before .before .before .before .before .put-keys .ensures in
+    record { fits = omega (arith, size, keys-short (now (a .b)) (a .clock) (now (a .start)) (a .count) (now (a .out)) (p .0) (p .1 .0)) }
 
 same-length : tie.Need-same-length
 same-length c = search needs
