@@ -24,9 +24,10 @@ put-answer-requires c κs =
     let r = c .before .before .before .before .before .before .before .before .before .before .before .before in
     let b = now (r .args .b) in
     let p = r .pre .1 in
+    let found = c .before .before .before .before .find .ensures in
     let y : Bytes b = λ i. c .before .before .before .before .before .before .before .before .before .before .before .slice-known .given i .fits in (
       (r .pre .0 .0, r .pre .0 .1 .1),
-      shown-parts b (now (r .args .s)) (r .args .h) y (r .pre .0 .0) (p .0) (now (r .args .key)) _ _ _ (p .1 .1 .0) (c .before .before .before .before .find .ensures) (c .before .before .part .ensures),
+      shown-parts b (now (r .args .s)) (r .args .h) y (r .pre .0 .0) (p .0) (now (r .args .key)) _ _ _ (p .1 .1 .0) found (c .before .before .part .ensures),
     )
 
 part-requires-2 : tie.Need-part-requires-2
