@@ -1,2 +1,5 @@
 pub mod Sorting
 pub mod Taken
+pub mod Members
+pub mod LiveKeys
+pub mod Exact
