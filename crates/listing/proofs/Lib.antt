@@ -3,3 +3,4 @@ pub mod Taken
 pub mod Members
 pub mod LiveKeys
 pub mod Exact
+pub mod Paging
