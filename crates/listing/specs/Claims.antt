@@ -94,8 +94,8 @@ pages n docs clock start count =
     let new = listedKeys docs clock start count in
     new ++ morePages n docs clock (lastOr start new) count
 
--- so a planner who asks for at least two keys a page comes to the end of a full table: as many pages as there are documents show every key
+-- so a planner who asks for at least two keys a page comes to the end of a full table: as many pages as there are documents, the first and n more, show every key
 abbrev pub PagesAll : Type 0
 PagesAll =
     (docs : List Entry) (clock : ℕ) (start : Key) (count n : ℕ) → DistinctKeys docs → ((k : Key) (d : Doc) → findEntry docs k ≡ some d → length k ≤ 250)
-    → 2 ≤ count → length docs ≤ n → pages n docs clock start count ≡ keysFrom docs clock start
+    → 2 ≤ count → length docs ≤ suc n → pages n docs clock start count ≡ keysFrom docs clock start

@@ -50,7 +50,7 @@ use Rattle.promises.proofs.Liveness.{dead}
 use Rattle.promises.proofs.Alike.{Blind, blind-reply, put-dead, same-decision}
 
 -- ---- rows
-found-good : (mark : ℕ) (ws : List Row) (k : Key) (d : Doc) → AllGood mark ws → findRow ws k ≡ some d → EntryGood mark (record { key = k; doc = d })
+pub found-good : (mark : ℕ) (ws : List Row) (k : Key) (d : Doc) → AllGood mark ws → findRow ws k ≡ some d → EntryGood mark (record { key = k; doc = d })
 found-good mark [] k d g e = none-some d e
 found-good mark (none ∷ ws) k d g e = found-good mark ws k d g e
 found-good mark (some x ∷ ws) k d g e =

@@ -46,7 +46,7 @@ use Rattle.promises.specs.Replies.{Fits, ReplyFits, bareReply, silentMis
 
 -- ---- a reply that is put at the start of an area where it fits
 module _ (out xs : List ℕ) (h : length xs ≤ length out) where
-  put : written out 0 xs ≡ xs ++ drop (length xs) out
+  pub put : written out 0 xs ≡ xs ++ drop (length xs) out
   unfolding pasted
   put = written-fits out 0 xs (omega arith) ∙ ap (λ (n : ℕ). xs ++ drop n out) (let e : 0 + length xs ≡ length xs = omega arith in e)
 
