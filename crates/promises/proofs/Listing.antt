@@ -36,7 +36,7 @@ use Rattle.plain.specs.Claims.{Good}
 use Rattle.plain.proofs.PlainLaws.{plain-laws}
 use Rattle.plain.proofs.TableLaws.{sound-good}
 use Rattle.serving.specs.declared.Served.the-variants.{Done}
-use Rattle.serving.specs.Reply.{shownBy, replyHeader, replyBytes}
+use Rattle.serving.specs.Reply.{replyShows, replyHeader, replyBytes}
 use Rattle.serving.specs.Serve.{reachesDecision, decisionOn, frameEffect, frameReply, answerBy, replyBy, served, servedReply}
 use Rattle.serving.proofs.Formed.{no}
 use Rattle.promises.specs.Merge.{docAt}
@@ -107,7 +107,7 @@ module _ (b : List ℕ) (clock : ℕ) (s : List ℕ) (o : opcode s ≡ 0xb8) whe
     unfolding frameReply replyBytes replyHeader
     replies =
         let h = headerOf s in
-        let shown : Decision → List ℕ = λ d. shownBy (d .done .reply) (tableOf b .rows) clock (keyIn s) in
+        let shown : Decision → List ℕ = λ d. replyShows (d .done .reply) (tableOf b .rows) clock (keyIn s) in
         ap (λ (d : Decision). replyBytes (h .opcode) (h .opaque) d (keyIn s) (shown d)) decides
         ∙ ap (λ (n : ℕ). replyBytes n (h .opaque) (listDecision (tableOf b .head) (countIn s)) (keyIn s) (listingIn b clock s)) o
 
