@@ -65,7 +65,7 @@ stopped-here count room k f =
 
 stopped-next : (count room : ℕ) (k c : Key) (ks : List Key) → 1 ≤ count → keySize k ≤ room → Stopped (count - 1) (room - keySize k) ks c → Stopped count room (k ∷ ks) c
 stopped-next count room k c ks h g (inl e) = inl (omega arith)
-stopped-next count room k c ks h g (inr l) = inr (omega (arith, bytes-next k ks))
+stopped-next count room k c ks h g (inr l) = inr (omega (arith, bytes-more k (keysBytes ks)))
 
 pub left-stopped : (count room : ℕ) (ks : List Key) (c : Key) (cs : List Key) → left count room ks ≡ c ∷ cs → Stopped count room (taken count room ks) c
 left-stopped count room [] c cs e = let z : _≡_ {A = ℕ} 0 1 = cc in absurd (omega arith)
