@@ -6,10 +6,10 @@ use Rattle.request.specs.declared.Frame.{Frame}
 use Rattle.request.specs.declared.Fields.{Fields}
 use Rattle.request.specs.declared.Reading.{Reading}
 use Rattle.request.specs.declared.Reading.the-variants.{Outcome, Status, Accepted}
-use Rattle.request.specs.declared.Written.{Written}
-use Rattle.request.specs.declared.Written.the-variants.{Refused as NotWritten, NoRoom, Wrote}
+use Rattle.request_writer.specs.declared.Written.{Written}
+use Rattle.request_writer.specs.declared.Written.the-variants.{Refused as NotWritten, NoRoom, Wrote}
 use Rattle.request.specs.Reading.{readingOutcome, readingStatus}
-use Rattle.request.specs.Writing.{statusNo, outcomeNo}
+use Rattle.request_writer.specs.Writing.{statusNo, outcomeNo}
 use Rattle.serving.specs.declared.Served.{Served}
 use Rattle.serving.specs.Serve.{servedOutcome, servedStatus, servedUsed, servedLength, servedNeeded}
 use Rattle.owner.specs.declared.Document.{Document}

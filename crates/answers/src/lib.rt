@@ -8,7 +8,7 @@ use owner::Purged;
 use request::Frame;
 use request::Reading;
 use request::Span;
-use request::Written;
+use request_writer::Written;
 use run::Ran;
 use serving::Served;
 use tally::Tally;

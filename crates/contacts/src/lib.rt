@@ -5,7 +5,7 @@ ghost use lib.ListN.{length};
 ghost use Rattle.plain.specs.Damage.{sound};
 ghost use Rattle.owner.specs.Owner.{sizeOf, makeOutcome, made, readOf, purgeOf, purgedBytes};
 ghost use Rattle.request.specs.Reading.{reading};
-ghost use Rattle.request.specs.Writing.{writing, frameBytes, outputOf};
+ghost use Rattle.request_writer.specs.Writing.{writing, frameBytes, outputOf};
 ghost use Rattle.run.specs.Run.{begun, runEnd, ranOf};
 ghost use Rattle.contacts.specs.Contacts.{ServesOne};
 ghost use Rattle.answers.specs.Answers.{ranAnswer, documentAnswer, purgedAnswer, requestAnswer, fieldsFor, writtenAnswer};
@@ -127,5 +127,5 @@ pub extern "C" fn contacts_write_request(
         opaque,
         cas: Cas(cas),
     };
-    answers::written_answer(request::write(f, extras, key, value, out))
+    answers::written_answer(request_writer::write(f, extras, key, value, out))
 }

@@ -1,7 +1,7 @@
 // A boat's table, and requests on it: each is written as a frame, and the frame is served.
 use numbers::Cas;
 use request::Fields;
-use request::Written;
+use request_writer::Written;
 use serving::Served;
 
 const ACTIVE: u8 = 1;
@@ -53,6 +53,6 @@ pub(crate) fn send(
         cas,
     };
     let mut frame = [0u8; 256];
-    let n = size(request::write(f, extras, key, value, &mut frame));
+    let n = size(request_writer::write(f, extras, key, value, &mut frame));
     serve::serve_one(boat, call.clock, octets::part(&frame, 0, n), reply)
 }

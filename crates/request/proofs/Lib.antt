@@ -1,5 +1,3 @@
-pub mod Frames
 pub mod Gated
-pub mod WriterLaws
-pub mod RoundTrip
+pub mod Outcomes
 pub mod OneCall

@@ -4,7 +4,7 @@ use crate::show;
 use crate::text;
 use request::Frame;
 use request::Reading;
-use request::Written;
+use request_writer::Written;
 
 fn is_with_meta(opcode: u8) -> bool {
     match opcode {
@@ -19,7 +19,7 @@ fn show_again(received: &[u8], f: Frame) {
     let extras = parts::extras(received);
     let key = parts::key(received);
     let value = parts::value(received);
-    let size = match request::write(f.fields, extras, key, value, &mut out) {
+    let size = match request_writer::write(f.fields, extras, key, value, &mut out) {
         Written::Wrote(n) => n,
         _ => 0,
     };

@@ -5,7 +5,7 @@ use crate::show;
 use crate::text;
 use numbers::Cas;
 use request::Fields;
-use request::Written;
+use request_writer::Written;
 
 // What the output holds before the writer has it.
 const FILL: u8 = 0xee;
@@ -76,9 +76,9 @@ fn write_within(
     room: usize,
 ) -> Written {
     if out.len() <= room {
-        return request::write(f, extras, key, value, out);
+        return request_writer::write(f, extras, key, value, out);
     }
-    request::write(f, extras, key, value, &mut out[..room])
+    request_writer::write(f, extras, key, value, &mut out[..room])
 }
 
 // Shows too whether the output is what it was: after the frame, and all over where nothing is written.

@@ -9,8 +9,8 @@ use Rattle.octets.proofs.Lists.{then, then-two}
 use Rattle.header.specs.declared.Layout.{Layout}
 use Rattle.header.specs.Header.{headerBytes}
 use Rattle.header.proofs.HeaderLaws.{length-header}
-use Rattle.request.proofs.put_frame.Statement.{statement}
-use Rattle.request.proofs.put_frame.Tie as tie
+use Rattle.request_writer.proofs.put_frame.Statement.{statement}
+use Rattle.request_writer.proofs.put_frame.Tie as tie
 
 layout-of-requires : tie.Need-layout-of-requires
 layout-of-requires c κs = tt

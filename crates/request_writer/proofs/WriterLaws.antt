@@ -9,12 +9,12 @@ use lib.Dec.{ltb, leb, eqb}
 use borrow.Author.Tests.{le-ltb, lt-ltb, eq-eqb, ne-eqb, leb-true, leb-false}
 use Rattle.octets.proofs.Choices.{cases}
 use Rattle.rules.specs.Rules.{status}
 use Rattle.request.specs.declared.Fields.{Fields}
 use Rattle.request.specs.declared.Reading.the-variants.{Status, Accepted}
-use Rattle.request.specs.declared.Written.the-variants.{Refused, NoRoom, Wrote}
+use Rattle.request_writer.specs.declared.Written.the-variants.{Refused, NoRoom, Wrote}
 use Rattle.request.specs.Reading.{reading, frameOf}
-use Rattle.request.specs.Writing.{headerFor, frameBytes, lengthsHeld, refuses, writing, FieldsFit}
-use Rattle.request.proofs.Frames.{reading-long, reading-frame, length-frame, h, frame, body}
+use Rattle.request_writer.specs.Writing.{headerFor, frameBytes, lengthsHeld, refuses, writing, FieldsFit}
+use Rattle.request_writer.proofs.Frames.{reading-long, reading-frame, length-frame, h, frame, body}
 
 module _ (f : Fields) (extras key value : List ℕ) (room : ℕ) where
   size : ℕ

@@ -11,11 +11,11 @@ use Rattle.header.specs.declared.Layout.{Layout}
 use Rattle.header.specs.Header.{headerBytes}
 use Rattle.header.specs.Layout.{layoutOf}
 use Rattle.rules.specs.Rules.{status}
-use Rattle.request.specs.declared.Written.the-variants.{Wrote}
-use Rattle.request.specs.Writing.{headerFor, frameBytes, FieldsFit}
-use Rattle.request.proofs.WriterLaws.{too-long, wide-extras, against-rules, no-room, wrote, over-sum, small-sum}
-use Rattle.request.proofs.write.Statement.{statement}
-use Rattle.request.proofs.write.Tie as tie
+use Rattle.request_writer.specs.declared.Written.the-variants.{Wrote}
+use Rattle.request_writer.specs.Writing.{headerFor, frameBytes, FieldsFit}
+use Rattle.request_writer.proofs.WriterLaws.{too-long, wide-extras, against-rules, no-room, wrote, over-sum, small-sum}
+use Rattle.request_writer.proofs.write.Statement.{statement}
+use Rattle.request_writer.proofs.write.Tie as tie
 
 -- where a frame of the header for these lengths ends
 ends : (l : Layout) (h g : Header) → l ≡ layoutOf h → h ≡ g → l .end ≡ 24 + g .body

@@ -1,8 +1,8 @@
-use Rattle.request.specs.Writing.{headerFor}
+use Rattle.request_writer.specs.Writing.{headerFor}
 use mathlib.Core.Path.{refl}
 use borrow.Author.Needs.{needs}
-use Rattle.request.proofs.header_for.Statement.{statement}
-use Rattle.request.proofs.header_for.Tie as tie
+use Rattle.request_writer.proofs.header_for.Statement.{statement}
+use Rattle.request_writer.proofs.header_for.Tie as tie
 
 cast-t6 : tie.Need-cast-t6
 cast-t6 c = search needs

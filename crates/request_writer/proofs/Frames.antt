@@ -14,11 +14,11 @@ use Rattle.header.specs.declared.Header.{Header}
 use Rattle.header.specs.Header.{headerOf, headerBytes, HeaderFits as HeaderFits}
 use Rattle.header.proofs.HeaderLaws.{length-header, after-header, header-back}
 use Rattle.rules.specs.Rules.{status}
 use Rattle.request.specs.declared.Fields.{Fields}
 use Rattle.request.specs.declared.Gate.the-variants.{Stop, Whole}
 use Rattle.request.specs.declared.Reading.the-variants.{Outcome, Status, Accepted}
 use Rattle.request.specs.Reading.{gateOf, extrasSpan, keySpan, valueSpan, bytesIn, frameOf, frameStatus, wholeReading, reading}
-use Rattle.request.specs.Writing.{headerFor, frameBytes, lengthsHeld, FieldsFit}
+use Rattle.request_writer.specs.Writing.{headerFor, frameBytes, lengthsHeld, FieldsFit}
 
 -- a header that holds these lengths holds the whole request
 pub header-fits : (f : Fields) (e k v : ℕ) → FieldsFit f → lengthsHeld e k v ≡ true → HeaderFits (headerFor f e k v)

@@ -16,18 +16,18 @@ use Rattle.header.specs.Header.{headerOf, headerBytes}
 use Rattle.header.proofs.HeaderLaws.{header-again}
 use Rattle.rules.specs.Rules.{status}
 use Rattle.rules.proofs.RuleLaws.{parts-inside}
 use Rattle.request.specs.declared.Fields.{Fields}
 use Rattle.request.specs.declared.Frame.{Frame}
 use Rattle.request.specs.declared.Gate.{Gate}
 use Rattle.request.specs.declared.Gate.the-variants.{Stop, Whole}
 use Rattle.request.specs.declared.Reading.the-variants.{Accepted}
-use Rattle.request.specs.declared.Written.the-variants.{Refused, Wrote}
-use Rattle.request.specs.Reading.{gateOutcome, readingOutcome, gateOf, gated, extrasSpan, keySpan, valueSpan, bytesIn, fieldsOf, frameOf, frameStatus, wholeReading, reading}
-use Rattle.request.specs.Writing.{headerFor, frameBytes, lengthsHeld, refuses, writing, FieldsFit}
-use Rattle.request.specs.Claims.{GateDecides, Reads, WrittenReads, Writes, ReadWrites, RefusedReads, HeaderHolds}
+use Rattle.request_writer.specs.declared.Written.the-variants.{Refused, Wrote}
+use Rattle.request.specs.Reading.{gateOf, gated, extrasSpan, keySpan, valueSpan, bytesIn, fieldsOf, frameOf, frameStatus, wholeReading, reading}
+use Rattle.request_writer.specs.Writing.{headerFor, frameBytes, lengthsHeld, refuses, writing, FieldsFit}
+use Rattle.request_writer.specs.Claims.{Reads, WrittenReads, Writes, ReadWrites, RefusedReads, HeaderHolds}
 use Rattle.request.proofs.Gated.{WholeFrame, whole-frame}
-use Rattle.request.proofs.Frames.{h, frame, body, extras-back, key-back, value-back, reading-long, reading-frame}
-use Rattle.request.proofs.WriterLaws.{alone, wrote}
+use Rattle.request_writer.proofs.Frames.{h, frame, body, extras-back, key-back, value-back, reading-long, reading-frame}
+use Rattle.request_writer.proofs.WriterLaws.{alone, wrote}
 
 -- what a written frame has shown: a header holds its lengths, reading does not refuse it, and it fits
 pub record WasWritten (f : Fields) (extras key value : List ℕ) (room n : ℕ) : Type 0 where
@@ -118,15 +118,6 @@ was-whole : (s : List ℕ) (g : Frame) (h : Header) → wholeReading s h ≡ Acc
 unfolding wholeReading
 was-whole s g h e =
     cond-elim (eqb (frameStatus s h) 0) _ _ _ e (λ t z. (eqb-true _ _ t, cc)) (λ t z. absurd (let y : _≡_ {A = ℕ} 0 1 = cc in omega arith))
-
-gated-outcome : (s : List ℕ) (w : Gate) → readingOutcome (gated s w) ≡ gateOutcome w
-unfolding wholeReading
-gated-outcome s (Stop n need) = refl
-gated-outcome s (Whole h) = cases (eqb (frameStatus s h) 0) (λ t. rw t) (λ t. rw t)
-
-pub gate-decides : GateDecides
-unfolding reading
-gate-decides s = gated-outcome s (gateOf s)
 
 was-gated : (s : List ℕ) (g : Frame) (w : Gate) → gateOf s ≡ w → gated s w ≡ Accepted g → WasRead s g (headerOf s)
 was-gated s g (Stop n need) q e = absurd (let y : _≡_ {A = ℕ} 0 1 = cc in omega arith)

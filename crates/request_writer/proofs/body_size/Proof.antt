@@ -4,8 +4,8 @@ use native.Mathlib.Omega.{arith}
 use borrow.Author.Tests.{le-leb, lt-leb}
 use mathlib.Core.Path.{sym, ap}
 use borrow.Author.Needs.{needs}
-use Rattle.request.proofs.body_size.Statement.{statement}
-use Rattle.request.proofs.body_size.Tie as tie
+use Rattle.request_writer.proofs.body_size.Statement.{statement}
+use Rattle.request_writer.proofs.body_size.Tie as tie
 
 returns : tie.Need-returns
 returns c =

@@ -8,11 +8,11 @@ use lib.Dec.{ltb, eqb}
 use Rattle.octets.specs.Parts.{written}
 use Rattle.header.specs.Header.{headerBytes}
 use Rattle.header.specs.declared.Header.{Header}
 use Rattle.request.specs.declared.Fields.{Fields}
 use Rattle.request.specs.declared.Reading.{Reading}
-use Rattle.request.specs.declared.Written.{Written}
-use Rattle.request.specs.declared.Written.the-variants.{Refused, NoRoom, Wrote}
+use Rattle.request_writer.specs.declared.Written.{Written}
+use Rattle.request_writer.specs.declared.Written.the-variants.{Refused, NoRoom, Wrote}
 use Rattle.request.specs.Reading.{readingOutcome, readingStatus, reading}
 
 -- 01's numbers for an answer of the writer: status 0x04 or outcome 4, 0 where the frame was written
 abbrev pub statusNo : Written → ℕ
