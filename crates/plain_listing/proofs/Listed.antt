@@ -14,7 +14,7 @@ use Rattle.octets.proofs.Choices.{cases}
 use Rattle.keys.specs.Keys.{keyBelow}
 use Rattle.document.specs.Documents.{Key}
 use Rattle.document.specs.declared.Stored.the-variants.{Used}
-use Rattle.document.specs.Stored.{metadataOf, storedOf, live}
+use Rattle.document.specs.Stored.{metadataOf, storedOf, alive, live}
 use Rattle.listing.specs.Listing.{liveKeys, insertKey, sortKeys, fromKey, keysBytes, taken, keysFrom, listedKeys, listing}
 use Rattle.listing.proofs.Sorting.{from-insert}
 use Rattle.rows.specs.Row.{Row, slotOf, docOf, keyOf, rowOf}
@@ -37,12 +37,16 @@ module _ (clock : ℕ) (start : Key) (r : List ℕ) where
   listed-free e = rw (row-free r e)
 
   module _ (u : num r 0 2 ≡ 0 → ⊥) where
-    pub listed-dead : live (Used (metadataOf (docOf r))) clock ≡ false → isListed clock start (rowOf r) ≡ false
-    listed-dead e = rw (row-used r u, e)
+    row-alive : (kind expiry : ℕ) → kind ≡ num r 0 2 → expiry ≡ num r 12 4 → live (Used (metadataOf (docOf r))) clock ≡ alive (eqb kind 2) expiry clock
+    unfolding live docOf slotOf
+    row-alive kind expiry k e = rw (k, e)
 
-    pub listed-live : live (Used (metadataOf (docOf r))) clock ≡ true → isListed clock start (rowOf r) ≡ not (keyBelow (part r 32 (num r 2 2)) start)
+    pub listed-dead : (kind expiry : ℕ) → kind ≡ num r 0 2 → expiry ≡ num r 12 4 → alive (eqb kind 2) expiry clock ≡ false → isListed clock start (rowOf r) ≡ false
+    listed-dead kind expiry k x e = rw (row-used r u, row-alive kind expiry k x, e)
+
+    pub listed-live : (kind expiry : ℕ) → kind ≡ num r 0 2 → expiry ≡ num r 12 4 → alive (eqb kind 2) expiry clock ≡ true → isListed clock start (rowOf r) ≡ not (keyBelow (part r 32 (num r 2 2)) start)
     unfolding keyOf slotOf
-    listed-live e = rw (row-used r u, e)
+    listed-live kind expiry k x e = rw (row-used r u, row-alive kind expiry k x, e)
 
     pub listed-key : rowKey (rowOf r) ≡ keyOf r
     listed-key = rw (row-used r u)

@@ -10,7 +10,6 @@ ghost use Rattle.rows.specs.Row.{rowOf};
 ghost use Rattle.rows.specs.Table.{rowCount, rowAt, tableOf};
 ghost use Rattle.listing.specs.Listing.{insertKey, sortKeys, InOrder, taken, keysBytes};
 ghost use Rattle.plain_listing.specs.Places.{keyAt, keysOf, Within, isListed, withKey, keysListed, fittingKeys};
-use document::Stored;
 use keys::Side;
 use listing::LIMIT;
 use rows::FIXED;
@@ -46,10 +45,11 @@ fn is_below(s: &[u8], t: &[u8]) -> bool
 fn is_listed(r: &[u8], clock: u32, start: &[u8]) -> bool
     ensures { λ x. ⌜ x ≡ isListed clock (now (start .entry)) (rowOf (now (r .entry))) ⌝ }
 {
-    if octets::be16(r, 0) == 0 {
+    let kind = octets::be16(r, 0);
+    if kind == 0 {
         return false;
     }
-    if !document::live(Stored::Used(rows::row::metadata(r)), clock) {
+    if !document::alive(kind == 2, octets::be32(r, 12), clock) {
         return false;
     }
     !is_below(octets::part(r, FIXED, octets::be16(r, 2) as usize), start)

@@ -1,7 +1,4 @@
 use Rattle.plain_listing.proofs.Listed.{listed-free, listed-dead, listed-live}
-use Rattle.document.specs.Stored.{live}
-use Rattle.document.specs.declared.Stored.the-variants.{Used}
-use Rattle.document.specs.declared.Metadata.{Metadata}
 use Rattle.keys.specs.Keys.{keyBelow}
 use Rattle.octets.specs.Parts.{part}
 use borrow.Author.Tests.{not-true, not-false}
@@ -21,18 +18,18 @@ returns c =
     let a = c .before .before .before .before .args in
     sym (listed-free (a .clock) (a .start .now) (a .r .now) (sym (c .before .be16 .ensures) ∙ c .if1 .taken))
 
-metadata-requires : tie.Need-metadata-requires
-metadata-requires c κs = search needs
+be32-requires : tie.Need-be32-requires
+be32-requires c κs = search needs
 
-live-requires : tie.Need-live-requires
-live-requires c κs = search needs
+alive-requires : tie.Need-alive-requires
+alive-requires c κs = search needs
 
 returns-2 : tie.Need-returns-2
 returns-2 c =
-    let at7 = c .before .before .before .before .before .before .before in
-    let a = at7 .args in
-    sym (listed-dead (a .clock) (a .start .now) (a .r .now) (λ z. c .before .before .before .if1 .left (c .before .before .before .before .be16 .ensures ∙ z))
-    (ap (λ (m : Metadata). live (Used m) (a .clock)) (sym (c .before .before .metadata .ensures)) ∙ sym (c .before .live .ensures) ∙ not-true _ (c .if2 .taken)))
+    let kind = c .before .before .before .before .be16 .ensures in
+    let a = c .before .before .before .before .before .before .before .args in
+    sym (listed-dead (a .clock) (a .start .now) (a .r .now) (λ z. c .before .before .before .if1 .left (kind ∙ z)) _ _ kind (c .before .before .be32 .ensures)
+    (sym (c .before .alive .ensures) ∙ not-true _ (c .if2 .taken)))
 
 be16-requires-2 : tie.Need-be16-requires-2
 be16-requires-2 c κs = search needs
@@ -48,15 +45,12 @@ is-below-requires c κs = search needs
 
 returns-3 : tie.Need-returns-3
 returns-3 c =
-    let at5 = c .before .before .before .before .before in
-    let at6 = at5 .before in
-    let at7 = at6 .before in
-    let at10 = at7 .before .before .before in
-    let a = at10 .args in
+    let at6 = c .before .before .before .before .before .before in
+    let kind = at6 .before .be16 .ensures in
+    let a = at6 .before .before .before .before .args in
     ap not (c .is-below .ensures) ∙ ap (λ (k : List ℕ). not (keyBelow k (a .start .now))) (c .before .part .ensures ∙ ap (part (a .r .now) 32) (c .before .before .be162 .ensures))
-    ∙ sym (listed-live (a .clock) (a .start .now) (a .r .now) (λ z. at6 .if1 .left (at7 .be16 .ensures ∙ z))
-    (ap (λ (m : Metadata). live (Used m) (a .clock)) (sym (at5 .metadata .ensures))
-    ∙ sym (c .before .before .before .before .live .ensures) ∙ not-false _ (c .before .before .before .if2 .left)))
+    ∙ sym (listed-live (a .clock) (a .start .now) (a .r .now) (λ z. at6 .if1 .left (kind ∙ z)) _ _ kind (c .before .before .before .before .before .be32 .ensures)
+    (sym (c .before .before .before .before .alive .ensures) ∙ not-false _ (c .before .before .before .if2 .left)))
 
 pub is-listed-spec : {M : Type 1} → statement M
 is-listed-spec =
@@ -64,8 +58,8 @@ is-listed-spec =
     (tie.spec
     be16-requires
     returns
-    metadata-requires
-    live-requires
+    be32-requires
+    alive-requires
     returns-2
     be16-requires-2
     cast-part
