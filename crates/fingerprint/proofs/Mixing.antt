@@ -13,7 +13,8 @@ use borrow.Author.Tests.{le-leb, lt-leb, lt-ltb, le-ltb}
 use Rattle.octets.specs.Parts.{part}
 use Rattle.octets.specs.BigEndian.{num}
 use Rattle.octets.specs.Words.{wordAt}
-use Rattle.fingerprint.specs.Fingerprint.{turned, mixed, pair, mixedOver, mixedAll, folded, fingerprint, printAmong}
+use Rattle.fingerprint.specs.Fingerprint.{mixed, begun, further, joined, lanesOver, lanesAll, folded, fingerprint, printAmong}
+use Rattle.fingerprint.specs.declared.Lane.{Lane}
 
 fits : (m q : ℕ) → m < 2 ^ 59 → q < 32 → m * 32 + q < 2 ^ 64
 fits m q h k = omega arith
@@ -31,24 +32,27 @@ module _ (key : List ℕ) where
   middle h k = rw (lt-leb (length key) 8 h, lt-ltb (length key) 16 k)
 
 -- what is left of a key before its last sixteen bytes, in steps of sixteen
-abbrev pub left : List ℕ → ℕ → ℕ → ℕ
-left key at p = mixedOver ((length key - 16 - at + 15) / 16) p (drop at key)
+abbrev pub left : List ℕ → ℕ → Lane → Lane → ℕ
+left key at a b = lanesOver ((length key - 16 - at + 15) / 16) a b (drop at key)
 
-pub first-step : (key : List ℕ) → 16 ≤ length key → fingerprint key ≡ folded (left key 0 (pair (drop (length key - 16) key)))
-unfolding fingerprint mixedAll
+pub first-step : (key : List ℕ) → 16 ≤ length key
+    → fingerprint key ≡ folded (left key 0 (begun (wordAt (drop (length key - 16) key) 0)) (begun (wordAt (drop (length key - 16) key) 8)))
+unfolding fingerprint lanesAll
 first-step key h =
     let e : length key - 1 ≡ length key - 16 - 0 + 15 = omega arith in
     rw (lt-leb (length key) 8 (omega arith), le-ltb (length key) 16 h, e)
 
-pub next-step : (key : List ℕ) (at p : ℕ) → at < length key - 16 → left key at p ≡ left key (at + 16) (mixed (turned p) (pair (part key at 16)))
-unfolding mixedOver
-next-step key at p h =
+pub next-step : (key : List ℕ) (at : ℕ) (a b : Lane) → at < length key - 16
+    → left key at a b ≡ left key (at + 16) (further a (wordAt (part key at 16) 0)) (further b (wordAt (part key at 16) 8))
+unfolding lanesOver
+next-step key at a b h =
     let e : (length key - 16 - at + 15) / 16 ≡ suc ((length key - 16 - (at + 16) + 15) / 16) = omega arith in
-    ap (λ (n : ℕ). mixedOver n p (drop at key)) e ∙ ap (mixedOver ((length key - 16 - (at + 16) + 15) / 16) (mixed (turned p) (pair (part key at 16)))) (drop-drop 16 at key)
+    ap (λ (n : ℕ). lanesOver n a b (drop at key)) e
+    ∙ ap (lanesOver ((length key - 16 - (at + 16) + 15) / 16) (further a (wordAt (part key at 16) 0)) (further b (wordAt (part key at 16) 8))) (drop-drop 16 at key)
 
-pub last-step : (key : List ℕ) (at p : ℕ) → length key - 16 ≤ at → left key at p ≡ p
-unfolding mixedOver
-last-step key at p h = let e : (length key - 16 - at + 15) / 16 ≡ 0 = omega arith in ap (λ (n : ℕ). mixedOver n p (drop at key)) e
+pub last-step : (key : List ℕ) (at : ℕ) (a b : Lane) → length key - 16 ≤ at → left key at a b ≡ joined a b
+unfolding lanesOver
+last-step key at a b h = let e : (length key - 16 - at + 15) / 16 ≡ 0 = omega arith in ap (λ (n : ℕ). lanesOver n a b (drop at key)) e
 
 pub among-next : (p : ℕ) (qs : List ℕ) (i : ℕ) (found : Bool) → i < length qs → (found || printAmong p (drop i qs)) ≡ ((found || eqb (getD qs i 0) p) || printAmong p (drop (i + 1) qs))
 unfolding printAmong

@@ -7,6 +7,7 @@ use lib.Dec.{eqb, leb, ltb}
 use Rattle.octets.specs.Parts.{part}
 use Rattle.octets.specs.BigEndian.{num}
 use Rattle.octets.specs.Words.{wordAt}
+use Rattle.fingerprint.specs.declared.Lane.{Lane}
 
 -- the 64 bits of p turned by five
 unfoldable pub turned : ℕ → ℕ
@@ -17,21 +18,30 @@ unfoldable pub mixed : ℕ → ℕ → ℕ
 unfolding turned
 mixed p w = (turned p + w) % 2 ^ 64
 
--- the first sixteen bytes, as two words
-unfoldable pub pair : List ℕ → ℕ
-unfolding mixed wordAt
-pair s = mixed (wordAt s 0) (wordAt s 8)
+-- a lane of words is their sum and the sum of what that was after each of them, by which a word counts by its place too
+-- a lane of one word
+unfoldable pub begun : ℕ → Lane
+begun w = record { words = w; sums = w }
 
--- over n steps of sixteen bytes each
-unfoldable pub mixedOver : ℕ → ℕ → List ℕ → ℕ
-unfolding turned mixed pair
-mixedOver zero p key = p
-mixedOver (suc n) p key = mixedOver n (mixed (turned p) (pair (part key 0 16))) (drop 16 key)
+-- a lane with one word more, without the carries
+unfoldable pub further : Lane → ℕ → Lane
+further l w = record { words = (l .words + w) % 2 ^ 64; sums = (l .sums + (l .words + w) % 2 ^ 64) % 2 ^ 64 }
+
+-- two lanes as one number
+unfoldable pub joined : Lane → Lane → ℕ
+unfolding mixed
+joined a b = mixed (mixed (a .sums) (a .words)) (mixed (b .sums) (b .words))
+
+-- two lanes over n steps of sixteen bytes each: one has the first word of every step, the other the second
+unfoldable pub lanesOver : ℕ → Lane → Lane → List ℕ → ℕ
+unfolding further joined wordAt
+lanesOver zero a b key = joined a b
+lanesOver (suc n) a b key = lanesOver n (further a (wordAt (part key 0 16) 0)) (further b (wordAt (part key 0 16) 8)) (drop 16 key)
 
 -- the last sixteen bytes, and every sixteen from the front until those are reached
-unfoldable pub mixedAll : List ℕ → ℕ
-unfolding pair mixedOver
-mixedAll key = mixedOver ((length key - 1) / 16) (pair (drop (length key - 16) key)) key
+unfoldable pub lanesAll : List ℕ → ℕ
+unfolding begun lanesOver wordAt
+lanesAll key = let tail = drop (length key - 16) key in lanesOver ((length key - 1) / 16) (begun (wordAt tail 0)) (begun (wordAt tail 8)) key
 
 -- the two halves added, without the carry
 unfoldable pub folded : ℕ → ℕ
@@ -39,8 +49,8 @@ folded p = (p / 2 ^ 32 + p % 2 ^ 32) % 2 ^ 32
 
 -- a short key is one number, one of nine to fifteen bytes two that overlap
 unfoldable pub fingerprint : List ℕ → ℕ
-unfolding mixed wordAt mixedAll folded
-fingerprint key = folded (cond (leb (length key) 8) (num key 0 8) (cond (ltb (length key) 16) (mixed (wordAt key 0) (wordAt key (length key - 8))) (mixedAll key)))
+unfolding mixed wordAt lanesAll folded
+fingerprint key = folded (cond (leb (length key) 8) (num key 0 8) (cond (ltb (length key) 16) (mixed (wordAt key 0) (wordAt key (length key - 8))) (lanesAll key)))
 
 -- which of 1,024 buckets a fingerprint falls in: the ten bits of the product that hang on the most bits of p
 unfoldable pub bucketOf : ℕ → ℕ

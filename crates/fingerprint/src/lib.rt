@@ -1,6 +1,6 @@
 // Fingerprints: a number that equal keys share, so that two keys are compared only where their fingerprints agree.
 ghost use mathlib.Core.Path.{_≡_};
-ghost use Rattle.fingerprint.specs.Fingerprint.{turned, mixed, pair, folded, fingerprint, bucketOf, printAmong};
+ghost use Rattle.fingerprint.specs.Fingerprint.{turned, mixed, begun, further, joined, folded, fingerprint, bucketOf, printAmong};
 
 // The bits of p turned by five.
 fn turned(p: u64) -> u64
@@ -16,11 +16,33 @@ fn mix(p: u64, w: u64) -> u64
     std::num::wrapping_add_u64(turned(p), w)
 }
 
-// The first sixteen bytes, as two words.
-fn pair(s: &[u8]) -> u64
-    ensures { λ r. ⌜ r ≡ pair (now (s .entry)) ⌝ }
+// A lane of words: their sum, and the sum of what that was after each of them, by which a word counts by its place too.
+struct Lane {
+    words: u64,
+    sums: u64,
+}
+
+// A lane of one word.
+fn begun(w: u64) -> Lane
+    ensures { λ r. ⌜ r ≡ begun w ⌝ }
 {
-    mix(octets::word(s, 0), octets::word(s, 8))
+    Lane { words: w, sums: w }
+}
+
+// A lane with one word more.
+fn further(l: Lane, w: u64) -> Lane
+    ensures { λ r. ⌜ r ≡ further l w ⌝ }
+{
+    let words = std::num::wrapping_add_u64(l.words, w);
+    let sums = std::num::wrapping_add_u64(l.sums, words);
+    Lane { words, sums }
+}
+
+// Two lanes as one number.
+fn joined(a: Lane, b: Lane) -> u64
+    ensures { λ r. ⌜ r ≡ joined a b ⌝ }
+{
+    mix(mix(a.sums, a.words), mix(b.sums, b.words))
 }
 
 // The two halves added: 32 bits are quicker to compare.
@@ -30,7 +52,8 @@ fn folded(p: u64) -> u32
     ((p / 4294967296 + p % 4294967296) % 4294967296) as u32
 }
 
-// Sixteen bytes a step, which are cut out first so that each word is one load with no test.
+// Sixteen bytes a step, which are cut out first so that each word is one load with no test. The two lanes don't wait for each
+// other.
 pub fn of_key(key: &[u8]) -> u32
     ensures { λ r. ⌜ r ≡ fingerprint (now (key .entry)) ⌝ }
 {
@@ -41,14 +64,18 @@ pub fn of_key(key: &[u8]) -> u32
         return folded(mix(octets::word(key, 0), octets::word(key, key.len() - 8)));
     }
     let last = key.len() - 16;
-    let mut p = pair(&key[last..]);
+    let tail = &key[last..];
+    let mut a = begun(octets::word(tail, 0));
+    let mut b = begun(octets::word(tail, 8));
     let mut at: usize = 0;
     while at < last {
         let end = at + 16;
-        p = mix(turned(p), pair(&key[at..end]));
+        let step = &key[at..end];
+        a = further(a, octets::word(step, 0));
+        b = further(b, octets::word(step, 8));
         at = end;
     }
-    folded(p)
+    folded(joined(a, b))
 }
 
 // Which of 1,024 buckets a fingerprint falls in.

@@ -96,10 +96,39 @@ module _ (s : List ℕ) (at : ℕ) where
   unfolding pasted
   pasted-self n h = rw (part-length s at n h, glue-rest s at n) (sym (take-append-drop at s))
 
+  -- a write over one that is not longer
+  pub pasted-twice : (xs ys : List ℕ) → length xs ≤ length ys → at + length ys ≤ length s → pasted (pasted s at xs) at ys ≡ pasted s at ys
+  unfolding pasted
+  pasted-twice xs ys h k =
+      let l : length (take at s ++ xs) ≡ at + length xs = simp (length-append, length-take) (omega arith) in
+      let e : at + length ys ≡ at + length xs + (length ys - length xs) = omega arith in
+      let d : drop (at + length ys) (take at s ++ (xs ++ drop (at + length xs) s)) ≡ drop (at + length ys) s =
+      rw (e, ← append-assoc (take at s) xs (drop (at + length xs) s), drop-past (take at s ++ xs) (drop (at + length xs) s) (at + length xs) (length ys - length xs) l)
+      (drop-drop (length ys - length xs) (at + length xs) s) in
+      rw (take-at (take at s) (xs ++ drop (at + length xs) s) at (length-take-le at s (omega arith)), d)
+
   pub zero-more : (i : ℕ) → at + i < length s → set (pasted s at (replicate i 0)) (at + i) 0 ≡ pasted s at (replicate (i + 1) 0)
   zero-more i k =
       let e : length (replicate {A = ℕ} i 0) ≡ i = length-replicate i 0 in
       rw (← replicate-append-replicate {A = ℕ} i 1 0, ← pasted-push (replicate i 0) 0 (omega arith), e)
+
+-- two parts that cover what is written
+pub pasted-cover : (s : List ℕ) (at : ℕ) (xs : List ℕ) (n m : ℕ) → m ≤ n → n ≤ length xs → at + length xs ≤ length s
+    → pasted (pasted s at (take n xs)) (at + m) (drop m xs) ≡ pasted s at xs
+pasted-cover s at xs n m h k f =
+    let l : length (take m xs) ≡ m = length-take-le m xs (omega arith) in
+    let r : length (take (n - m) (drop m xs)) ≡ n - m = part-length xs m (n - m) (omega arith) in
+    let q : length (drop m xs) ≡ length xs - m = length-drop m xs in
+    let e : m + (n - m) ≡ n = omega arith in
+    let first = pasted s at (take m xs) in
+    let w : length first ≡ length s = length-pasted s at (take m xs) (omega arith) in
+    let c : take n xs ≡ take m xs ++ take (n - m) (drop m xs) = ap (λ (j : ℕ). take j xs) (sym e) ∙ take-add m (n - m) xs in
+    let on : (ys : List ℕ) → m + length ys ≤ length xs → pasted first (at + m) ys ≡ pasted s at (take m xs ++ ys) =
+    λ ys j. ap (λ (i : ℕ). pasted first (at + i) ys) (sym l) ∙ pasted-on s at (take m xs) ys (omega arith) in
+    ap (λ (t : List ℕ). pasted t (at + m) (drop m xs)) (ap (pasted s at) c ∙ sym (on (take (n - m) (drop m xs)) (omega arith)))
+    ∙ pasted-twice first (at + m) (take (n - m) (drop m xs)) (drop m xs) (omega arith) (omega arith)
+    ∙ on (drop m xs) (omega arith)
+    ∙ ap (pasted s at) (take-append-drop m xs)
 
 -- a write past a first part, and a write over it
 pub pasted-skip : (p r : List ℕ) (n j : ℕ) (xs : List ℕ) → length p ≡ n → pasted (p ++ r) (n + j) xs ≡ p ++ pasted r j xs

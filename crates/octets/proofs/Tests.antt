@@ -7,7 +7,7 @@ use mathlib.Core.List.{List, [], _∷_}
 use Prim.Native.Nat.{ℕ, zero, suc, _+_, _≤_, _<_}
 use lib.Dec.{eqb}
 use lib.Bits.{bitOr, or-add-and, and-le-l, and-le-r}
-use lib.ListN.{length, drop, getD, replicate, drop-of-length-le}
+use lib.ListN.{length, take, drop, getD, replicate, drop-of-length-le}
 use lib.Seq.{drop-cons}
 use borrow.Author.Tests.{eqb-true, eqb-false, eq-eqb, ne-eqb}
 use Rattle.octets.specs.Compare.{zeros, same}
@@ -77,3 +77,29 @@ same-next s t i false h k = rw (add-one, drop-cons s i 0 h, drop-cons t i 0 k, B
 pub same-end : (s t : List ℕ) (i : ℕ) (apart : Bool) → length s ≤ i → length t ≤ i → (not apart && same (drop i s) (drop i t)) ≡ not apart
 unfolding same
 same-end s t i apart h k = rw (drop-of-length-le s h, drop-of-length-le t k) (and-true (not apart))
+
+-- two parts that cover a list between them
+pub zeros-cover : (s : List ℕ) (n m : ℕ) → m ≤ n → (zeros (take n s) && zeros (drop m s)) ≡ zeros s
+unfolding zeros
+zeros-cover s zero zero h = refl
+zeros-cover s zero (suc m) h = absurd (omega arith)
+zeros-cover [] (suc n) zero h = refl
+zeros-cover (x ∷ s) (suc n) zero h = cases (eqb x 0) (λ e. rw e (zeros-cover s n zero (omega arith))) (λ e. rw e)
+zeros-cover [] (suc n) (suc m) h = refl
+zeros-cover (x ∷ s) (suc n) (suc m) h =
+    and-assoc (eqb x 0) (zeros (take n s)) (zeros (drop m s)) ∙ ap (λ (b : Bool). eqb x 0 && b) (zeros-cover s n m (omega arith))
+
+pub same-cover : (s t : List ℕ) (n m : ℕ) → m ≤ n → (same (take n s) (take n t) && same (drop m s) (drop m t)) ≡ same s t
+unfolding same
+same-cover s t zero zero h = refl
+same-cover s t zero (suc m) h = absurd (omega arith)
+same-cover [] [] (suc n) zero h = refl
+same-cover [] (y ∷ t) (suc n) zero h = refl
+same-cover (x ∷ s) [] (suc n) zero h = refl
+same-cover (x ∷ s) (y ∷ t) (suc n) zero h = cases (eqb x y) (λ e. rw e (same-cover s t n zero (omega arith))) (λ e. rw e)
+same-cover [] [] (suc n) (suc m) h = refl
+same-cover [] (y ∷ t) (suc n) (suc m) h = refl
+same-cover (x ∷ s) [] (suc n) (suc m) h = refl
+same-cover (x ∷ s) (y ∷ t) (suc n) (suc m) h =
+    and-assoc (eqb x y) (same (take n s) (take n t)) (same (drop m s) (drop m t))
+    ∙ ap (λ (b : Bool). eqb x y && b) (same-cover s t n m (omega arith))

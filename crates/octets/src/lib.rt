@@ -160,12 +160,38 @@ pub fn put_be(out: &mut [u8], at: usize, n: usize, v: u64)
     }
 }
 
+fn paste(out: &mut [u8], at: usize, s: &[u8])
+    requires { ⌜ at + length (now s) ≤ length (now out) ⌝ }
+    ensures { λ _. ⌜ now (out .exit) ≡ pasted (now (out .entry)) at (now (s .entry)) ⌝ }
+{
+    bytes::copy(s, &mut out[at..]);
+}
+
+// The same by 32 bytes, and the last 32 once more, so that no byte is left to a slower loop. Those go by an array, which the
+// compiler knows to be apart from the rest.
+fn paste_run(out: &mut [u8], at: usize, s: &[u8])
+    requires { ⌜ (32 ≤ length (now s)) × (at + length (now s) ≤ length (now out)) ⌝ }
+    ensures { λ _. ⌜ now (out .exit) ≡ pasted (now (out .entry)) at (now (s .entry)) ⌝ }
+{
+    let whole = s.len() / 32 * 32;
+    let last = s.len() - 32;
+    paste(out, at, &s[..whole]);
+    let mut end = [0u8; 32];
+    bytes::copy(&s[last..], &mut end);
+    paste(out, at + last, &end);
+}
+
 pub fn put_bytes(out: &mut [u8], at: usize, s: &[u8])
     ensures { λ _. ⌜ now (out .exit) ≡ written (now (out .entry)) at (now (s .entry)) ⌝ }
 {
-    if fits(out.len(), at, s.len()) {
-        bytes::copy(s, &mut out[at..]);
+    if !fits(out.len(), at, s.len()) {
+        return;
     }
+    if s.len() < 32 {
+        paste(out, at, s);
+        return;
+    }
+    paste_run(out, at, s);
 }
 
 fn paste_zeros(out: &mut [u8], at: usize, n: usize)
@@ -200,6 +226,19 @@ pub fn all_zero(s: &[u8]) -> bool
     seen == 0
 }
 
+// The same, where the compiler doesn't know the length: by 32 bytes and the last 32 once more, so that no byte is left to a
+// slower loop.
+pub fn zero_run(s: &[u8]) -> bool
+    ensures { λ r. ⌜ r ≡ zeros (now (s .entry)) ⌝ }
+{
+    if s.len() < 32 {
+        return all_zero(s);
+    }
+    let whole = s.len() / 32 * 32;
+    let last = s.len() - 32;
+    all_zero(&s[..whole]) & all_zero(&s[last..])
+}
+
 // Whether two slices of one length hold the same bytes. With no way out of its loop it is compiled to vector code.
 fn all_same(s: &[u8], t: &[u8]) -> bool
     requires { ⌜ length (now s) ≡ length (now t) ⌝ }
@@ -212,6 +251,19 @@ fn all_same(s: &[u8], t: &[u8]) -> bool
         i += 1;
     }
     !apart
+}
+
+// The same by 32 bytes, and the last 32 once more.
+fn same_run(s: &[u8], t: &[u8]) -> bool
+    requires { ⌜ length (now s) ≡ length (now t) ⌝ }
+    ensures { λ r. ⌜ r ≡ same (now (s .entry)) (now (t .entry)) ⌝ }
+{
+    if s.len() < 32 {
+        return all_same(s, t);
+    }
+    let whole = s.len() / 32 * 32;
+    let last = s.len() - 32;
+    all_same(&s[..whole], &t[..whole]) & all_same(&s[last..], &t[last..])
 }
 
 // Whether two slices hold the same bytes: the last eight first, since keys that begin alike differ at their end.
@@ -227,5 +279,5 @@ pub fn same(s: &[u8], t: &[u8]) -> bool
             return false;
         }
     }
-    all_same(s, t)
+    same_run(s, t)
 }

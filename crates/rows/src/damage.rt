@@ -47,7 +47,7 @@ pub fn row_sound(r: &[u8], mark: u64) -> bool
     }
     let s = slot_here(r);
     let used = s.keylen as usize + s.vallen as usize;
-    used_ok(s, mark) & octets::all_zero(octets::rest(r, FIXED + used))
+    used_ok(s, mark) & octets::zero_run(octets::rest(r, FIXED + used))
 }
 
 pub fn head_ok(h: Head) -> bool

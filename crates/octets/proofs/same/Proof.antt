@@ -26,8 +26,8 @@ returns-2 c =
     let a = c .before .before .before .before .before .before .before .args in
     sym (same-stop (λ (l : List ℕ). wordAt l (length (a .s .now) - 8)) (a .s .now) (a .t .now) _ _ (c .before .before .word .ensures) (c .before .word2 .ensures) (c .if3 .taken))
 
-all-same-requires : tie.Need-all-same-requires
-all-same-requires c κs = search needs
+same-run-requires : tie.Need-same-run-requires
+same-run-requires c κs = search needs
 
 returns-3 : tie.Need-returns-3
 returns-3 c = search needs
@@ -35,4 +35,4 @@ returns-3 c = search needs
 pub same-spec : {M : Type 1} → statement M
 same-spec =
     tie.close
-    (tie.spec returns sub-last word-requires word-requires-2 returns-2 all-same-requires returns-3)
+    (tie.spec returns sub-last word-requires word-requires-2 returns-2 same-run-requires returns-3)

@@ -41,15 +41,15 @@ add-rest c = search needs
 rest-requires : tie.Need-rest-requires
 rest-requires c κs = search needs
 
-all-zero-requires-2 : tie.Need-all-zero-requires-2
-all-zero-requires-2 c κs = search needs
+zero-run-requires : tie.Need-zero-run-requires
+zero-run-requires c κs = search needs
 
 returns-2 : tie.Need-returns-2
 unfolding slotOf
 returns-2 c =
     let r = c .before .before .before .before .before .before .before .before .before .args .r .now in
     let mark = c .before .before .before .before .before .before .before .before .before .args .mark in
-    (λ i. c .before .before .used-ok .ensures i && (c .all-zero2 .ensures ∙ ap zeros (c .before .rest .ensures)) i)
+    (λ i. c .before .before .used-ok .ensures i && (c .zero-run .ensures ∙ ap zeros (c .before .rest .ensures)) i)
     ∙ ap (λ (h : Slot). usedOk mark h && zeros (drop (32 + (h .keylen + h .vallen)) r)) (c .before .before .before .before .before .slot-here .ensures)
     ∙ sym (sound-used r mark (λ z. c .before .before .before .before .before .before .if1 .left (c .before .before .before .before .before .before .before .be16 .ensures ∙ z)))
 
@@ -67,5 +67,5 @@ row-sound-spec =
     used-ok-requires
     add-rest
     rest-requires
-    all-zero-requires-2
+    zero-run-requires
     returns-2)
