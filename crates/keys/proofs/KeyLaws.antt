@@ -171,12 +171,12 @@ word-alike s t i y w h k e f =
     let p : part s i 8 ≡ part t i 8 = little-same (part s i 8) (part t i 8) (bytes-part s i 8 y) (bytes-part t i 8 w) (part-length s i 8 h ∙ sym (part-length t i 8 k)) q in
     take-add i 8 s ∙ (λ j. e j ++ p j) ∙ sym (take-add i 8 t)
 
--- a block that is the same
-pub block-alike : (s t : List ℕ) (i : ℕ) → take i s ≡ take i t → same (part s i (i + 32 - i)) (part t i (i + 32 - i)) ≡ true → take (i + 32) s ≡ take (i + 32) t
-block-alike s t i e f =
-    let n : i + 32 - i ≡ 32 = omega arith in
-    let p : part s i 32 ≡ part t i 32 = rw n at (same-true (part s i (i + 32 - i)) (part t i (i + 32 - i)) f) in
-    take-add i 32 s ∙ (λ j. e j ++ p j) ∙ sym (take-add i 32 t)
+-- n bytes more that are the same
+pub alike-more : (n : ℕ) (s t : List ℕ) (i : ℕ) → take i s ≡ take i t → same (part s i (i + n - i)) (part t i (i + n - i)) ≡ true → take (i + n) s ≡ take (i + n) t
+alike-more n s t i e f =
+    let m : i + n - i ≡ n = omega arith in
+    let p : part s i n ≡ part t i n = rw m at (same-true (part s i (i + n - i)) (part t i (i + n - i)) f) in
+    take-add i n s ∙ (λ j. e j ++ p j) ∙ sym (take-add i n t)
 
 -- room for n bytes in both
 pub both-least : (n a b : ℕ) → (leb n a && leb n b) ≡ true → (n ≤ a) × (n ≤ b)

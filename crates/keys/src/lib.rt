@@ -13,7 +13,21 @@ pub enum Side {
     Greater,
 }
 
-// Whether 32 bytes are the same. With no way out of its loop it is compiled to vector code.
+// Whether 96 bytes are the same. With no way out of its loop it is compiled to vector code, here and below.
+fn same_run(s: &[u8], t: &[u8]) -> bool
+    requires { ⌜ (length (now s) ≡ 96) × (length (now t) ≡ 96) ⌝ }
+    ensures { λ r. ⌜ r ≡ same (now (s .entry)) (now (t .entry)) ⌝ }
+{
+    let mut apart = false;
+    let mut i: usize = 0;
+    while i < 96 {
+        apart = apart | (s[i] != t[i]);
+        i += 1;
+    }
+    !apart
+}
+
+// Whether 32 bytes are the same.
 fn same_block(s: &[u8], t: &[u8]) -> bool
     requires { ⌜ (length (now s) ≡ 32) × (length (now t) ≡ 32) ⌝ }
     ensures { λ r. ⌜ r ≡ same (now (s .entry)) (now (t .entry)) ⌝ }
@@ -27,11 +41,27 @@ fn same_block(s: &[u8], t: &[u8]) -> bool
     !apart
 }
 
-// A place up to which two slices are alike, found by blocks of 32 bytes.
-fn alike_blocks(s: &[u8], t: &[u8]) -> usize
+// A place up to which two slices are alike, found by runs of 96 bytes.
+fn alike_runs(s: &[u8], t: &[u8]) -> usize
     ensures { λ r. ⌜ ((r ≤ length (now (s .entry))) × (r ≤ length (now (t .entry)))) × (take r (now (s .entry)) ≡ take r (now (t .entry))) ⌝ }
 {
     let mut i: usize = 0;
+    while (96 <= s.len() - i) & (96 <= t.len() - i) {
+        let end = i + 96;
+        if !same_run(&s[i..end], &t[i..end]) {
+            return i;
+        }
+        i += 96;
+    }
+    i
+}
+
+// From there on, by blocks of 32 bytes.
+fn alike_blocks(s: &[u8], t: &[u8], at: usize) -> usize
+    requires { ⌜ ((at ≤ length (now s)) × (at ≤ length (now t))) × (take at (now s) ≡ take at (now t)) ⌝ }
+    ensures { λ r. ⌜ ((r ≤ length (now (s .entry))) × (r ≤ length (now (t .entry)))) × (take r (now (s .entry)) ≡ take r (now (t .entry))) ⌝ }
+{
+    let mut i = at;
     while (32 <= s.len() - i) & (32 <= t.len() - i) {
         let end = i + 32;
         if !same_block(&s[i..end], &t[i..end]) {
@@ -103,5 +133,9 @@ fn side_from(s: &[u8], t: &[u8], at: usize) -> Side
 pub fn compare(s: &[u8], t: &[u8]) -> Side
     ensures { λ r. ⌜ r ≡ sideOf (now (s .entry)) (now (t .entry)) ⌝ }
 {
-    side_from(s, t, alike_words(s, t, alike_blocks(s, t)))
+    side_from(
+        s,
+        t,
+        alike_words(s, t, alike_blocks(s, t, alike_runs(s, t))),
+    )
 }
