@@ -44,6 +44,7 @@ extern "C" {
 #define CONTACTS_FRAME_HEADER 24
 #define CONTACTS_FRAME_MAX 1424     /* the longest request: header and body */
 #define CONTACTS_REPLY_ROOM 1302    /* what serving asks for: header, flags, key and value of the longest reply */
+#define CONTACTS_LISTING_MAX 1278   /* the longest value of a Get Keys reply: that room without the header */
 #define CONTACTS_TABLE_HEADER 16
 #define CONTACTS_ROW_SIZE 1312
 
@@ -149,6 +150,7 @@ extern "C" {
 #define CONTACTS_OP_ADDQ_WITH_META 0xa5
 #define CONTACTS_OP_DELETE_WITH_META 0xa8     /* 24, 26, 28 or 30 extras, key, meta */
 #define CONTACTS_OP_DELETEQ_WITH_META 0xa9
+#define CONTACTS_OP_GET_KEYS 0xb8             /* no extras or 4, no key or one to start at; never quiet */
 
 /* Extras of Set, Add and Replace. An expiry of 0 is never, 1 to 2,592,000 is added to the clock, above is absolute. */
 #define CONTACTS_SET_EXTRAS 8
@@ -162,6 +164,11 @@ extern "C" {
 #define CONTACTS_COUNTER_AT_INITIAL 8         /* 8 bytes */
 #define CONTACTS_COUNTER_AT_EXPIRY 16         /* 4 bytes */
 #define CONTACTS_COUNTER_NO_INITIAL 0xffffffff
+
+/* Extras of Get Keys: the most keys to list, 1 or more. Without extras it is CONTACTS_KEYS_COUNT. */
+#define CONTACTS_KEYS_EXTRAS 4
+#define CONTACTS_KEYS_AT_COUNT 0              /* 4 bytes */
+#define CONTACTS_KEYS_COUNT 1000
 
 /* Extras of the with-meta commands. The expiry is absolute. CAS is 1 to CONTACTS_META_MAX, revision 0 to that. */
 #define CONTACTS_META_EXTRAS 24               /* flags, expiry, revision, CAS */
@@ -268,9 +275,9 @@ contacts_purged contacts_purge(uint8_t *table, size_t table_len, uint32_t clock,
  *   0x83, 0x81   the opcode isn't among those above: 0x83 for 07, 08, 0e, 0f, 10 and 17 to 1a
  *   0x04         the datatype isn't 0; extras and key are longer than the body; extras, key or value aren't what the
  *                command carries; the key is over 250 bytes; the clock and a relative expiry pass 2^32 - 1, even where
- *                the expiry goes unused; with meta, also: CAS or revision out of range; option bits other than 0x0f;
- *                option 0x04 without 0x08; option 0x02 missing in last-write-wins or set in revision mode; flags or
- *                expiry of a Delete not 0; broken extended meta
+ *                the expiry goes unused; the count of Get Keys is 0; with meta, also: CAS or revision out of range;
+ *                option bits other than 0x0f; option 0x04 without 0x08; option 0x02 missing in last-write-wins or set
+ *                in revision mode; flags or expiry of a Delete not 0; broken extended meta
  *   0x03         the value is over 1,024 bytes, extended meta not counted
  *   0x07         another vbucket, or a state that isn't active, save with option 0x01 in states 2 and 3. Noop and
  *                Version never have it
@@ -293,6 +300,14 @@ contacts_purged contacts_purge(uint8_t *table, size_t table_len, uint32_t clock,
  *              expiry. The reply's value is the number in 8 bytes
  *   Noop       replies a header, and Version the value 4.0.0, both with CAS 0
  *   with meta  stores the document or tombstone with the numbers in its extras
+ *   Get Keys   replies as its value, with CAS 0, the keys of live documents at or after its key, or all without one,
+ *              in rising order of bytes, a prefix first: for each its length in 4 bytes and its bytes. It ends with the
+ *              last key, at the count, or before the first key that would carry it past 1,278 bytes. Where there is no
+ *              such key the value is empty
+ *
+ * To list a table that doesn't fit one reply, ask again from the last key listed, with a count of 2 or more, and leave
+ * out the answer's first key where it is that one: it is there again if it is still live. All is listed where nothing
+ * else comes. A change between the calls shows where its key comes after the last one listed.
  *
  * A plain write stores CAS mark + 1, and revision 1 or one more than that of the key's row, an expired one or a
  * tombstone too. A with-meta write stores its own numbers, but CAS mark + 1 under option 0x04. Both raise the mark to

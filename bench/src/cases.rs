@@ -15,7 +15,7 @@ const VALUE: [u8; 512] = [b'v'; 512];
 #[derive(Clone, Copy, Debug, PartialEq, Eq)]
 pub enum Fill {
     Free,
-    /// Every row a document, the keys in rising order: the best case of a test for equal keys that sorts.
+    /// Every row a document, the keys in rising order: the best case of a test for equal keys or a listing that sorts.
     Rising,
     /// Every row a document, the keys in no order.
     Scattered,
@@ -95,16 +95,19 @@ pub enum Request {
     SetWithMeta,
     SetWithMetaRefused,
     Noop,
+    /// Without a start and a count.
+    GetKeys,
 }
 
 impl Request {
-    const ALL: [Request; 6] = [
+    const ALL: [Request; 7] = [
         Request::GetHit,
         Request::GetMiss,
         Request::Set,
         Request::SetWithMeta,
         Request::SetWithMetaRefused,
         Request::Noop,
+        Request::GetKeys,
     ];
 
     pub fn name(self) -> &'static str {
@@ -115,6 +118,7 @@ impl Request {
             Request::SetWithMeta => "Set with meta, stored",
             Request::SetWithMetaRefused => "Set with meta, refused",
             Request::Noop => "Noop",
+            Request::GetKeys => "Get Keys",
         }
     }
 
@@ -122,15 +126,15 @@ impl Request {
         match self {
             Request::GetMiss => Status::NotFound,
             Request::SetWithMetaRefused => Status::Exists,
-            Request::GetHit | Request::Set | Request::SetWithMeta | Request::Noop => Status::Success,
+            Request::GetHit | Request::Set | Request::SetWithMeta | Request::Noop | Request::GetKeys => Status::Success,
         }
     }
 
-    /// A free table has nothing to hit or to lose against, and Noop has no key.
+    /// A free table has nothing to hit or to lose against, and Noop and Get Keys have no key.
     fn suits(self, table: &Table) -> bool {
         match self {
             Request::GetHit | Request::SetWithMetaRefused => !table.is_free(),
-            Request::Noop => !table.is_free() || table.key == SHORT,
+            Request::Noop | Request::GetKeys => !table.is_free() || table.key == SHORT,
             Request::GetMiss | Request::Set | Request::SetWithMeta => true,
         }
     }
@@ -154,6 +158,11 @@ impl Case {
                 }
             }
         }
+        // The order of the rows counts where keys are sorted.
+        for key in [SHORT, LONG] {
+            let table = Table { rows: 256, fill: Fill::Scattered, key };
+            cases.push(Case { table, request: Request::GetKeys });
+        }
         cases
     }
 
@@ -167,6 +176,7 @@ impl Case {
             Request::SetWithMeta => set_with_meta(last, 2),
             Request::SetWithMetaRefused => set_with_meta(last, 0),
             Request::Noop => frame(opcode::NOOP, vec![], vec![], &[]),
+            Request::GetKeys => frame(opcode::GET_KEYS, vec![], vec![], &[]),
         }
     }
 }

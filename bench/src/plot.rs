@@ -1,6 +1,6 @@
 //! Serving as a dot plot in SVG: a line for each case, time on a logarithmic axis.
 
-use crate::cases::{Case, Table};
+use crate::cases::{Case, Fill, Table};
 use crate::race::Times;
 
 const WIDTH: f64 = 960.0;
@@ -72,7 +72,12 @@ fn duration(decade: i32) -> String {
 
 fn heading(table: &Table) -> String {
     let rows = if table.rows == 1 { "1 row".to_string() } else { format!("{} rows", table.rows) };
-    format!("{rows}, {}", if table.is_free() { "free" } else { "full" })
+    let fill = match table.fill {
+        Fill::Free => "free",
+        Fill::Rising => "full",
+        Fill::Scattered => "full, keys scattered",
+    };
+    format!("{rows}, {fill}")
 }
 
 fn legend() -> String {

@@ -64,7 +64,8 @@ impl Figures {
 
 fn serving_line(Case { table, request }: &Case, times: &Times) -> String {
     let (name, rows, used, key) = (request.name(), table.rows, table.used(), table.key);
-    format!("| {name} | {rows} | {used} | {key} | {} |\n", cells(times))
+    let order = if table.fill == Fill::Scattered { ", scattered" } else { "" };
+    format!("| {name} | {rows} | {used}{order} | {key} | {} |\n", cells(times))
 }
 
 fn damage_line(table: &Table, times: &Times) -> String {

@@ -57,3 +57,5 @@ pub const BODY_MAX: usize = 1400;
 pub const FRAME_MAX: usize = 1424;
 /// The room that serving a frame asks for, whatever the request: header, flags, key and value of the longest reply.
 pub const REPLY_ROOM: usize = 1302;
+/// The longest value of a [`GET_KEYS`](opcode::GET_KEYS) reply.
+pub const LISTING_MAX: usize = 1278;

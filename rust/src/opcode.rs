@@ -49,3 +49,10 @@ pub const ADDQ_WITH_META: u8 = 0xa5;
 pub const DELETE_WITH_META: u8 = 0xa8;
 /// Quiet [`DELETE_WITH_META`].
 pub const DELETEQ_WITH_META: u8 = 0xa9;
+/// No extras or 4 (a count of 1 or more; 1,000 where there is none), no key or one to start at. Lists the keys of live
+/// documents in byte order; the reply's value is, for each key, its length in 4 bytes and its bytes. Never quiet.
+///
+/// The listing ends with the last key, at the count, or before the first key that would carry it past
+/// [`LISTING_MAX`](crate::LISTING_MAX) bytes. To go on, ask from the last key listed with a count of 2 or more, and
+/// leave out the answer's first key where it is that one; where nothing else comes, all are listed.
+pub const GET_KEYS: u8 = 0xb8;

@@ -60,6 +60,9 @@ fn opcode(word: &[u8]) -> u8 {
     if octets::same(word, b"delm") {
         return 0xa8;
     }
+    if octets::same(word, b"keys") {
+        return 0xb8;
+    }
     plain_opcode(word)
 }
 
@@ -68,6 +71,7 @@ fn width(opcode: u8) -> usize {
     match opcode {
         0x01 | 0x02 | 0x03 | 0x05 | 0x06 => 5,
         0xa2 | 0xa4 | 0xa8 => 8,
+        0xb8 => 3,
         _ => 2,
     }
 }
@@ -133,6 +137,7 @@ fn command(opcode: u8, f: Fields) -> Command {
         0xa2 => with_meta(MetaKind::Set, f),
         0xa4 => with_meta(MetaKind::Add, f),
         0xa8 => with_meta(MetaKind::Delete, f),
+        0xb8 => Command::GetKeys(text::low32(text::field(f, 2))),
         _ => Command::Noop,
     }
 }

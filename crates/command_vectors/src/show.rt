@@ -75,6 +75,7 @@ fn reply(r: Reply) {
         Reply::Found(flags, keyed) => found(flags, keyed),
         Reply::Counted(n) => decimal(b"number ", n),
         Reply::Version => text(b"release"),
+        Reply::Keys(n) => decimal(b"keys, at most ", n as u64),
     }
 }
 

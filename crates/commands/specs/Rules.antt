@@ -19,7 +19,7 @@ use Rattle.commands.specs.declared.Counter.{Counter}
 use Rattle.commands.specs.declared.Plain.{Plain}
 use Rattle.commands.specs.declared.Meta.{Meta}
 use Rattle.commands.specs.declared.Command.{Command}
-use Rattle.commands.specs.declared.Command.the-variants.{Get, Write, Delete, Count, Noop, Version, WithMeta}
+use Rattle.commands.specs.declared.Command.the-variants.{Get, Write, Delete, Count, Noop, Version, WithMeta, GetKeys}
 use Rattle.commands.specs.declared.Context.{Context}
 use Rattle.commands.specs.declared.Instruction.{Instruction}
 use Rattle.commands.specs.declared.Tests.{Tests}
@@ -70,6 +70,10 @@ readRule anywhere needs silentOn = record {
 -- Get, GetQ, GetK, GetKQ: "Not live: 0x01"; "The quiet two send nothing on 0x01. Header CAS ignored."
 abbrev pub getRule : Rule
 getRule = readRule false true 1
+
+-- order 1, Get Keys: "vbucket rule as for Get", "None found is status 0", "Header CAS is ignored"
+abbrev pub listRule : Rule
+listRule = readRule false false 0
 
 -- Noop, Version: they skip 0x07, and have no test of their own: "nothing after the header, whose CAS is ignored"
 abbrev pub noopRule : Rule
@@ -154,6 +158,7 @@ ruleOf c (Count k) = countRule c k
 ruleOf c Noop = noopRule
 ruleOf c Version = noopRule
 ruleOf c (WithMeta w) = metaRule c w (isAddMeta (w .kind))
+ruleOf c (GetKeys n) = listRule
 
 -- ---- the tests
 -- the request is for this table, in its state; standby: replica and pending tables take it too

@@ -1,7 +1,7 @@
 -- For the code alone: whether a command writes, as its row of rules says. Serving looks for a free row only then.
 use mathlib.Core.Bool.{Bool, true, false}
 use Rattle.commands.specs.declared.Command.{Command}
-use Rattle.commands.specs.declared.Command.the-variants.{Get, Write, Delete, Count, Noop, Version, WithMeta}
+use Rattle.commands.specs.declared.Command.the-variants.{Get, Write, Delete, Count, Noop, Version, WithMeta, GetKeys}
 
 abbrev pub isMutation : Command → Bool
 isMutation (Get keyed) = false
@@ -11,3 +11,4 @@ isMutation (Count k) = true
 isMutation Noop = false
 isMutation Version = false
 isMutation (WithMeta w) = true
+isMutation (GetKeys n) = false

@@ -56,6 +56,8 @@ pub enum Command {
     Noop,
     Version,
     WithMeta(Meta),
+    // how many keys at most
+    GetKeys(u32),
 }
 
 // A request whose form is right, its key and value aside.
@@ -102,5 +104,6 @@ pub fn writes(c: Command) -> bool
         Command::Noop => false,
         Command::Version => false,
         Command::WithMeta(_) => true,
+        Command::GetKeys(_) => false,
     }
 }

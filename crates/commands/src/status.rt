@@ -1,7 +1,7 @@
 // The status of each family of commands: its tests, in 01's order, first that applies.
 ghost use mathlib.Core.Path.{_≡_};
 ghost use mathlib.Core.Bool.{cond, false};
-ghost use Rattle.commands.specs.Rules.{firstStatus, isHere, isLast, isNumber, getRule, noopRule, plainRule, countRule, metaRule, statusBy};
+ghost use Rattle.commands.specs.Rules.{firstStatus, isHere, isLast, isNumber, getRule, listRule, noopRule, plainRule, countRule, metaRule, statusBy};
 use crate::Context;
 use crate::Counter;
 use crate::Instruction;
@@ -63,6 +63,23 @@ pub fn get_status(c: Context, i: Instruction) -> u8
         long: 1024 < i.size,
         elsewhere: !here,
         missing: !live,
+        conflict: false,
+        number: false,
+        spent: false,
+        full: false,
+    })
+}
+
+pub fn list_status(c: Context, i: Instruction) -> u8
+    ensures { λ r. ⌜ r ≡ statusBy c i listRule ⌝ }
+{
+    let head = c.head;
+    let here = is_here(head, i.vbucket, false);
+    first_status(Tests {
+        fault: false,
+        long: 1024 < i.size,
+        elsewhere: !here,
+        missing: false,
         conflict: false,
         number: false,
         spent: false,

@@ -31,7 +31,7 @@ use Rattle.effects.specs.declared.Reply.{Reply}
 use Rattle.effects.specs.declared.Reply.the-variants.{Bare, Counted}
 use Rattle.effects.specs.declared.Done.{Done}
 use Rattle.commands.specs.declared.Command.{Command}
-use Rattle.commands.specs.declared.Command.the-variants.{Get, Write, Delete, Count, Noop, Version, WithMeta}
+use Rattle.commands.specs.declared.Command.the-variants.{Get, Write, Delete, Count, Noop, Version, WithMeta, GetKeys}
 use Rattle.commands.specs.Rules.{ruleOf, testsOf, firstStatus}
 use Rattle.effects.specs.Done.{doneOf, nothing, storing, plainNumbers, isDelete, metaNumbers, sum}
 use Rattle.decision.specs.Decision.{decision}
@@ -59,6 +59,7 @@ writes c (Count k) = cases (live (c .row) (c .clock)) (λ t. rw t) (λ f. rw f)
 writes c Noop = refl
 writes c Version = refl
 writes c (WithMeta w) = refl
+writes c (GetKeys n) = refl
 
 no-doc {ℓ} : {X : Type ℓ} (d : Doc) → none ≡ some d → X
 no-doc d e = let z : _≡_ {A = ℕ} 0 1 = cc in absurd (omega arith)
@@ -176,6 +177,7 @@ module _ (c : Context) (low : c .head .mark .0 < 2 ^ 64) (frame : List ℕ) (l :
       (λ t. rw t (safe-counted 0 (absolute (k .expiry) (c .clock)) (k .initial) (omega arith) (absolute-fits (k .expiry) (c .clock) p)))
   done-safe Noop p r = safe-nothing (c .head) low frame _ _
   done-safe Version p r = safe-nothing (c .head) low frame _ _
+  done-safe (GetKeys n) p r = safe-nothing (c .head) low frame _ _
   done-safe (WithMeta w) (f, o, b) r =
       let tomb = isDelete (w .kind) in
       let same = meta-same (c .head) low frame w in

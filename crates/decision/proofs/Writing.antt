@@ -8,7 +8,7 @@ use Rattle.commands.specs.declared.Context.{Context}
 use Rattle.commands.specs.declared.Instruction.{Instruction}
 use Rattle.effects.specs.declared.Done.{Done}
 use Rattle.commands.specs.declared.Command.{Command}
-use Rattle.commands.specs.declared.Command.the-variants.{Get, Write, Delete, Count, Noop, Version, WithMeta}
+use Rattle.commands.specs.declared.Command.the-variants.{Get, Write, Delete, Count, Noop, Version, WithMeta, GetKeys}
 use Rattle.effects.specs.declared.Reply.the-variants.{Bare}
 use Rattle.commands.specs.Rules.{ruleOf, testsOf}
 use Rattle.effects.specs.Done.{nothing, doneOf}
@@ -32,6 +32,7 @@ module _ (c : Context) (i : Instruction) where
   unread-by free Noop e w = rw e
   unread-by free Version e w = rw e
   unread-by free (WithMeta m) e w = absurd (true≢false w)
+  unread-by free (GetKeys n) e w = rw e
 
   done-none : (x : Command) → isMutation x ≡ false → doneOf c x .store ≡ Nothing
   unfolding doneOf
@@ -42,6 +43,7 @@ module _ (c : Context) (i : Instruction) where
   done-none Noop w = refl
   done-none Version w = refl
   done-none (WithMeta m) w = absurd (true≢false w)
+  done-none (GetKeys n) w = refl
 
   free-rule : (free : Bool) (x : Command) → ruleOf c x ≡ ruleOf (freeAs free) x
   unfolding ruleOf
@@ -52,6 +54,7 @@ module _ (c : Context) (i : Instruction) where
   free-rule free Noop = refl
   free-rule free Version = refl
   free-rule free (WithMeta m) = refl
+  free-rule free (GetKeys n) = refl
 
   free-done : (free : Bool) (x : Command) → doneOf c x ≡ doneOf (freeAs free) x
   unfolding doneOf
@@ -62,6 +65,7 @@ module _ (c : Context) (i : Instruction) where
   free-done free Noop = refl
   free-done free Version = refl
   free-done free (WithMeta m) = refl
+  free-done free (GetKeys n) = refl
 
   pub free-with-row : (free : Bool) → hasRow (c .row) ≡ true → decision c i ≡ decision (freeAs free) i
   unfolding decision testsOf

@@ -13,7 +13,7 @@ use Rattle.document.specs.Documents.{Doc}
 use Rattle.document.specs.Stored.{storedOf, hasRow, numbersOf, accepted}
 use Rattle.commands.specs.declared.MetaKind.{MetaKind}
 use Rattle.commands.specs.declared.Command.{Command}
-use Rattle.commands.specs.declared.Command.the-variants.{Get, Write, Delete, Count, Noop, Version, WithMeta}
+use Rattle.commands.specs.declared.Command.the-variants.{Get, Write, Delete, Count, Noop, Version, WithMeta, GetKeys}
 use Rattle.commands.specs.declared.Meta.{Meta}
 use Rattle.effects.specs.Done.{isDelete}
 use Rattle.decision.specs.Decide.{Request, Effect, decide}
@@ -45,23 +45,24 @@ Formed (Count k) = k .expiry < 2 ^ 32
 Formed Noop = Unit {0}
 Formed Version = Unit {0}
 Formed (WithMeta w) = NumbersFit (w .numbers) × (1 ≤ w .numbers .cas .0) × BareDelete (w .kind) (w .numbers .flags) (w .numbers .expiry)
+Formed (GetKeys n) = Unit {0}
 
 -- "A non-zero status changes no table byte": it stores nothing and leaves the head
 abbrev pub StatusStoresNothing : Type 0
 StatusStoresNothing =
-    (h : Head) (row : Option Doc) (free : Bool) (clock : ℕ) (q : Request) → (decide h row free clock q .effect .status ≡ 0 → ⊥)
-    → (decide h row free clock q .effect .store ≡ none) × (decide h row free clock q .effect .head ≡ h)
+    (h : Head) (row : Option Doc) (free : Bool) (clock : ℕ) (q : Request) → (decide h row free clock q .status ≡ 0 → ⊥)
+    → (decide h row free clock q .store ≡ none) × (decide h row free clock q .head ≡ h)
 
 -- a key without a row is stored for only where a row is free
 abbrev pub StoresWithRoom : Type 0
-StoresWithRoom = (h : Head) (free : Bool) (clock : ℕ) (q : Request) (d : Doc) → decide h none free clock q .effect .store ≡ some d → free ≡ true
+StoresWithRoom = (h : Head) (free : Bool) (clock : ℕ) (q : Request) (d : Doc) → decide h none free clock q .store ≡ some d → free ≡ true
 
 -- what is stored fits the table's rules under the new mark, which is no lower than the old one and below 2^64, and nothing else of the head changes
 pub record StoredSound (h : Head) (row : Option Doc) (free : Bool) (clock : ℕ) (q : Request) : Type 0 where
-  pub doc : (d : Doc) → decide h row free clock q .effect .store ≡ some d → SoundDoc (decide h row free clock q .effect .head .mark .0) d
-  pub head : decide h row free clock q .effect .head ≡ marked h (decide h row free clock q .effect .head .mark .0)
-  pub grows : h .mark .0 ≤ decide h row free clock q .effect .head .mark .0
-  pub fits : decide h row free clock q .effect .head .mark .0 < 2 ^ 64
+  pub doc : (d : Doc) → decide h row free clock q .store ≡ some d → SoundDoc (decide h row free clock q .head .mark .0) d
+  pub head : decide h row free clock q .head ≡ marked h (decide h row free clock q .head .mark .0)
+  pub grows : h .mark .0 ≤ decide h row free clock q .head .mark .0
+  pub fits : decide h row free clock q .head .mark .0 < 2 ^ 64
 
 abbrev pub StoresSound : Type 0
 StoresSound =
@@ -79,5 +80,5 @@ abbrev pub MergingDecided : Type 0
 MergingDecided =
     (h : Head) (row : Option Doc) (free : Bool) (w : Meta) (c : RequestAt) → h .state ≡ 1 → MergingRequest (modeOf (h .mode)) (h .vbucket) w c
     → (hasRow (storedOf row) || free) ≡ true
-    → decide h row free (c .clock) (c .request) .effect
+    → decide h row free (c .clock) (c .request)
     ≡ cond (accepted (modeOf (h .mode)) (storedOf row) (w .numbers)) (keep h (carried (c .request .value) w)) (refuse h 0x02)

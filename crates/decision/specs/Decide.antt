@@ -18,7 +18,7 @@ use Rattle.commands.specs.declared.Instruction.{Instruction}
 use Rattle.effects.specs.declared.Source.{Source}
 use Rattle.effects.specs.declared.Source.the-variants.{Empty, Frame, Digits}
 use Rattle.effects.specs.declared.Reply.{Reply}
-use Rattle.effects.specs.declared.Reply.the-variants.{Bare, Found, Counted, Version as VersionReply}
+use Rattle.effects.specs.declared.Reply.the-variants.{Bare, Found, Counted, Version as VersionReply, Keys}
 use Rattle.decision.specs.declared.Decision.{Decision}
 use Rattle.decision.specs.Decision.{decision}
 
@@ -36,14 +36,6 @@ pub record Effect : Type 0 where
   pub status : ℕ
   pub store : Option Doc
   pub head : Head
-
-pub record Answer : Type 0 where
-  pub effect : Effect
-  pub silent : Bool
-  pub extras : List ℕ
-  pub key : List ℕ
-  pub value : List ℕ
-  pub cas : ℕ
 
 abbrev pub instructionOf : Request → Instruction
 instructionOf a = record { vbucket = a .vbucket; cas = a .cas; quiet = a .quiet; size = length (a .value); command = a .command }
@@ -63,35 +55,29 @@ replyExtras Bare = []
 replyExtras (Found flags keyed) = bytesOf 4 flags
 replyExtras (Counted n) = []
 replyExtras VersionReply = []
+replyExtras (Keys n) = []
 
 abbrev pub replyKey : Reply → Key → List ℕ
 replyKey Bare key = []
 replyKey (Found flags keyed) key = cond keyed key []
 replyKey (Counted n) key = []
 replyKey VersionReply key = []
+replyKey (Keys n) key = []
 
+-- shown: what the table shows the reply, the stored value or the keys listed
 abbrev pub replyValue : Reply → List ℕ → List ℕ
-replyValue Bare old = []
-replyValue (Found flags keyed) old = old
-replyValue (Counted n) old = bytesOf 8 n
-replyValue VersionReply old = 52 ∷ 46 ∷ 48 ∷ 46 ∷ 48 ∷ []
+replyValue Bare shown = []
+replyValue (Found flags keyed) shown = shown
+replyValue (Counted n) shown = bytesOf 8 n
+replyValue VersionReply shown = 52 ∷ 46 ∷ 48 ∷ 46 ∷ 48 ∷ []
+replyValue (Keys n) shown = shown
 
 abbrev pub effectOf : Request → Decision → Effect
 effectOf a x = record { status = x .status; store = docFrom (x .done .store) (bytesFrom (x .done .source) (a .value)); head = x .done .head }
-
-abbrev pub answerOf : Request → List ℕ → Decision → Answer
-answerOf a old x = record {
-  effect = effectOf a x;
-  silent = x .silent;
-  extras = replyExtras (x .done .reply);
-  key = replyKey (x .done .reply) (a .key);
-  value = replyValue (x .done .reply) old;
-  cas = x .done .cas .0;
-}
 
 -- what a decision sees of a table's head, the key's row, whether a row is free and the clock
 abbrev pub contextOf : Head → Option Doc → Bool → ℕ → Context
 contextOf h row free clock = record { head = h; row = storedOf row; free = free; clock = clock; number = numberOf (docValue row) }
 
-unfoldable pub decide : Head → Option Doc → Bool → ℕ → Request → Answer
-decide h row free clock a = answerOf a (docValue row) (decision (contextOf h row free clock) (instructionOf a))
+unfoldable pub decide : Head → Option Doc → Bool → ℕ → Request → Effect
+decide h row free clock a = effectOf a (decision (contextOf h row free clock) (instructionOf a))

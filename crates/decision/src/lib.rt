@@ -2,7 +2,7 @@
 ghost use mathlib.Core.Path.{_≡_};
 ghost use mathlib.Core.Bool.{true, false};
 ghost use Rattle.numbers.specs.Expiry.{passes};
-ghost use Rattle.commands.specs.Rules.{getRule, noopRule, plainRule, writeRule, deleteRule, countRule, metaRule, isAddMeta};
+ghost use Rattle.commands.specs.Rules.{getRule, listRule, noopRule, plainRule, writeRule, deleteRule, countRule, metaRule, isAddMeta};
 ghost use Rattle.effects.specs.Done.{nothing, found, writeDone, deleteDone, countDone, isDelete, metaDone};
 ghost use Rattle.decision.specs.Decision.{withStatus, decisionBy, decision};
 use commands::Command;
@@ -49,6 +49,14 @@ fn get(c: Context, i: Instruction, keyed: bool) -> Decision
     ensures { λ r. ⌜ r ≡ decisionBy c i getRule (found c keyed) ⌝ }
 {
     with_status(c, i, 1, status::get_status(c, i), effects::found(c, keyed))
+}
+
+fn get_keys(c: Context, i: Instruction, count: u32) -> Decision
+    ensures { λ r. ⌜ r ≡ decisionBy c i listRule (nothing (c .head) (Reply.Keys count) (record { 0 = 0 })) ⌝ }
+{
+    let head = c.head;
+    let done = effects::nothing(head, Reply::Keys(count), Cas(0));
+    with_status(c, i, 0, status::list_status(c, i), done)
 }
 
 fn noop(c: Context, i: Instruction) -> Decision
@@ -175,5 +183,6 @@ pub fn decide(c: Context, i: Instruction) -> Decision
         Command::Noop => noop(c, i),
         Command::Version => version(c, i),
         Command::WithMeta(w) => with_meta(c, i, w),
+        Command::GetKeys(count) => get_keys(c, i, count),
     }
 }

@@ -1,7 +1,8 @@
 -- What a whole frame's parts, cut out of it, ask for, against the field rules and the definition on the frame.
 use Prim.Native.Nat.{ℕ, _+_, _-_, _≤_, _<_}
 use mathlib.Core.Path.{_≡_, refl, sym, ap, _∙_}
-use mathlib.Core.Bool.{Bool, true, false, cond, _||_}
+use mathlib.Core.Bool.{Bool, true, false, not, cond, _||_}
+use mathlib.Core.Logic.{_⊎_, inl, inr, ⊎-elim}
 use mathlib.Core.List.{List}
 use native.Mathlib.Nat.{sub-zero}
 use native.Mathlib.Omega.{arith}
@@ -18,16 +19,16 @@ use Rattle.shape.specs.declared.Shape.{Shape}
 use Rattle.header.specs.declared.Header.{Header}
 use Rattle.with_meta.specs.WithMeta.{withMeta}
 use Rattle.with_meta.specs.FieldRules.{withMetaOk}
-use Rattle.rules.specs.Rules.{metaSize, metaStatus, fieldStatus}
-use Rattle.rules.proofs.RuleLaws.{field-meta, field-plain}
+use Rattle.rules.specs.Rules.{metaSize, countOf, countOk, metaStatus, fieldStatus}
+use Rattle.rules.proofs.RuleLaws.{field-count, field-meta, field-plain}
 use Rattle.request.specs.Reading.{extrasSpan, valueSpan, bytesIn}
 use Rattle.commands.specs.declared.Instruction.{Instruction}
 use Rattle.decision.specs.Decide.{instructionOf}
 use Rattle.decode.specs.declared.Family.{Family}
-use Rattle.decode.specs.declared.Family.the-variants.{Bare, Stored, Counted, Carried}
+use Rattle.decode.specs.declared.Family.the-variants.{Bare, Stored, Counted, Carried, Listed}
 use Rattle.decode.specs.declared.Decoded.{Decoded}
 use Rattle.decode.specs.declared.Decoded.the-variants.{Broken, Whole}
-use Rattle.decode.specs.Decode.{familyOf, commandBy, commandOf, bareValue, instructionWith, decodedStatus, metaDecoded, decodedAs, decodedBy, requestOf}
+use Rattle.decode.specs.Decode.{familyOf, commandBy, commandOf, bareValue, instructionWith, decodedStatus, listDecoded, metaDecoded, decodedAs, decodedBy, requestOf}
 
 -- which of the two it is, and the ask of one that has one
 told : Decoded → ℕ
@@ -49,6 +50,15 @@ plainly (Bare c) = true
 plainly (Stored k) = true
 plainly (Counted up) = true
 plainly (Carried k) = false
+plainly Listed = true
+
+-- the rule on a count is a listing's alone
+counted : Family → List ℕ → Bool
+counted (Bare c) extras = true
+counted (Stored k) extras = true
+counted (Counted up) extras = true
+counted (Carried k) extras = true
+counted Listed extras = not (eqb (countOf extras) 0)
 
 metas : (op : ℕ) → eqb (shapeOf op .meta) 0 ≡ plainly (familyOf (shapeOf op .operation))
 unfolding commands plainly
@@ -69,7 +79,37 @@ metas op =
                   (λ q. refl),
                   (
                     (λ q. refl),
-                    ((λ q. refl), ((λ q. refl), ((λ q. refl), ((λ q. refl), ((λ q. refl), tt))))),
+                    ((λ q. refl), ((λ q. refl), ((λ q. refl), ((λ q. refl), ((λ q. refl), ((λ q. refl), tt)))))),
+                  ),
+                ),
+              ),
+            ),
+          ),
+        ),
+      ),
+    )
+    refl refl
+
+counts : (op : ℕ) (extras : List ℕ) → countOk (shapeOf op .extras) extras ≡ counted (familyOf (shapeOf op .operation)) extras
+unfolding commands counted
+counts op extras =
+    each-shape (λ (s : Shape). countOk (s .extras) extras ≡ counted (familyOf (s .operation)) extras) op (
+      (λ q. refl),
+      (
+        (λ q. refl),
+        (
+          (λ q. refl),
+          (
+            (λ q. refl),
+            (
+              (λ q. refl),
+              (
+                (λ q. refl),
+                (
+                  (λ q. refl),
+                  (
+                    (λ q. refl),
+                    ((λ q. refl), ((λ q. refl), ((λ q. refl), ((λ q. refl), ((λ q. refl), ((λ q. refl), tt)))))),
                   ),
                 ),
               ),
@@ -84,30 +124,39 @@ module _ (s : Shape) (h : Header) (extras value : List ℕ) where
   abbrev made : Family → ℕ → Instruction
   made f n = instructionWith s h (commandBy f extras) n
 
-  -- what is whole is a plain command, or one with meta whose field rules are kept
+  -- what is whole is a plain command, or one with meta whose field rules are kept; a count is kept by both
   by-family {ℓ} : {X : Type ℓ} (f : Family) (a : Instruction) → decodedAs f s h extras value ≡ Whole a
-      → (plainly f ≡ true → made f (length value) ≡ a → X)
-      → (plainly f ≡ false → withMetaOk (s .meta) (withMeta extras) value ≡ true → made f (length value - withMeta extras .section) ≡ a → X)
+      → (plainly f ≡ true → counted f extras ≡ true → made f (length value) ≡ a → X)
+      → (plainly f ≡ false → counted f extras ≡ true → withMetaOk (s .meta) (withMeta extras) value ≡ true → made f (length value - withMeta extras .section) ≡ a → X)
       → X
-  unfolding metaDecoded plainly told askIn
-  by-family (Bare c) a e p m = p refl (ap (askIn a) e)
-  by-family (Stored k) a e p m = p refl (ap (askIn a) e)
-  by-family (Counted up) a e p m = p refl (ap (askIn a) e)
+  unfolding listDecoded metaDecoded plainly counted told askIn
+  by-family (Bare c) a e p m = p refl refl (ap (askIn a) e)
+  by-family (Stored k) a e p m = p refl refl (ap (askIn a) e)
+  by-family (Counted up) a e p m = p refl refl (ap (askIn a) e)
   by-family (Carried k) a e p m =
       cond-elim (withMetaOk (s .meta) (withMeta extras) value) _ _ _ e
-      (λ u z. m refl u (ap (askIn a) z))
+      (λ u z. m refl refl u (ap (askIn a) z))
       (λ u z. absurd (omega (arith, ap told z)))
+  by-family Listed a e p m =
+      cond-elim (eqb (countOf extras) 0) _ _ _ e
+      (λ u z. absurd (omega (arith, ap told z)))
+      (λ u z. p refl (rw u) (ap (askIn a) z))
 
-  -- what is broken is one with meta whose field rules are not kept
-  broken : (f : Family) → decodedAs f s h extras value ≡ Broken → (plainly f ≡ false) × (withMetaOk (s .meta) (withMeta extras) value ≡ false)
-  unfolding metaDecoded plainly told
+  -- what is broken is a listing of no keys, or one with meta whose field rules are not kept
+  broken : (f : Family) → decodedAs f s h extras value ≡ Broken
+      → (counted f extras ≡ false) ⊎ ((plainly f ≡ false) × (counted f extras ≡ true) × (withMetaOk (s .meta) (withMeta extras) value ≡ false))
+  unfolding listDecoded metaDecoded plainly counted told
   broken (Bare c) e = absurd (omega (arith, ap told e))
   broken (Stored k) e = absurd (omega (arith, ap told e))
   broken (Counted up) e = absurd (omega (arith, ap told e))
   broken (Carried k) e =
       cond-elim (withMetaOk (s .meta) (withMeta extras) value) _ _ _ e
       (λ u z. absurd (omega (arith, ap told z)))
-      (λ u z. (refl, u))
+      (λ u z. inr (refl, refl, u))
+  broken Listed e =
+      cond-elim (eqb (countOf extras) 0) _ _ _ e
+      (λ u z. inl (rw u))
+      (λ u z. absurd (omega (arith, ap told z)))
 
 module _ (h : Header) (extras value : List ℕ) where
   abbrev shape : Shape
@@ -119,26 +168,28 @@ module _ (h : Header) (extras value : List ℕ) where
   pub asked-broken : decodedBy shape h extras value ≡ Broken → fieldStatus shape extras value ≡ decodedStatus Broken
   unfolding decodedBy metaStatus
   asked-broken e =
-      let (t, u) = broken shape h extras value family e in
-      field-meta shape extras value (eqb-false (shape .meta) 0 (metas (h .opcode) ∙ t)) ∙ rw u
+      ⊎-elim
+      (λ c. field-count shape extras value (counts (h .opcode) extras ∙ c))
+      (λ (t, c, u). field-meta shape extras value (counts (h .opcode) extras ∙ c) (eqb-false (shape .meta) 0 (metas (h .opcode) ∙ t)) ∙ rw u)
+      (broken shape h extras value family e)
 
   by-kind {ℓ} : {X : Type ℓ} (a : Instruction) → decodedBy shape h extras value ≡ Whole a
-      → (eqb (shape .meta) 0 ≡ true → instructionWith shape h (commandOf (shape .operation) extras) (length value) ≡ a → X)
-      → (eqb (shape .meta) 0 ≡ false → withMetaOk (shape .meta) (withMeta extras) value ≡ true
+      → (eqb (shape .meta) 0 ≡ true → countOk (shape .extras) extras ≡ true → instructionWith shape h (commandOf (shape .operation) extras) (length value) ≡ a → X)
+      → (eqb (shape .meta) 0 ≡ false → countOk (shape .extras) extras ≡ true → withMetaOk (shape .meta) (withMeta extras) value ≡ true
       → instructionWith shape h (commandOf (shape .operation) extras) (length value - withMeta extras .section) ≡ a → X)
       → X
   unfolding decodedBy commandOf
   by-kind a e p m =
       by-family shape h extras value family a e
-      (λ t z. p (metas (h .opcode) ∙ t) z)
-      (λ t u z. m (metas (h .opcode) ∙ t) u z)
+      (λ t c z. p (metas (h .opcode) ∙ t) (counts (h .opcode) extras ∙ c) z)
+      (λ t c u z. m (metas (h .opcode) ∙ t) (counts (h .opcode) extras ∙ c) u z)
 
   pub asked-goes : (a : Instruction) → decodedBy shape h extras value ≡ Whole a → (eqb (fieldStatus shape extras value) 0 || eqb (fieldStatus shape extras value) 0x03) ≡ true
   unfolding metaStatus
   asked-goes a e =
       by-kind a e
-      (λ t z. rw (field-plain shape extras value (eqb-true (shape .meta) 0 t)) (goes (ltb 1024 (length value))))
-      (λ t u z. rw (field-meta shape extras value (eqb-false (shape .meta) 0 t), u) (goes (ltb 1024 (length value - withMeta extras .section))))
+      (λ t c z. rw (field-plain shape extras value c (eqb-true (shape .meta) 0 t)) (goes (ltb 1024 (length value))))
+      (λ t c u z. rw (field-meta shape extras value c (eqb-false (shape .meta) 0 t), u) (goes (ltb 1024 (length value - withMeta extras .section))))
 
   -- the ask is of the definition's command, and of what is left of the value
   asked-with : (a : Instruction) → decodedBy shape h extras value ≡ Whole a
@@ -147,8 +198,8 @@ module _ (h : Header) (extras value : List ℕ) where
   asked-with a e =
       let sizing : ℕ → Instruction = λ n. instructionWith shape h (commandOf (shape .operation) extras) n in
       by-kind a e
-      (λ t z. sym z ∙ ap sizing (rw t (sym (sub-zero (length value)))))
-      (λ t u z. sym z ∙ ap sizing (rw t))
+      (λ t c z. sym z ∙ ap sizing (rw t (sym (sub-zero (length value)))))
+      (λ t c u z. sym z ∙ ap sizing (rw t))
 
 module _ (s : List ℕ) (h : Header) (whole : 24 + h .body ≤ length s) (inside : h .extlen + h .keylen ≤ h .body) where
   abbrev extras : List ℕ

@@ -14,18 +14,18 @@ use Rattle.header.specs.declared.Header.{Header}
 use Rattle.with_meta.specs.WithMeta.{withMeta}
 use Rattle.with_meta.specs.declared.WithMeta.{WithMeta}
 use Rattle.with_meta.specs.FieldRules.{withMetaOk}
-use Rattle.rules.specs.Rules.{metaSize}
+use Rattle.rules.specs.Rules.{metaSize, countOf}
 use Rattle.request.specs.Reading.{extrasSpan, keySpan, valueSpan, bytesIn}
 use Rattle.commands.specs.declared.Kind.{Kind}
 use Rattle.commands.specs.declared.Kind.the-variants.{Set, Add, Replace}
 use Rattle.commands.specs.declared.MetaKind.{MetaKind}
 use Rattle.commands.specs.declared.MetaKind.the-variants.{Set as SetMeta, Add as AddMeta, Delete as DeleteMeta}
 use Rattle.commands.specs.declared.Command.{Command}
-use Rattle.commands.specs.declared.Command.the-variants.{Get, Write, Delete, Count, Noop, Version, WithMeta as Metas}
+use Rattle.commands.specs.declared.Command.the-variants.{Get, Write, Delete, Count, Noop, Version, WithMeta as Metas, GetKeys}
 use Rattle.commands.specs.declared.Instruction.{Instruction}
 use Rattle.decision.specs.Decide.{Request}
 use Rattle.decode.specs.declared.Family.{Family}
-use Rattle.decode.specs.declared.Family.the-variants.{Bare, Stored, Counted, Carried}
+use Rattle.decode.specs.declared.Family.the-variants.{Bare, Stored, Counted, Carried, Listed}
 use Rattle.decode.specs.declared.Decoded.{Decoded}
 use Rattle.decode.specs.declared.Decoded.the-variants.{Broken, Whole}
 
@@ -63,6 +63,7 @@ familyOf Operations.Version = Bare Version
 familyOf Operations.SetWithMeta = Carried SetMeta
 familyOf Operations.AddWithMeta = Carried AddMeta
 familyOf Operations.DeleteWithMeta = Carried DeleteMeta
+familyOf Operations.GetKeys = Listed
 familyOf Operations.NotBuilt = Bare Noop
 familyOf Operations.Unknown = Bare Noop
 
@@ -71,6 +72,7 @@ commandBy (Bare c) extras = c
 commandBy (Stored k) extras = plainOf k extras
 commandBy (Counted up) extras = counterOf up extras
 commandBy (Carried k) extras = metaCommand k (withMeta extras)
+commandBy Listed extras = GetKeys (countOf extras)
 
 -- the command that operation and extras spell
 unfoldable pub commandOf : Operation → List ℕ → Command
@@ -90,6 +92,10 @@ abbrev pub decodedStatus : Decoded → ℕ
 decodedStatus Broken = 0x04
 decodedStatus (Whole i) = 0
 
+-- order 1, a listing: "count 0 is 0x04"
+unfoldable pub listDecoded : Shape → Header → List ℕ → ℕ → Decoded
+listDecoded s h extras size = cond (eqb (countOf extras) 0) Broken (Whole (instructionWith s h (GetKeys (countOf extras)) size))
+
 -- a with-meta command unless its fields break the rules
 unfoldable pub metaDecoded : Shape → Header → MetaKind → List ℕ → List ℕ → Decoded
 metaDecoded s h k extras value =
@@ -102,10 +108,11 @@ decodedAs (Bare c) s h extras value = Whole (instructionWith s h c (length value
 decodedAs (Stored k) s h extras value = Whole (instructionWith s h (plainOf k extras) (length value))
 decodedAs (Counted up) s h extras value = Whole (instructionWith s h (counterOf up extras) (length value))
 decodedAs (Carried k) s h extras value = metaDecoded s h k extras value
+decodedAs Listed s h extras value = listDecoded s h extras (length value)
 
 -- what a frame asks for unless it breaks the field rules, from its header, its opcode's shape, its extras and what follows its key
 unfoldable pub decodedBy : Shape → Header → List ℕ → List ℕ → Decoded
-unfolding metaDecoded
+unfolding listDecoded metaDecoded
 decodedBy s h extras value = decodedAs (familyOf (s .operation)) s h extras value
 
 unfoldable pub requestOf : List ℕ → Header → Request

@@ -1,6 +1,6 @@
 // What a whole frame asks for: opcode and extras become a command, and the value is told from its extended meta.
 ghost use mathlib.Core.Path.{_≡_};
-ghost use Rattle.decode.specs.Decode.{plainOf, counterOf, metaCommand, familyOf, instructionWith, metaDecoded, decodedBy};
+ghost use Rattle.decode.specs.Decode.{plainOf, counterOf, metaCommand, familyOf, instructionWith, listDecoded, metaDecoded, decodedBy};
 use commands::Command;
 use commands::Counter;
 use commands::Instruction;
@@ -53,12 +53,13 @@ fn meta_of(kind: MetaKind, w: WithMeta) -> Command
     })
 }
 
-// How an operation's command is told: at once, or from extras of one of three kinds.
+// How an operation's command is told: at once, or from extras of one of four kinds.
 enum Family {
     Bare(Command),
     Stored(Kind),
     Counted(bool),
     Carried(MetaKind),
+    Listed,
 }
 
 fn family_of(operation: Operation) -> Family
@@ -80,6 +81,7 @@ fn family_of(operation: Operation) -> Family
         Operation::SetWithMeta => Family::Carried(MetaKind::Set),
         Operation::AddWithMeta => Family::Carried(MetaKind::Add),
         Operation::DeleteWithMeta => Family::Carried(MetaKind::Delete),
+        Operation::GetKeys => Family::Listed,
     }
 }
 
@@ -100,6 +102,17 @@ fn instruction_with(shape: Shape, h: Header, command: Command, size: usize) -> I
 pub enum Decoded {
     Broken,
     Whole(Instruction),
+}
+
+// A listing, unless its count is 0.
+fn list_decoded(shape: Shape, h: Header, extras: &[u8], size: usize) -> Decoded
+    ensures { λ r. ⌜ r ≡ listDecoded shape h (now (extras .entry)) size ⌝ }
+{
+    let count = rules::count_of(extras);
+    if count == 0 {
+        return Decoded::Broken;
+    }
+    Decoded::Whole(instruction_with(shape, h, Command::GetKeys(count), size))
 }
 
 // A with-meta command, unless its fields break the rules.
@@ -136,5 +149,6 @@ pub fn decoded_by(shape: Shape, h: Header, extras: &[u8], value: &[u8]) -> Decod
             size,
         )),
         Family::Carried(k) => meta_decoded(shape, h, k, extras, value),
+        Family::Listed => list_decoded(shape, h, extras, size),
     }
 }

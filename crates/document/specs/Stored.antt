@@ -20,9 +20,12 @@ storedOf none = Nothing
 storedOf (some d) = Used (metadataOf d)
 
 -- "It is *live* when it is a document and not expired."
+abbrev pub alive : Bool → ℕ → ℕ → Bool
+alive tomb expiry clock = not tomb && not (expired expiry clock)
+
 unfoldable pub live : Stored → ℕ → Bool
 live Nothing clock = false
-live (Used d) clock = not (d .tomb) && not (expired (d .numbers .expiry) clock)
+live (Used d) clock = alive (d .tomb) (d .numbers .expiry) clock
 
 abbrev pub hasRow : Stored → Bool
 hasRow Nothing = false

@@ -1,7 +1,7 @@
 // What a store of documents is, apart from how memory holds it.
 ghost use mathlib.Core.Path.{_≡_};
 ghost use Rattle.document.specs.Head.{raised};
-ghost use Rattle.document.specs.Stored.{live, hasRow, numbersOf, accepted, gone};
+ghost use Rattle.document.specs.Stored.{alive, live, hasRow, numbersOf, accepted, gone};
 use numbers::Cas;
 use numbers::Mode;
 use numbers::Numbers;
@@ -45,13 +45,20 @@ pub fn raised(h: Head, cas: Cas) -> Head
     }
 }
 
+// Whether what has this kind and this expiry is a document that is not expired.
+pub fn alive(tomb: bool, expiry: u32, clock: u32) -> bool
+    ensures { λ r. ⌜ r ≡ alive tomb expiry clock ⌝ }
+{
+    !tomb & !numbers::expired(expiry, clock)
+}
+
 // Whether a key's row is a document that is not expired.
 pub fn live(s: Stored, clock: u32) -> bool
     ensures { λ r. ⌜ r ≡ live s clock ⌝ }
 {
     match s {
         Stored::Nothing => false,
-        Stored::Used(d) => !d.tomb & !numbers::expired(d.numbers.expiry, clock),
+        Stored::Used(d) => alive(d.tomb, d.numbers.expiry, clock),
     }
 }
 

@@ -18,12 +18,12 @@ use Rattle.commands.specs.declared.Plain.{Plain}
 use Rattle.commands.specs.declared.Counter.{Counter}
 use Rattle.commands.specs.declared.Meta.{Meta}
 use Rattle.commands.specs.declared.Command.{Command}
-use Rattle.commands.specs.declared.Command.the-variants.{Get, Write, Delete, Count, Noop, Version, WithMeta}
+use Rattle.commands.specs.declared.Command.the-variants.{Get, Write, Delete, Count, Noop, Version, WithMeta, GetKeys}
 use Rattle.commands.specs.declared.Context.{Context}
 use Rattle.effects.specs.declared.Source.{Source}
 use Rattle.effects.specs.declared.Source.the-variants.{Empty, Frame, Digits}
 use Rattle.effects.specs.declared.Reply.{Reply}
-use Rattle.effects.specs.declared.Reply.the-variants.{Bare, Found, Counted, Version as VersionReply}
+use Rattle.effects.specs.declared.Reply.the-variants.{Bare, Found, Counted, Version as VersionReply, Keys}
 use Rattle.effects.specs.declared.Done.{Done}
 
 abbrev pub nothing : Head → Reply → Cas → Done
@@ -87,7 +87,7 @@ isDelete DeleteMeta = true
 abbrev pub metaDone : Context → Meta → Bool → Done
 metaDone c w tomb = storing (c .head) (record { tomb = tomb; numbers = metaNumbers (c .head) w }) (cond tomb Empty Frame) Bare
 
--- Noop, Version: "Version's value is the five bytes `4.0.0`. Reply CAS 0."
+-- each command's. Get Keys: "Header CAS is ignored, reply CAS 0". Noop, Version: "Version's value is the five bytes `4.0.0`. Reply CAS 0."
 unfoldable pub doneOf : Context → Command → Done
 doneOf c (Get keyed) = found c keyed
 doneOf c (Write p) = writeDone c p
@@ -96,3 +96,4 @@ doneOf c (Count k) = countDone c k
 doneOf c Noop = nothing (c .head) Bare (record { 0 = 0 })
 doneOf c Version = nothing (c .head) VersionReply (record { 0 = 0 })
 doneOf c (WithMeta w) = metaDone c w (isDelete (w .kind))
+doneOf c (GetKeys n) = nothing (c .head) (Keys n) (record { 0 = 0 })

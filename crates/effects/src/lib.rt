@@ -28,6 +28,8 @@ pub enum Reply {
     Found(u32, bool),
     Counted(u64),
     Version,
+    // the keys listed, at most so many
+    Keys(u32),
 }
 
 pub struct Done {

@@ -30,7 +30,7 @@ docIn E t k = E .find (t .rows) k
 
 -- one call: decided from the head, the key's row and whether a row is free
 unfoldable pub effectOn : (E : Engine) → State E → RequestAt → Effect
-effectOn E t c = decide (t .head) (docIn E t (c .request .key)) (ltb 0 (E .free (t .rows))) (c .clock) (c .request) .effect
+effectOn E t c = decide (t .head) (docIn E t (c .request .key)) (ltb 0 (E .free (t .rows))) (c .clock) (c .request)
 
 unfoldable pub tableOn : (E : Engine) → State E → RequestAt → State E
 unfolding effectOn

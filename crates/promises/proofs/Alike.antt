@@ -3,30 +3,38 @@ use Prim.Native.Nat.{ℕ}
 use native.Mathlib.Omega.{arith}
 use mathlib.Core.Path.{_≡_, refl, sym, ap, subst, _∙_}
 use mathlib.Core.Bool.{Bool, true, false, cond, not, _&&_, true≢false}
-use mathlib.Core.List.{List, _++_}
+use mathlib.Core.List.{List, [], _∷_, _++_}
+use mathlib.Core.Option.{none, some}
 use lib.Dec.{eqb}
 use borrow.Author.Tests.{ne-eqb}
+use Rattle.octets.specs.Compare.{same}
 use Rattle.octets.proofs.Choices.{cases}
+use Rattle.octets.proofs.Options.{none-some}
 use Rattle.digits.specs.declared.Number.{Number}
 use Rattle.document.specs.declared.Head.{Head}
 use Rattle.document.specs.declared.Metadata.{Metadata}
 use Rattle.document.specs.declared.Stored.the-variants.{Used}
-use Rattle.document.specs.Stored.{live}
+use Rattle.document.specs.Documents.{Key, Doc}
+use Rattle.document.specs.Stored.{live, storedOf}
 use Rattle.commands.specs.declared.Context.{Context}
 use Rattle.commands.specs.declared.Instruction.{Instruction}
 use Rattle.commands.specs.declared.Counter.{Counter}
 use Rattle.commands.specs.declared.Command.{Command}
-use Rattle.commands.specs.declared.Command.the-variants.{Get, Write, Delete, Count, Noop, Version, WithMeta}
+use Rattle.commands.specs.declared.Command.the-variants.{Get, Write, Delete, Count, Noop, Version, WithMeta, GetKeys}
 use Rattle.commands.specs.Rules.{Rule, ruleOf, testsOf, statusBy, firstStatus}
 use Rattle.commands.proofs.Passed.{passed}
 use Rattle.effects.specs.declared.Reply.{Reply}
-use Rattle.effects.specs.declared.Reply.the-variants.{Bare, Found, Counted, Version as VersionReply}
+use Rattle.effects.specs.declared.Reply.the-variants.{Bare, Found, Counted, Version as VersionReply, Keys}
 use Rattle.effects.specs.declared.Done.{Done}
 use Rattle.effects.specs.Done.{nothing, doneOf}
 use Rattle.decision.specs.declared.Decision.{Decision}
 use Rattle.decision.specs.Decision.{decision}
 use Rattle.decision.specs.Decide.{replyValue}
-use Rattle.serving.specs.Reply.{bodyOf, replyHeader, replyBytes}
+use Rattle.listing.specs.Listing.{liveKeys, sortKeys, fromKey, taken, keysBytes, keysFrom, listedKeys, listing}
+use Rattle.rows.specs.Row.{Row}
+use Rattle.rows.specs.Find.{findRow}
+use Rattle.plain.specs.Plain.{plain, usedRows, replace, putRow}
+use Rattle.serving.specs.Reply.{replyShows, bodyOf, replyHeader, replyBytes}
 use Rattle.serving.proofs.Formed.{by-cond}
 use Rattle.promises.proofs.Asks.{IsPlain}
 
@@ -36,16 +44,38 @@ Blind Bare = Unit {0}
 Blind (Found flags keyed) = ⊥
 Blind (Counted n) = Unit {0}
 Blind VersionReply = Unit {0}
+Blind (Keys n) = Unit {0}
 
-blind-value : (r : Reply) (old old′ : List ℕ) → Blind r → replyValue r old ≡ replyValue r old′
-blind-value Bare old old′ p = refl
-blind-value (Found flags keyed) old old′ p = absurd p
-blind-value (Counted n) old old′ p = refl
-blind-value VersionReply old old′ p = refl
+-- with the same live keys in both tables, a listing is the same too
+module _ (rows rows′ : List Row) (clock : ℕ) (key : Key) (keys : liveKeys clock (plain .docs rows) ≡ liveKeys clock (plain .docs rows′)) where
+  blind-value : (r : Reply) → Blind r → replyValue r (replyShows r rows clock key) ≡ replyValue r (replyShows r rows′ clock key)
+  unfolding listing listedKeys keysFrom
+  blind-value Bare p = refl
+  blind-value (Found flags keyed) p = absurd p
+  blind-value (Counted n) p = refl
+  blind-value VersionReply p = refl
+  blind-value (Keys n) p = λ i. keysBytes (taken n 1278 (fromKey key (sortKeys (keys i))))
 
-pub blind-reply : (op opaque : ℕ) (x : Decision) (key old old′ : List ℕ) → Blind (x .done .reply) → replyBytes op opaque x key old ≡ replyBytes op opaque x key old′
-unfolding replyBytes replyHeader
-blind-reply op opaque x key old old′ p = rw (blind-value (x .done .reply) old old′ p)
+  pub blind-reply : (op opaque : ℕ) (x : Decision) → Blind (x .done .reply)
+      → replyBytes op opaque x key (replyShows (x .done .reply) rows clock key) ≡ replyBytes op opaque x key (replyShows (x .done .reply) rows′ clock key)
+  unfolding replyBytes replyHeader
+  blind-reply op opaque x p = rw (blind-value (x .done .reply) p)
+
+-- a document that isn't live put in place of another that isn't changes no live key
+pub put-dead : (clock : ℕ) (rows : List Row) (k : Key) (d e : Doc) → findRow rows k ≡ some d → live (storedOf (some d)) clock ≡ false → live (storedOf (some e)) clock ≡ false
+    → liveKeys clock (plain .docs rows) ≡ liveKeys clock (plain .docs (putRow rows k e))
+put-dead clock rows k d e there dead dead′ = rw there (replaced rows there)
+  where
+    replaced : (ws : List Row) → findRow ws k ≡ some d → liveKeys clock (usedRows ws) ≡ liveKeys clock (usedRows (replace ws k e))
+    replaced [] f = none-some d f
+    replaced (none ∷ ws) f = replaced ws f
+    replaced (some x ∷ ws) f =
+        cases (same (x .key) k)
+        (λ t.
+        let g : some (x .doc) ≡ some d = rw t at f in
+        let z : x .doc ≡ d = cc in
+        rw (t, z, dead, dead′))
+        (λ t. rw t (λ i. cond (live (storedOf (some (x .doc))) clock) (x .key ∷ replaced ws (rw t at f) i) (replaced ws (rw t at f) i)))
 
 -- ---- two rows
 module _ (h : Head) (free : Bool) (clock : ℕ) (m m′ : Metadata) (n n′ : Number) (dead : live (Used m) clock ≡ false) (dead′ : live (Used m′) clock ≡ false)
@@ -65,6 +95,7 @@ module _ (h : Head) (free : Bool) (clock : ℕ) (m m′ : Metadata) (n n′ : Nu
   same-rule Noop p = refl
   same-rule Version p = refl
   same-rule (WithMeta w) p = absurd p
+  same-rule (GetKeys n) p = refl
 
   same-tests : (i : Instruction) (t : Rule) → testsOf c i t ≡ testsOf c′ i t
   unfolding testsOf
@@ -106,6 +137,7 @@ module _ (h : Head) (free : Bool) (clock : ℕ) (m m′ : Metadata) (n n′ : Nu
   same-made i Noop p = alike i Noop tt refl tt
   same-made i Version p = alike i Version tt refl tt
   same-made i (WithMeta w) p = absurd p
+  same-made i (GetKeys n) p = alike i (GetKeys n) tt refl tt
 
   pub same-decision : (i : Instruction) → IsPlain (i .command) → (decision c i ≡ decision c′ i) × Blind (decision c i .done .reply)
   unfolding decision

@@ -37,7 +37,7 @@ use Rattle.rows.specs.Table.{tableOf, tableBytes}
 use Rattle.plain.specs.Damage.{sound}
 use Rattle.plain.proofs.TableLaws.{sound-good}
 use Rattle.owner.specs.Owner.{shown, readOf}
-use Rattle.serving.specs.Serve.{reachesDecision, decisionOn, answerOn, frameTable, gateAll, tableBy, servedTable}
+use Rattle.serving.specs.Serve.{reachesDecision, decisionOn, frameEffect, frameTable, gateAll, tableBy, servedTable}
 use Rattle.serving.specs.Statuses.{statuses}
 use Rattle.serving.proofs.Change.{unchanged}
 use Rattle.serving.proofs.Formed.{no, by-cond}
@@ -158,27 +158,22 @@ dead-is-compared b clock s room d r at n e c unforced unskipped =
       λ t. (avoids b clock s room 0x01 (without-missing b clock s needs), avoids b clock s room 0x02 (without-conflict b clock s (x ∙ ap not t))),
     )
 
--- ---- a Get
+-- ---- a command that stores nothing
 module _ (c : Context) where
-  abbrev Kept : Done → Type 0
+  abbrev pub Kept : Done → Type 0
   Kept x = (x .store ≡ Nothing) × (x .head ≡ c .head)
 
-  got : (k : Bool) → Kept (doneOf c (Get k))
-  unfolding doneOf
-  got k = (refl, refl)
-
-  get-kept : (i : Instruction) (k : Bool) → i .command ≡ Get k → Kept (decision c i .done)
+  kept : (i : Instruction) (x : Command) → i .command ≡ x → Kept (doneOf c x) → Kept (decision c i .done)
   unfolding decision
-  get-kept i k e =
+  kept i x e k =
       by-cond Kept (eqb (statusBy c i (ruleOf c (i .command))) 0) _ _
-      (λ t. subst (λ (x : Command). Kept (doneOf c x)) (sym e) (got k)) (λ t. (refl, refl))
+      (λ t. subst (λ (y : Command). Kept (doneOf c y)) (sym e) k) (λ t. (refl, refl))
 
-module _ (b : List ℕ) (clock : ℕ) (s : List ℕ) (e : among (opcode s) gets ≡ true) where
-  frame-kept : (answerOn (tableOf b) clock s (headerOf s) .effect .store ≡ none) × (answerOn (tableOf b) clock s (headerOf s) .effect .head ≡ tableOf b .head)
-  unfolding answerOn decisionOn requestOf
+module _ (b : List ℕ) (clock : ℕ) (s : List ℕ) (x : Command) (asks : command b clock s ≡ x) (k : Kept (seen b clock s) (doneOf (seen b clock s) x)) where
+  frame-kept : (frameEffect (tableOf b) clock s (headerOf s) .store ≡ none) × (frameEffect (tableOf b) clock s (headerOf s) .head ≡ tableOf b .head)
+  unfolding frameEffect decisionOn
   frame-kept =
-      let (k, asks) = reads (seen b clock s) (extrasIn s) (opcode s) e in
-      let (none-stored, same-head) = get-kept (seen b clock s) (instruction b clock s) k asks in
+      let (none-stored, same-head) = kept (seen b clock s) (instruction b clock s) x asks k in
       cases (reachesDecision (frameStatus s (headerOf s))) (λ t. rw t (rw none-stored refl, same-head)) (λ t. rw t (refl, refl))
 
   kept-by : (room : ℕ) → Bytes b → (g : Gate) → gateAll b room s ≡ g → tableBy b clock s g ≡ b
@@ -186,10 +181,20 @@ module _ (b : List ℕ) (clock : ℕ) (s : List ℕ) (e : among (opcode s) gets 
   kept-by room y (Stop n need) o = refl
   kept-by room y (Whole h) o =
       let w = was-open b s room h o in
-      let kept = frame-kept in
+      let same = frame-kept in
       ap (λ (x : Header). frameTable b clock s x) (sym (w .frame .header))
-      ∙ ap tableBytes (unchanged (tableOf b) clock s (headerOf s) (kept .0) (kept .1)) ∙ sound-good b y (w .undamaged) .0
+      ∙ ap tableBytes (unchanged (tableOf b) clock s (headerOf s) (same .0) (same .1)) ∙ sound-good b y (w .undamaged) .0
+
+  pub keeps : (room : ℕ) → Bytes b → servedTable b clock s room ≡ b
+  unfolding servedTable
+  keeps room y = kept-by room y (gateAll b room s) refl
+
+got : (c : Context) (k : Bool) → Kept c (doneOf c (Get k))
+unfolding doneOf
+got c k = (refl, refl)
 
 pub get-keeps : GetKeeps
-unfolding servedTable
-get-keeps b clock s room y e = kept-by b clock s e room y (gateAll b room s) refl
+unfolding requestOf
+get-keeps b clock s room y e =
+    let (k, asks) = reads (seen b clock s) (extrasIn s) (opcode s) e in
+    keeps b clock s (Get k) asks (got (seen b clock s) k) room y

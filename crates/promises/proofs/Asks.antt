@@ -14,7 +14,7 @@ use Rattle.with_meta.specs.WithMeta.{withMeta}
 use Rattle.commands.specs.declared.MetaKind.{MetaKind}
 use Rattle.commands.specs.declared.MetaKind.the-variants.{Set as SetMeta, Add as AddMeta, Delete as DeleteMeta}
 use Rattle.commands.specs.declared.Command.{Command}
-use Rattle.commands.specs.declared.Command.the-variants.{Get, Write, Delete, Count, Noop, Version, WithMeta}
+use Rattle.commands.specs.declared.Command.the-variants.{Get, Write, Delete, Count, Noop, Version, WithMeta, GetKeys}
 use Rattle.commands.specs.declared.Context.{Context}
 use Rattle.commands.specs.Rules.{ruleOf}
 use Rattle.decode.specs.Decode.{plainOf, counterOf, metaCommand, commandOf}
@@ -152,6 +152,7 @@ IsPlain (Count k) = Unit {0}
 IsPlain Noop = Unit {0}
 IsPlain Version = Unit {0}
 IsPlain (WithMeta w) = ⊥
+IsPlain (GetKeys n) = Unit {0}
 
 module _ (op : ℕ) (extras : List ℕ) where
   abbrev PlainShape : Shape → Type 0
@@ -186,7 +187,7 @@ module _ (op : ℕ) (extras : List ℕ) where
             inl tt,
             (
               inl tt,
-              (inl tt, (inl tt, (inl tt, (inl tt, (inl tt, (inl tt, (inr (a2, rw a3), (inr (a4, rw a5), (inr (a8, rw a9), tt))))))))),
+              (inl tt, (inl tt, (inl tt, (inl tt, (inl tt, (inl tt, (inr (a2, rw a3), (inr (a4, rw a5), (inr (a8, rw a9), (inl tt, tt)))))))))),
             ),
           ),
         ),

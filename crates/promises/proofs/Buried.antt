@@ -14,7 +14,7 @@ use Rattle.octets.proofs.Choices.{cases}
 use Rattle.octets.proofs.Options.{options, none-some}
 use Rattle.octets.proofs.Tests.{same-true, same-refl}
 use Rattle.digits.specs.Decimal.{numberOf}
-use Rattle.document.specs.Documents.{Key, Doc, Entry, docValue}
+use Rattle.document.specs.Documents.{Key, Doc, Entry}
 use Rattle.document.specs.Stored.{storedOf, metadataOf, live}
 use Rattle.header.specs.declared.Header.{Header}
 use Rattle.header.specs.Header.{headerOf}
@@ -39,18 +39,18 @@ use Rattle.plain.proofs.ChangeLaws.{put-good}
 use Rattle.plain.proofs.TableLaws.{sound-good, good-sound}
 use Rattle.serving.specs.declared.Served.{Served}
 use Rattle.serving.specs.declared.Served.the-variants.{Done}
-use Rattle.serving.specs.Reply.{replyBytes}
-use Rattle.serving.specs.Serve.{reachesDecision, decisionOn, answerOn, tableChanged, frameChange, frameTable, frameReply, gateAll, answerBy, tableBy, replyBy, served, servedTable, servedReply}
+use Rattle.serving.specs.Reply.{replyShows, replyBytes}
+use Rattle.serving.specs.Serve.{reachesDecision, decisionOn, frameEffect, tableChanged, frameChange, frameTable, frameReply, gateAll, answerBy, tableBy, replyBy, served, servedTable, servedReply}
 use Rattle.serving.proofs.Change.{changing, unchanged}
 use Rattle.serving.proofs.Gated.{was-open}
 use Rattle.promises.specs.Merge.{docAt}
 use Rattle.promises.specs.Expiry.{opcode, extrasIn, keyIn, withMetas, Expired, tombstoneOf, buried, AsBuried, ExpiredIsDead}
 use Rattle.promises.proofs.Asks.{plain-asked, IsPlain}
 use Rattle.promises.proofs.Liveness.{dead}
-use Rattle.promises.proofs.Alike.{Blind, blind-reply, same-decision}
+use Rattle.promises.proofs.Alike.{Blind, blind-reply, put-dead, same-decision}
 
 -- ---- rows
-found-good : (mark : ℕ) (ws : List Row) (k : Key) (d : Doc) → AllGood mark ws → findRow ws k ≡ some d → EntryGood mark (record { key = k; doc = d })
+pub found-good : (mark : ℕ) (ws : List Row) (k : Key) (d : Doc) → AllGood mark ws → findRow ws k ≡ some d → EntryGood mark (record { key = k; doc = d })
 found-good mark [] k d g e = none-some d e
 found-good mark (none ∷ ws) k d g e = found-good mark ws k d g e
 found-good mark (some x ∷ ws) k d g e =
@@ -158,26 +158,26 @@ module _ (b : List ℕ) (clock : ℕ) (s : List ℕ) (d : Doc) (y : Bytes b) (z 
   unfolding decisionOn
   decided = cases (reachesDecision (frameStatus s h)) (λ r. rw r rows-alike) (λ r. rw r (refl, tt))
 
-  effects : answerOn t clock s h .effect ≡ answerOn u clock s h .effect
-  unfolding answerOn
+  effects : frameEffect t clock s h ≡ frameEffect u clock s h
+  unfolding frameEffect
   effects = ap (effectOf (requestOf s h)) (decided .0)
 
   -- ---- a whole frame
   replies : frameReply b clock s h ≡ frameReply grave clock s h
   unfolding frameReply
   replies =
-      let old = docValue (findRow (t .rows) k) in
-      let old′ = docValue (findRow (u .rows) k) in
-      blind-reply (h .opcode) (h .opaque) (decisionOn t clock s h) k old old′ (decided .1)
-      ∙ ap (λ (x : Decision). replyBytes (h .opcode) (h .opaque) x k old′) (decided .0)
-      ∙ ap (λ (x : Table). replyBytes (h .opcode) (h .opaque) (decisionOn x clock s h) k (docValue (findRow (x .rows) k))) (sym grave-table)
+      let keys = put-dead clock (t .rows) k d (tombstoneOf d) there dead-row dead-grave in
+      let shown : List Row → Decision → List ℕ = λ rows x. replyBytes (h .opcode) (h .opaque) x k (replyShows (x .done .reply) rows clock k) in
+      blind-reply (t .rows) (u .rows) clock k keys (h .opcode) (h .opaque) (decisionOn t clock s h) (decided .1)
+      ∙ ap (shown (u .rows)) (decided .0)
+      ∙ ap (λ (x : Table). shown (x .rows) (decisionOn x clock s h)) (sym grave-table)
 
   module _ (inside : 24 + h .body ≤ length s) where
     abbrev Ends : Type 0
     Ends = (frameTable b clock s h ≡ frameTable grave clock s h) ⊎ ((frameTable b clock s h ≡ b) × (frameTable grave clock s h ≡ grave))
 
     abbrev effect : Effect
-    effect = answerOn t clock s h .effect
+    effect = frameEffect t clock s h
 
     -- nothing stored: both stay
     stay : effect .store ≡ none → Ends
@@ -210,8 +210,8 @@ module _ (b : List ℕ) (clock : ℕ) (s : List ℕ) (d : Doc) (y : Bytes b) (z 
   unfolding gateAll
   gates n = rw (undamaged, grave-sound)
 
-  statuses-alike : answerOn (tableOf b) clock s h .effect .status ≡ answerOn (tableOf grave) clock s h .effect .status
-  statuses-alike = ap (λ (x : Effect). x .status) effects ∙ ap (λ (x : Table). answerOn x clock s h .effect .status) (sym grave-table)
+  statuses-alike : frameEffect (tableOf b) clock s h .status ≡ frameEffect (tableOf grave) clock s h .status
+  statuses-alike = ap (λ (x : Effect). x .status) effects ∙ ap (λ (x : Table). frameEffect x clock s h .status) (sym grave-table)
 
   module _ (out : List ℕ) where
     abbrev By : Gate → Type 0

@@ -31,7 +31,7 @@ use Rattle.rows.specs.Find.{findRow}
 use Rattle.plain.specs.Plain.{plain}
 use Rattle.plain.proofs.PlainLaws.{plain-laws}
 use Rattle.plain.proofs.TableLaws.{sound-good, good-sound}
-use Rattle.serving.specs.Serve.{reachesDecision, decisionOn, answerOn, frameChange, frameTable, gateAll, tableBy, servedTable}
+use Rattle.serving.specs.Serve.{reachesDecision, decisionOn, frameEffect, frameChange, frameTable, gateAll, tableBy, servedTable}
 use Rattle.serving.proofs.Change.{changing, change-good}
 use Rattle.serving.proofs.Formed.{no}
 use Rattle.serving.proofs.Gated.{was-open}
@@ -44,7 +44,7 @@ use Rattle.promises.proofs.Dead.{seen, command, count-needs, without-mi
 
 -- what a served frame stores is what its key has then
 pub stored-at : (b : List ℕ) (clock : ℕ) (s : List ℕ) (room : ℕ) (d : Doc) → Bytes b → Bytes s → gateAll b room s ≡ Whole (headerOf s)
-    → answerOn (tableOf b) clock s (headerOf s) .effect .store ≡ some d → docAt (servedTable b clock s room) (keyIn s) ≡ some d
+    → frameEffect (tableOf b) clock s (headerOf s) .store ≡ some d → docAt (servedTable b clock s room) (keyIn s) ≡ some d
 unfolding servedTable frameTable
 stored-at b clock s room d y z o e =
     let t = tableOf b in
@@ -64,8 +64,8 @@ module _ (b : List ℕ) (clock : ℕ) (s : List ℕ) (room : ℕ) (d : Doc)
     (does : docFrom (doneOf (seen b clock s) (command b clock s) .store)
     (bytesFrom (doneOf (seen b clock s) (command b clock s) .source) (requestOf s (headerOf s) .value)) ≡ some d) where
   reached : reachesDecision (frameStatus s (headerOf s)) ≡ true → decisionOn (tableOf b) clock s (headerOf s) .status ≡ 0
-      → answerOn (tableOf b) clock s (headerOf s) .effect .store ≡ some d
-  unfolding answerOn decisionOn decision
+      → frameEffect (tableOf b) clock s (headerOf s) .store ≡ some d
+  unfolding frameEffect decisionOn decision
   reached r e = rw (r, eq-eqb _ 0 (rw r at e)) does
 
   unreached : reachesDecision (frameStatus s (headerOf s)) ≡ false → decisionOn (tableOf b) clock s (headerOf s) .status ≡ 0 → ⊥

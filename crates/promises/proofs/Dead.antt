@@ -82,7 +82,7 @@ module _ (b : List ℕ) (clock : ℕ) (s : List ℕ) where
   not-missing e z = rw (e, unguarded z)
 
   -- where a test doesn't fail, its status isn't given
-  abbrev list : List Check
+  abbrev pub list : List Check
   list = statuses (tableOf b) clock s (headerOf s)
 
   pub without-missing : tests .missing ≡ false → Without 0x01 list

@@ -28,7 +28,7 @@ use Rattle.plain.proofs.TableLaws.{sound-good, good-sound}
 use Rattle.merge.specs.Merge.{All, changed, effectOn, tableOn, tableAfter, statusesOf}
 use Rattle.merge.specs.Merge as abstract
 use Rattle.merge.proofs.Demand3 as abstractly
-use Rattle.serving.specs.Serve.{servedOutcome, servedStatus, served, servedTable, gateAll, decisionOn, answerOn, frameChange, frameTable}
+use Rattle.serving.specs.Serve.{servedOutcome, servedStatus, served, servedTable, gateAll, decisionOn, frameEffect, frameChange, frameTable}
 use Rattle.serving.proofs.Change.{change-good}
 use Rattle.promises.specs.Calls.{Call, servedBy, tableServed, bytesAfter, callOutcomes, callStatuses}
 use Rattle.promises.specs.Merge.{MergingCall, modeAt, docAt, writes, Premises, Merged, Demand3}
@@ -57,8 +57,8 @@ abbrev steppedAll : Table → List Call → Table
 steppedAll t [] = t
 steppedAll t (c ∷ cs) = steppedAll (stepped t c) cs
 
-effect-same : (t : Table) (c : Call) → Passes c → answerOn t (c .clock) (c .received) (headerOf (c .received)) .effect ≡ effectOn plain (viewed t) (asked c)
-unfolding answerOn decisionOn effectOn decide requestOf
+effect-same : (t : Table) (c : Call) → Passes c → frameEffect t (c .clock) (c .received) (headerOf (c .received)) ≡ effectOn plain (viewed t) (asked c)
+unfolding frameEffect decisionOn effectOn decide requestOf
 effect-same t c w = rw (w .form)
 
 step-same : (t : Table) (c : Call) → Passes c → viewed (stepped t c) ≡ tableOn plain (viewed t) (asked c)

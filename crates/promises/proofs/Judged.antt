@@ -23,7 +23,7 @@ use Rattle.rows.specs.Table.{headOf, tableOf, headBytes, tableBytes}
 use Rattle.plain.specs.Damage.{sound}
 use Rattle.rows.specs.RowRules.{sizeOk, headOk, usedOk, rowSound}
 use Rattle.serving.specs.Reply.{replyHeader, replyBytes}
-use Rattle.serving.specs.Serve.{gateAll, decisionOn, answerOn, frameTable, frameReply, served, servedTable, servedReply}
+use Rattle.serving.specs.Serve.{gateAll, decisionOn, frameEffect, frameTable, frameReply, served, servedTable, servedReply}
 use Rattle.promises.specs.Judged.{Judged}
 
 pub judged-examples : Judged
@@ -32,6 +32,6 @@ unfolding pasted written beFrom be bytesOf zeros same digits digitsIn numberOf n
     optionsOf sectionOf withMeta fieldOk fieldSize walk fieldsOk sectionOk formOk numbersOk bodyOk withMetaOk metaSize fieldRulesOk judged status
     gateOf extrasSpan keySpan valueSpan frameStatus ruleOf testsOf firstStatus firstFailure decision doneOf plainOf counterOf metaCommand commandOf
     bareValue requestOf slotOf sizeBytes shortBytes longBytes slotBytes docOf keyOf rowOf slotFor usedBytes rowBytes headOf tableOf headBytes
-    tableBytes sizeOk headOk usedOk rowSound sound replyHeader replyBytes gateAll decisionOn answerOn frameTable frameReply served servedTable
+    tableBytes sizeOk headOk usedOk rowSound sound replyHeader replyBytes gateAll decisionOn frameEffect frameTable frameReply served servedTable
     servedReply
 judged-examples = refl

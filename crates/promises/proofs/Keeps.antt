@@ -19,16 +19,16 @@ use Rattle.rows.specs.Find.{findRow, freeRows}
 use Rattle.serving.specs.declared.Served.the-variants.{Done}
 use Rattle.serving.proofs.Gated.{was-open, refused-keeps as call-keeps}
 use Rattle.serving.proofs.Change.{unchanged}
-use Rattle.serving.specs.Serve.{reachesDecision, decisionOn, answerOn, frameTable, answerBy, tableBy, served, servedTable, gateAll}
+use Rattle.serving.specs.Serve.{reachesDecision, decisionOn, frameEffect, frameTable, answerBy, tableBy, served, servedTable, gateAll}
 use Rattle.promises.specs.Table.{RefusedKeeps, StatusKeeps}
 
 pub refused-keeps : RefusedKeeps
 refused-keeps = call-keeps
 
 -- ---- another status than 0: nothing is stored, and the head stays
-nothing-stored : (t : Table) (clock : ℕ) (s : List ℕ) (h : Header) → (answerOn t clock s h .effect .status ≡ 0 → ⊥)
-    → (answerOn t clock s h .effect .store ≡ none) × (answerOn t clock s h .effect .head ≡ t .head)
-unfolding answerOn decisionOn decide
+nothing-stored : (t : Table) (clock : ℕ) (s : List ℕ) (h : Header) → (frameEffect t clock s h .status ≡ 0 → ⊥)
+    → (frameEffect t clock s h .store ≡ none) × (frameEffect t clock s h .head ≡ t .head)
+unfolding frameEffect decisionOn decide
 nothing-stored t clock s h n =
     cases (reachesDecision (frameStatus s h))
     (λ y. rw y (decided-keeps (t .head) (findRow (t .rows) (bytesIn s (keySpan h))) (ltb 0 (freeRows (t .rows))) clock (requestOf s h) (rw y at n)))
@@ -39,7 +39,7 @@ kept : (b : List ℕ) (clock : ℕ) (s : List ℕ) (room status used len : ℕ) 
 unfolding frameTable
 kept b clock s room status used len (Stop m more) y o e n = refl
 kept b clock s room status used len (Whole h) y o e n =
-    let z : answerOn (tableOf b) clock s h .effect .status ≡ status = cc in
+    let z : frameEffect (tableOf b) clock s h .status ≡ status = cc in
     let p = nothing-stored (tableOf b) clock s h (λ y. n (sym z ∙ y)) in
     ap tableBytes (unchanged (tableOf b) clock s h (p .0) (p .1)) ∙ sound-good b y (was-open b s room h o .undamaged) .0
 

@@ -13,3 +13,4 @@ pub mod Judged
 pub mod Worked
 pub mod Candidates
 pub mod Replies
+pub mod Listing

@@ -8,8 +8,8 @@ use mathlib.Core.Option.{Option, none, some}
 use native.Mathlib.Omega.{arith}
 use lib.ListN.{length, take, drop, take-append-drop}
 use lib.Dec.{eqb, ltb, leb}
-use borrow.Author.Tests.{eqb-true, eq-eqb, ne-eqb, le-leb, lt-leb, le-ltb}
-use Rattle.octets.proofs.Choices.{cases}
+use borrow.Author.Tests.{eqb-true, eq-eqb, ne-eqb, le-leb, lt-leb, le-ltb, leb-false, not-true}
+use Rattle.octets.proofs.Choices.{cases, both}
 use Rattle.numbers.specs.Expiry.{expired}
 use Rattle.document.specs.Documents.{Doc}
 use Rattle.document.specs.Stored.{storedOf, live}
@@ -22,7 +22,7 @@ use Rattle.commands.specs.Rules.{Check, firstFailure}
 use Rattle.rows.specs.Table.{tableOf}
 use Rattle.plain.specs.Damage.{sound}
 use Rattle.serving.specs.declared.Served.the-variants.{Refused, Done}
-use Rattle.serving.specs.Serve.{decisionOn, answerOn, answerBy, tableBy, frameTable, frameReply, gateAll, served, servedTable}
+use Rattle.serving.specs.Serve.{decisionOn, frameEffect, answerBy, tableBy, frameTable, frameReply, gateAll, served, servedTable}
 use Rattle.serving.specs.Statuses.{statuses}
 use Rattle.serving.proofs.Formed.{no}
 use Rattle.serving.proofs.Gated.{was-open}
@@ -56,6 +56,20 @@ alive-by clock d e (inr l) = rw (e, lt-leb (d .numbers .expiry) clock l, and-fal
 pub alive : (clock : ℕ) (d : Doc) → Live clock d → live (storedOf (some d)) clock ≡ true
 alive clock d a = alive-by clock d (a .document) (a .unexpired)
 
+-- and the other way round: what the test takes for live is so by 01's words
+pub live-said : (clock : ℕ) (d : Doc) → live (storedOf (some d)) clock ≡ true → Live clock d
+unfolding live expired
+live-said clock d e =
+    let (t, n) = both (not (d .tomb)) _ e in
+    let past = not-true (not (eqb (d .numbers .expiry) 0) && leb (d .numbers .expiry) clock) n in
+    record {
+      document = not-true (d .tomb) t;
+      unexpired =
+          cases (eqb (d .numbers .expiry) 0)
+          (λ z. inl (eqb-true (d .numbers .expiry) 0 z))
+          (λ z. inr (leb-false (d .numbers .expiry) clock (rw z at past)));
+    }
+
 -- ---- lists of checks
 -- where the first n pass, the later ones decide
 passed-first : (a b : List Check) → Passes a → firstFailure (a ++ b) ≡ firstFailure b
@@ -87,10 +101,10 @@ module _ (b : List ℕ) (clock : ℕ) (s : List ℕ) (room : ℕ) where
   abbrev decided : ℕ
   decided = decisionOn (tableOf b) clock s (headerOf s) .status
 
-  listed : decided ≡ status
+  pub listed : decided ≡ status
   listed = sym (statuses-in-order (tableOf b) clock s (headerOf s))
 
-  opened : Reaches b clock s room → gateAll b room s ≡ Whole (headerOf s)
+  pub opened : Reaches b clock s room → gateAll b room s ≡ Whole (headerOf s)
   unfolding gateAll
   opened r = rw (r .undamaged, le-ltb room 1302 (r .roomy)) (r .whole)
 
@@ -99,13 +113,13 @@ module _ (b : List ℕ) (clock : ℕ) (s : List ℕ) (room : ℕ) where
   table-open r = ap (tableBy b clock s) (opened r)
 
   pub answers : Reaches b clock s room → (n : ℕ) → status ≡ n → Answers b clock s room n
-  unfolding served answerOn
+  unfolding served frameEffect
   answers r n e =
       let len = length (frameReply b clock s (headerOf s)) in
       (len, ap (answerBy b clock s) (opened r) ∙ ap (λ (x : ℕ). Done x (24 + headerOf s .body) len) (listed ∙ e))
 
   answered-by : (n used len : ℕ) (g : Gate) → gateAll b room s ≡ g → answerBy b clock s g ≡ Done n used len → decided ≡ n
-  unfolding answerOn
+  unfolding frameEffect
   answered-by n used len (Stop m more) o e = absurd (let z : _≡_ {A = ℕ} 0 1 = cc in omega arith)
   answered-by n used len (Whole h) o e =
       let same = was-open b s room h o .frame .header in

@@ -36,8 +36,8 @@ use Rattle.decode.specs.Decode.{plainOf, counterOf, metaCommand, commandOf, req
 use Rattle.rows.specs.Table.{Table, tableOf}
 use Rattle.rows.specs.Find.{findRow}
 use Rattle.serving.specs.declared.Served.the-variants.{Done}
-use Rattle.serving.specs.Reply.{replyHeader, replyBytes}
-use Rattle.serving.specs.Serve.{reachesDecision, contextOn, decisionOn, answerOn, frameReply, answerBy, replyBy, gateAll, served, servedReply}
+use Rattle.serving.specs.Reply.{replyShows, replyHeader, replyBytes}
+use Rattle.serving.specs.Serve.{reachesDecision, contextOn, decisionOn, frameEffect, frameReply, answerBy, replyBy, gateAll, served, servedReply}
 use Rattle.serving.proofs.Formed.{by-cond, no}
 use Rattle.serving.proofs.Gated.{was-open}
 use Rattle.reply.specs.Fitting.{bareHeader}
@@ -46,7 +46,7 @@ use Rattle.promises.specs.Replies.{Fits, ReplyFits, bareReply, silentMis
 
 -- ---- a reply that is put at the start of an area where it fits
 module _ (out xs : List ℕ) (h : length xs ≤ length out) where
-  put : written out 0 xs ≡ xs ++ drop (length xs) out
+  pub put : written out 0 xs ≡ xs ++ drop (length xs) out
   unfolding pasted
   put = written-fits out 0 xs (omega arith) ∙ ap (λ (n : ℕ). xs ++ drop n out) (let e : 0 + length xs ≡ length xs = omega arith in e)
 
@@ -88,7 +88,7 @@ module _ (c : Context) (extras : List ℕ) (op st : ℕ) (z : eqb st 0 ≡ false
 
   others : Each Speaks op (drop 2 commands)
   unfolding commands ruleOf commandOf plainOf counterOf metaCommand
-  others = (speaks, (speaks, (speaks, (speaks, (speaks, (speaks, (speaks, (speaks, (speaks, (speaks, (speaks, tt)))))))))))
+  others = (speaks, (speaks, (speaks, (speaks, (speaks, (speaks, (speaks, (speaks, (speaks, (speaks, (speaks, (speaks, tt))))))))))))
 
   silent-is : silentBy (shapeOf op) ≡ silentMiss op st
   unfolding shapeOf lookUp commands among unbuilt ruleOf commandOf
@@ -162,23 +162,23 @@ alone-size st s y l =
 
 module _ (b : List ℕ) (clock : ℕ) (s : List ℕ) where
   abbrev StatusAlone : Header → Type 0
-  StatusAlone h = (answerOn (tableOf b) clock s h .effect .status ≡ 0 → ⊥) → frameReply b clock s h ≡ statusReply (answerOn (tableOf b) clock s h .effect .status) s
+  StatusAlone h = (frameEffect (tableOf b) clock s h .status ≡ 0 → ⊥) → frameReply b clock s h ≡ statusReply (frameEffect (tableOf b) clock s h .status) s
 
   frame-status : Bytes s → 24 ≤ length s → StatusAlone (headerOf s)
-  unfolding frameReply answerOn
+  unfolding frameReply frameEffect
   frame-status y l n =
       let h = headerOf s in
       let key = bytesIn s (keySpan h) in
-      let old = docValue (findRow (tableOf b .rows) key) in
-      ap (λ (d : Decision). replyBytes (h .opcode) (h .opaque) d key old) (decides-alone (tableOf b) clock s h n)
-      ∙ alone-reply s (tableOf b .head) (decisionOn (tableOf b) clock s h .status) key old y l
+      let shown : Decision → List ℕ = λ d. replyShows (d .done .reply) (tableOf b .rows) clock key in
+      ap (λ (d : Decision). replyBytes (h .opcode) (h .opaque) d key (shown d)) (decides-alone (tableOf b) clock s h n)
+      ∙ alone-reply s (tableOf b .head) (decisionOn (tableOf b) clock s h .status) key (docValue (findRow (tableOf b .rows) key)) y l
 
 status-by : (b : List ℕ) (clock : ℕ) (s out : List ℕ) (st used len : ℕ) (g : Gate) → gateAll b (length out) s ≡ g → Bytes s → answerBy b clock s g ≡ Done st used len → (st ≡ 0 → ⊥)
     → (len ≡ length (statusReply st s)) × (replyBy b clock s out g ≡ statusReply st s ++ drop len out)
 status-by b clock s out st used len (Stop n need) q y e z = absurd (let z : _≡_ {A = ℕ} 0 1 = cc in omega arith)
 status-by b clock s out st used len (Whole h) q y e z =
     let w = was-open b s (length out) h q in
-    let p : answerOn (tableOf b) clock s h .effect .status ≡ st = cc in
+    let p : frameEffect (tableOf b) clock s h .status ≡ st = cc in
     let l : length (frameReply b clock s h) ≡ len = cc in
     let f = subst (StatusAlone b clock s) (w .frame .header) (frame-status b clock s y (w .frame .long)) (λ v. z (sym p ∙ v)) ∙ ap (λ (k : ℕ). statusReply k s) p in
     let m = alone-size st s y (w .frame .long) in

@@ -35,7 +35,7 @@ use Rattle.rows.specs.Table.{tableOf, tableBytes}
 use Rattle.rows.specs.Find.{freeRows}
 use Rattle.plain.specs.Damage.{sound}
 use Rattle.rows.specs.RowRules.{sizeOk, headOk, usedOk, rowSound}
-use Rattle.serving.specs.Serve.{gateAll, decisionOn, answerOn, frameTable, served, servedTable}
+use Rattle.serving.specs.Serve.{gateAll, decisionOn, frameEffect, frameTable, served, servedTable}
 use Rattle.promises.proofs.Candidates.{Holds, found-all, for-all, candidates-all}
 use Rattle.merge.specs.Writes.{_∈_, for, newKeys}
 use Rattle.merge.specs.Merge.{All}
@@ -155,7 +155,7 @@ last-write-premises = premises (table 2) (calls 2) (worked-computed .1)
 pub worked : Worked
 unfolding written be bytesOf zeros same greater accepted shapeOf headerOf withMeta sectionOk status gateOf keySpan frameStatus ruleOf testsOf
     firstStatus firstFailure decision doneOf requestOf slotOf rowOf rowBytes tableOf tableBytes sizeOk headOk usedOk rowSound sound gateAll decisionOn
-    answerOn frameTable served servedTable
+    frameEffect frameTable served servedTable
 worked = record {
   by-revision = record {
     premises = by-revision-premises;

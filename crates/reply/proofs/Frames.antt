@@ -2,12 +2,10 @@
 use Prim.Native.Nat.{ℕ, _+_, _≤_}
 use mathlib.Core.Path.{_≡_, ap, _∙_}
 use mathlib.Core.Bool.{true, false}
-use mathlib.Core.List.{List, [], _∷_, append-nil}
-use mathlib.Core.Option.{none, some}
+use mathlib.Core.List.{List, [], append-nil}
 use native.Mathlib.Omega.{arith}
 use lib.ListN.{length, length-append}
 use Rattle.octets.specs.Parts.{Bytes}
-use Rattle.octets.specs.Compare.{same}
 use Rattle.octets.proofs.Choices.{cases}
 use Rattle.octets.proofs.Lists.{part-most}
 use Rattle.header.specs.declared.Header.{Header}
@@ -15,19 +13,15 @@ use Rattle.header.specs.Header.{headerBytes}
 use Rattle.header.proofs.HeaderLaws.{length-header}
 use Rattle.rules.proofs.RuleLaws.{key-most}
 use Rattle.request.specs.Reading.{frameStatus, bytesIn, extrasSpan, keySpan, valueSpan}
-use Rattle.document.specs.Documents.{Key, docValue}
 use Rattle.document.specs.declared.Head.{Head}
 use Rattle.decision.specs.declared.Decision.{Decision}
-use Rattle.rows.specs.Row.{Row}
 use Rattle.rows.specs.Table.{headOf, tableOf}
-use Rattle.rows.specs.Find.{findRow}
-use Rattle.rows.specs.Good.{AllGood}
 use Rattle.plain.specs.Damage.{sound}
 use Rattle.plain.proofs.TableLaws.{sound-good}
 use Rattle.serving.specs.Reply.{bodyOf, replyHeader, replyBytes}
 use Rattle.serving.specs.Serve.{reachesDecision, refusal, decisionOn, frameReply}
 use Rattle.reply.specs.Fitting.{bareHeader}
-use Rattle.reply.proofs.Replies.{body-most}
+use Rattle.reply.proofs.Replies.{shown-body-most}
 
 -- ---- a frame whose status the reader gives
 pub bare-reply : (op opaque : ℕ) (hd : Head) (st : ℕ) → replyBytes op opaque (refusal hd st) [] [] ≡ headerBytes (bareHeader op opaque st)
@@ -56,25 +50,20 @@ key-short s h e =
     let k = key-most h (bytesIn s (extrasSpan h)) (bytesIn s (valueSpan h)) e in
     omega (arith, part-most s (24 + h .extlen) (h .keylen), k)
 
-pub value-short : (mark : ℕ) (ws : List Row) (k : Key) → AllGood mark ws → length (docValue (findRow ws k)) ≤ 1024
-value-short mark [] k g = omega arith
-value-short mark (none ∷ ws) k g = value-short mark ws k g
-value-short mark (some x ∷ ws) k g = cases (same (x .key) k) (λ e. rw e (g .0 .value-most)) (λ e. rw e (value-short mark ws k (g .1)))
-
-bytes-most : (op opaque : ℕ) (d : Decision) (key old : List ℕ) → length key ≤ 250 → length old ≤ 1024 → length (replyBytes op opaque d key old) ≤ 1302
+bytes-most : (op opaque : ℕ) (d : Decision) (key old : List ℕ) → length (bodyOf (d .done .reply) key old) ≤ 1278 → length (replyBytes op opaque d key old) ≤ 1302
 unfolding replyBytes
-bytes-most op opaque d key old h k =
+bytes-most op opaque d key old k =
     cases (d .silent)
     (λ t. rw t (omega arith))
     (λ f.
     let header = replyHeader op opaque d key old in
-    rw f (omega (arith, length-append (headerBytes header) (bodyOf (d .done .reply) key old), length-header header, body-most (d .done .reply) key old h k)))
+    rw f (omega (arith, length-append (headerBytes header) (bodyOf (d .done .reply) key old), length-header header, k)))
 
 pub reply-most : (b : List ℕ) (clock : ℕ) (s : List ℕ) (h : Header) → Bytes b → sound b ≡ true → length (frameReply b clock s h) ≤ 1302
 unfolding frameReply
 reply-most b clock s h y k =
     let key = bytesIn s (keySpan h) in
     cases (reachesDecision (frameStatus s h))
-    (λ t. bytes-most (h .opcode) (h .opaque) (decisionOn (tableOf b) clock s h) key _ (key-short s h t)
-    (value-short (tableOf b .head .mark .0) (tableOf b .rows) key (sound-good b y k .1 .rows)))
+    (λ t. bytes-most (h .opcode) (h .opaque) (decisionOn (tableOf b) clock s h) key _
+    (shown-body-most (decisionOn (tableOf b) clock s h .done .reply) (tableOf b .head .mark .0) (tableOf b .rows) clock key (key-short s h t) (sound-good b y k .1 .rows)))
     (λ f. omega (arith, refused-length b s clock h f))

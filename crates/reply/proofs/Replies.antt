@@ -2,23 +2,31 @@
 use native.Mathlib.Omega.{arith}
 use mathlib.Core.Path.{_≡_, refl, sym, ap, _∙_}
 use mathlib.Core.Bool.{Bool, true, false, cond, _||_}
-use mathlib.Core.List.{List, [], _++_}
+use mathlib.Core.List.{List, [], _∷_, _++_}
+use mathlib.Core.Option.{none, some}
 use Prim.Native.Nat.{ℕ, _+_, _≤_}
 use lib.ListN.{length, length-append}
 use lib.Dec.{ltb}
 use borrow.Author.Tests.{ltb-false, le-ltb}
 use Rattle.octets.specs.Parts.{written}
 use Rattle.octets.specs.BigEndian.{bytesOf}
-use Rattle.octets.proofs.Choices.{neither}
+use Rattle.octets.specs.Compare.{same}
+use Rattle.octets.proofs.Choices.{cases, neither}
 use Rattle.octets.proofs.Lists.{before, written-none}
 use Rattle.header.specs.declared.Header.{Header}
 use Rattle.header.specs.Header.{headerBytes}
 use Rattle.header.proofs.HeaderLaws.{length-header}
 use Rattle.effects.specs.declared.Reply.{Reply}
-use Rattle.effects.specs.declared.Reply.the-variants.{Bare, Found, Counted, Version as VersionReply}
+use Rattle.effects.specs.declared.Reply.the-variants.{Bare, Found, Counted, Version as VersionReply, Keys}
 use Rattle.decision.specs.declared.Decision.{Decision}
 use Rattle.decision.specs.Decide.{replyKey}
-use Rattle.serving.specs.Reply.{bodyOf, replyHeader, replyBytes}
+use Rattle.document.specs.Documents.{Key, docValue}
+use Rattle.listing.proofs.Taken.{listing-short}
+use Rattle.rows.specs.Row.{Row}
+use Rattle.rows.specs.Find.{findRow}
+use Rattle.rows.specs.Good.{AllGood}
+use Rattle.plain.specs.Plain.{plain}
+use Rattle.serving.specs.Reply.{replyShows, bodyOf, replyHeader, replyBytes}
 use Rattle.reply.specs.Fitting.{unfit, fittingReply}
 
 shown-most : (keyed : Bool) (key : List ℕ) → length (cond keyed key []) ≤ length key
@@ -33,10 +41,16 @@ key-most Bare key = omega arith
 key-most (Found flags keyed) key = shown-most keyed key
 key-most (Counted n) key = omega arith
 key-most VersionReply key = omega arith
+key-most (Keys n) key = omega arith
 
 found-size : (flags : ℕ) (shown old : List ℕ) → length (bytesOf 4 flags ++ (shown ++ old)) ≡ 4 + length shown + length old
 unfolding bytesOf
 found-size flags shown old = simp length-append (omega arith)
+
+pub value-short : (mark : ℕ) (ws : List Row) (k : Key) → AllGood mark ws → length (docValue (findRow ws k)) ≤ 1024
+value-short mark [] k g = omega arith
+value-short mark (none ∷ ws) k g = value-short mark ws k g
+value-short mark (some x ∷ ws) k g = cases (same (x .key) k) (λ e. rw e (g .0 .value-most)) (λ e. rw e (value-short mark ws k (g .1)))
 
 pub body-most : (r : Reply) (key old : List ℕ) → length key ≤ 250 → length old ≤ 1024 → length (bodyOf r key old) ≤ 1278
 unfolding bytesOf
@@ -44,6 +58,15 @@ body-most Bare key old h k = omega arith
 body-most (Found flags keyed) key old h k = omega (arith, found-size flags (cond keyed key []) old, shown-most keyed key)
 body-most (Counted n) key old h k = omega arith
 body-most VersionReply key old h k = omega arith
+body-most (Keys n) key old h k = omega arith
+
+-- the same of what a table shows
+pub shown-body-most : (r : Reply) (mark : ℕ) (rows : List Row) (clock : ℕ) (key : Key) → length key ≤ 250 → AllGood mark rows → length (bodyOf r key (replyShows r rows clock key)) ≤ 1278
+shown-body-most Bare mark rows clock key h g = body-most Bare key (docValue (findRow rows key)) h (value-short mark rows key g)
+shown-body-most (Found flags keyed) mark rows clock key h g = body-most (Found flags keyed) key (docValue (findRow rows key)) h (value-short mark rows key g)
+shown-body-most (Counted n) mark rows clock key h g = body-most (Counted n) key (docValue (findRow rows key)) h (value-short mark rows key g)
+shown-body-most VersionReply mark rows clock key h g = body-most VersionReply key (docValue (findRow rows key)) h (value-short mark rows key g)
+shown-body-most (Keys n) mark rows clock key h g = listing-short (plain .docs rows) clock key n
 
 -- a body's length and what its writer leaves
 abbrev pub Bodied : Reply → List ℕ → List ℕ → ℕ → List ℕ → List ℕ → Type 0

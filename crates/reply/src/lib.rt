@@ -39,14 +39,14 @@ fn put_found(out: &mut [u8], flags: u32, key: &[u8], old: &[u8]) -> usize
 }
 
 // Extras, key and value from byte 24 on, and their length.
-fn put_body(out: &mut [u8], r: Reply, key: &[u8], old: &[u8]) -> usize
-    requires { ⌜ (1302 ≤ length (now out)) × ((length (now key) ≤ 250) × (length (now old) ≤ 1024)) ⌝ }
-    ensures { λ n. ⌜ (n ≡ length (bodyOf r (now (key .entry)) (now (old .entry))))
-        × (now (out .exit) ≡ written (now (out .entry)) 24 (bodyOf r (now (key .entry)) (now (old .entry)))) ⌝ }
+fn put_body(out: &mut [u8], r: Reply, key: &[u8], shown: &[u8]) -> usize
+    requires { ⌜ (1302 ≤ length (now out)) × ((length (now key) ≤ 250) × (length (now shown) ≤ 1024)) ⌝ }
+    ensures { λ n. ⌜ (n ≡ length (bodyOf r (now (key .entry)) (now (shown .entry))))
+        × (now (out .exit) ≡ written (now (out .entry)) 24 (bodyOf r (now (key .entry)) (now (shown .entry)))) ⌝ }
 {
     match r {
         Reply::Bare => 0,
-        Reply::Found(flags, keyed) => put_found(out, flags, shown_key(keyed, key), old),
+        Reply::Found(flags, keyed) => put_found(out, flags, shown_key(keyed, key), shown),
         Reply::Counted(n) => {
             octets::put_be(out, 24, 8, n);
             8
@@ -54,6 +54,10 @@ fn put_body(out: &mut [u8], r: Reply, key: &[u8], old: &[u8]) -> usize
         Reply::Version => {
             octets::put_bytes(out, 24, b"4.0.0");
             5
+        }
+        Reply::Keys(_) => {
+            octets::put_bytes(out, 24, shown);
+            shown.len()
         }
     }
 }
@@ -66,6 +70,7 @@ fn extras_size(r: Reply) -> u8
         Reply::Found(_, _) => 4,
         Reply::Counted(_) => 0,
         Reply::Version => 0,
+        Reply::Keys(_) => 0,
     }
 }
 
@@ -77,6 +82,7 @@ fn key_size(r: Reply, key: &[u8]) -> usize
         Reply::Found(_, keyed) => shown_key(keyed, key).len(),
         Reply::Counted(_) => 0,
         Reply::Version => 0,
+        Reply::Keys(_) => 0,
     }
 }
 
@@ -148,4 +154,11 @@ pub fn put_bare(out: &mut [u8], op: u8, opaque: u32, status: u8)
     ensures { λ _. ⌜ now (out .exit) ≡ written (now (out .entry)) 0 (headerBytes (bareHeader op opaque status)) ⌝ }
 {
     header::put(out, header_with(op, opaque, status, 0, 0, 0, Cas(0)));
+}
+
+// Writes the header of a reply whose value of so many bytes stands after it already.
+pub fn put_value_header(out: &mut [u8], op: u8, opaque: u32, status: u8, size: u32, cas: Cas)
+    ensures { λ _. ⌜ now (out .exit) ≡ written (now (out .entry)) 0 (headerBytes (headerWith op opaque status 0 0 size cas)) ⌝ }
+{
+    header::put(out, header_with(op, opaque, status, 0, 0, size, cas));
 }

@@ -15,7 +15,7 @@ use Rattle.shape.proofs.ShapeLaws.{any-shape}
 use Rattle.shape.specs.declared.Shape.{Shape}
 use Rattle.header.specs.declared.Header.{Header}
 use Rattle.with_meta.specs.WithMeta.{withMeta}
-use Rattle.rules.specs.Rules.{extrasOk, keyOk, formOk, metaSize, fieldRulesOk, formStatus, metaStatus, fieldStatus, judged, status}
+use Rattle.rules.specs.Rules.{extrasOk, keyOk, formOk, countOk, metaSize, fieldRulesOk, formStatus, metaStatus, fieldStatus, judged, status}
 
 -- no opcode has the status 0x03 whatever follows it
 shape-status : (op : ℕ) → shapeOf op .status ≡ 0x03 → ⊥
@@ -56,8 +56,11 @@ module _ (s : Shape) (h : Header) (f : formOk s h ≡ true) where
       let d = both (keyOk (s .key) k) _ (c .1) in
       ⊎-elim
       (λ z. omega (arith, eqb-true k 0 (both (eqb (s .key) 0) (eqb k 0) z .1)))
+      (λ y. ⊎-elim
       (λ z. leb-true k 250 (both (leb 1 k) (leb k 250) (both (eqb (s .key) 1) (leb 1 k && leb k 250) z .1) .1))
-      (either (eqb (s .key) 0 && eqb k 0) (eqb (s .key) 1 && (leb 1 k && leb k 250)) (d .0))
+      (λ z. leb-true k 250 (both (eqb (s .key) 2) (leb k 250) z .1))
+      (either (eqb (s .key) 1 && (leb 1 k && leb k 250)) (eqb (s .key) 2 && leb k 250) y))
+      (either (eqb (s .key) 0 && eqb k 0) ((eqb (s .key) 1 && (leb 1 k && leb k 250)) || (eqb (s .key) 2 && leb k 250)) (d .0))
 
 -- extras and key end within the body
 pub parts-inside : (h : Header) (extras value : List ℕ) → status h extras value ≡ 0 → h .extlen + h .keylen ≤ h .body
@@ -102,11 +105,15 @@ form-stops h extras value e =
     (λ t. cases (formOk s h) (λ u. absurd (e (rw (t, u)))) (λ u. rw (t, u)))
     (λ t. rw (t, ne-eqb (s .status) 0 (eqb-false (s .status) 0 t), ne-eqb (s .status) 0x03 (shape-status (h .opcode)))))
 
--- the field rules of a with-meta request, and of another
-pub field-meta : (s : Shape) (extras value : List ℕ) → (s .meta ≡ 0 → ⊥) → fieldStatus s extras value ≡ metaStatus (s .meta) (withMeta extras) value
-unfolding fieldStatus fieldRulesOk metaSize metaStatus withMeta
-field-meta s extras value e = rw (ne-eqb (s .meta) 0 e)
+-- the field rules of a listing, of a with-meta request, and of another
+pub field-count : (s : Shape) (extras value : List ℕ) → countOk (s .extras) extras ≡ false → fieldStatus s extras value ≡ 0x04
+unfolding fieldStatus fieldRulesOk
+field-count s extras value c = rw c
 
-pub field-plain : (s : Shape) (extras value : List ℕ) → s .meta ≡ 0 → fieldStatus s extras value ≡ cond (ltb 1024 (length value)) 0x03 0
+pub field-meta : (s : Shape) (extras value : List ℕ) → countOk (s .extras) extras ≡ true → (s .meta ≡ 0 → ⊥) → fieldStatus s extras value ≡ metaStatus (s .meta) (withMeta extras) value
+unfolding fieldStatus fieldRulesOk metaSize metaStatus withMeta
+field-meta s extras value c e = rw (c, ne-eqb (s .meta) 0 e)
+
+pub field-plain : (s : Shape) (extras value : List ℕ) → countOk (s .extras) extras ≡ true → s .meta ≡ 0 → fieldStatus s extras value ≡ cond (ltb 1024 (length value)) 0x03 0
 unfolding fieldStatus fieldRulesOk metaSize
-field-plain s extras value e = rw (eq-eqb (s .meta) 0 e, sub-zero (length value))
+field-plain s extras value c e = rw (c, eq-eqb (s .meta) 0 e, sub-zero (length value))

@@ -1,13 +1,14 @@
 -- Statuses 1 to 3 of document 01, "first that applies", save the rules that need mode or clock.
 use Prim.Native.Nat.{ℕ, _+_, _-_}
 use mathlib.Core.List.{List}
-use mathlib.Core.Bool.{Bool, not, _&&_, _||_, cond}
+use mathlib.Core.Bool.{Bool, true, not, _&&_, _||_, cond}
 use lib.ListN.{length}
 use lib.Dec.{ltb, leb, eqb}
+use Rattle.octets.specs.BigEndian.{num}
 use Rattle.shape.specs.Shapes.{shapeOf}
 use Rattle.shape.specs.declared.Shape.{Shape}
 use Rattle.shape.specs.declared.Extras.{Extras}
-use Rattle.shape.specs.declared.Extras.the-variants.{Nothing, FlagsExpiry, Counter, Meta}
+use Rattle.shape.specs.declared.Extras.the-variants.{Nothing, FlagsExpiry, Counter, Meta, Count}
 use Rattle.header.specs.declared.Header.{Header}
 use Rattle.with_meta.specs.declared.WithMeta.{WithMeta}
 use Rattle.with_meta.specs.WithMeta.{withMeta, sectionOf}
@@ -19,10 +20,11 @@ extrasOk Nothing n = eqb n 0
 extrasOk FlagsExpiry n = eqb n 8
 extrasOk Counter n = eqb n 20
 extrasOk Meta n = eqb n 24 || (eqb n 26 || (eqb n 28 || eqb n 30))
+extrasOk Count n = eqb n 0 || eqb n 4
 
--- "key missing, forbidden or over 250"
+-- "key missing, forbidden or over 250"; order 1 has an "optional start key"
 abbrev pub keyOk : ℕ → ℕ → Bool
-keyOk key n = (eqb key 0 && eqb n 0) || (eqb key 1 && (leb 1 n && leb n 250))
+keyOk key n = (eqb key 0 && eqb n 0) || ((eqb key 1 && (leb 1 n && leb n 250)) || (eqb key 2 && leb n 250))
 
 -- status 2 as far as the header shows it: "datatype not 0; extras + key length over body; wrong extras size; key missing, forbidden or over 250; value missing or forbidden"
 unfoldable pub formOk : Shape → Header → Bool
@@ -33,13 +35,25 @@ formOk s h =
     && (keyOk (s .key) (h .keylen)
     && (eqb (s .value) 1 || eqb (h .body) (h .extlen + h .keylen)))))
 
+-- order 1: "optional 4-byte count, 1,000 if absent"
+unfoldable pub countOf : List ℕ → ℕ
+countOf extras = cond (eqb (length extras) 0) 1000 (num extras 0 4)
+
+-- "count 0 is 0x04"
+abbrev pub countOk : Extras → List ℕ → Bool
+countOk Nothing extras = true
+countOk FlagsExpiry extras = true
+countOk Counter extras = true
+countOk Meta extras = true
+countOk Count extras = not (eqb (countOf extras) 0)
+
 -- how many bytes of extended meta end the value
 unfoldable pub metaSize : Shape → List ℕ → ℕ
 metaSize s extras = cond (eqb (s .meta) 0) 0 (sectionOf extras)
 
 unfoldable pub fieldRulesOk : Shape → List ℕ → List ℕ → Bool
 unfolding withMetaOk
-fieldRulesOk s extras value = eqb (s .meta) 0 || withMetaOk (s .meta) (withMeta extras) value
+fieldRulesOk s extras value = countOk (s .extras) extras && (eqb (s .meta) 0 || withMetaOk (s .meta) (withMeta extras) value)
 
 -- status 1, and status 2 as far as the header shows it, or 0
 unfoldable pub formStatus : Shape → Header → ℕ

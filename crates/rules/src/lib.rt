@@ -5,7 +5,7 @@ ghost use Prim.Native.Nat.{_-_, _≤_};
 ghost use lib.ListN.{length};
 ghost use lib.Dec.{ltb};
 ghost use Rattle.with_meta.specs.WithMeta.{withMeta};
-ghost use Rattle.rules.specs.Rules.{extrasOk, formOk, metaSize, formStatus, metaStatus, fieldStatus, judged, status};
+ghost use Rattle.rules.specs.Rules.{extrasOk, formOk, countOf, countOk, metaSize, formStatus, metaStatus, fieldStatus, judged, status};
 use header::Header;
 use shape::Extras;
 use shape::Shape;
@@ -19,6 +19,7 @@ fn extras_ok(extras: Extras, n: u8) -> bool
         Extras::FlagsExpiry => n == 8,
         Extras::Counter => n == 20,
         Extras::Meta => (n == 24) | ((n == 26) | ((n == 28) | (n == 30))),
+        Extras::Count => (n == 0) | (n == 4),
     }
 }
 
@@ -30,8 +31,32 @@ fn form_ok(s: Shape, h: Header) -> bool
     let class = s.extras;
     let extras = extras_ok(class, h.extlen);
     let key = ((s.key == 0) & (h.keylen == 0))
-        | ((s.key == 1) & ((1 <= h.keylen) & (h.keylen <= 250)));
+        | (((s.key == 1) & ((1 <= h.keylen) & (h.keylen <= 250)))
+            | ((s.key == 2) & (h.keylen <= 250)));
     (h.datatype == 0) & ((parts <= body) & (extras & (key & ((s.value == 1) | (body == parts)))))
+}
+
+// How many keys a listing asks for.
+pub fn count_of(extras: &[u8]) -> u32
+    ensures { λ r. ⌜ r ≡ countOf (now (extras .entry)) ⌝ }
+{
+    if extras.len() == 0 {
+        return 1000;
+    }
+    octets::be32(extras, 0)
+}
+
+// Whether extras of this class keep the rule on a count.
+fn count_ok(class: Extras, extras: &[u8]) -> bool
+    ensures { λ r. ⌜ r ≡ countOk class (now (extras .entry)) ⌝ }
+{
+    match class {
+        Extras::Nothing => true,
+        Extras::FlagsExpiry => true,
+        Extras::Counter => true,
+        Extras::Meta => true,
+        Extras::Count => count_of(extras) != 0,
+    }
 }
 
 // How many bytes of extended meta end the value.
@@ -84,6 +109,10 @@ fn meta_status(meta: u8, extras: &[u8], value: &[u8]) -> u8
 pub fn field_status(s: Shape, extras: &[u8], value: &[u8]) -> u8
     ensures { λ r. ⌜ r ≡ fieldStatus s (now (extras .entry)) (now (value .entry)) ⌝ }
 {
+    let class = s.extras;
+    if !count_ok(class, extras) {
+        return 0x04;
+    }
     if s.meta != 0 {
         return meta_status(s.meta, extras, value);
     }

@@ -46,23 +46,23 @@ use Rattle.table.proofs.Keeping.{head-put}
 use Rattle.serving.specs.declared.Served.{Served}
 use Rattle.serving.specs.declared.Served.the-variants.{Done}
 use Rattle.serving.specs.Reply.{replyBytes}
-use Rattle.serving.specs.Serve.{reachesDecision, decisionOn, answerOn, frameTable, frameReply}
+use Rattle.serving.specs.Serve.{reachesDecision, decisionOn, frameEffect, frameTable, frameReply}
 use Rattle.serving.specs.Serves.{ServesFrame}
 use Rattle.serving.proofs.Change.{Storing, changing, unchanged, raised, raised-good, puts}
-use Rattle.reply.specs.Fitting.{bareHeader, fittingReply}
-use Rattle.reply.proofs.Replies.{fitting}
+use Rattle.reply.specs.Fitting.{bareHeader}
 use Rattle.reply.proofs.Frames.{bare-reply, refused-is, refused-reply, refused-length, key-short}
+use Rattle.serve.specs.Answer.{replyFrom, ReplyWritten}
 use Rattle.serve.specs.Change.{storedWith}
 
 -- ---- a frame whose status the reader gives: its reply is a bare header
 module _ (b s : List ℕ) (clock : ℕ) (h : Header) (g : reachesDecision (frameStatus s h) ≡ false) where
   refused-table : Bytes b → sound b ≡ true → frameTable b clock s h ≡ b
-  unfolding frameTable answerOn tableOf
+  unfolding frameTable frameEffect tableOf
   refused-table y sb =
       ap tableBytes (unchanged (tableOf b) clock s h (rw (refused-is b s clock h g)) (rw (refused-is b s clock h g))) ∙ sound-good b y sb .0
 
-  refused-status : answerOn (tableOf b) clock s h .effect .status ≡ frameStatus s h
-  unfolding answerOn
+  refused-status : frameEffect (tableOf b) clock s h .status ≡ frameStatus s h
+  unfolding frameEffect
   refused-status = ap (λ (x : Decision). x .status) (refused-is b s clock h g)
 
   -- what answering with a bare header leaves
@@ -105,14 +105,14 @@ no-doc st value e = rw e
 
 -- storing what a frame asks for, by the lookup of its key, is the engine's put
 changed-is : (b s : List ℕ) (clock : ℕ) (h : Header) (w : Bool) → Bytes b → Bytes s → 24 + h .body ≤ length s → sound b ≡ true
-    → (w ≡ false → answerOn (tableOf b) clock s h .effect .store ≡ none)
-    → storedWith b (lookupOf w b (bytesIn s (keySpan h))) (bytesIn s (keySpan h)) (answerOn (tableOf b) clock s h .effect .store) (answerOn (tableOf b) clock s h .effect .head)
+    → (w ≡ false → frameEffect (tableOf b) clock s h .store ≡ none)
+    → storedWith b (lookupOf w b (bytesIn s (keySpan h))) (bytesIn s (keySpan h)) (frameEffect (tableOf b) clock s h .store) (frameEffect (tableOf b) clock s h .head)
     ≡ frameTable b clock s h
 unfolding frameTable
 changed-is b s clock h w y z inside sb none-if =
     let t = tableOf b in
     let key = bytesIn s (keySpan h) in
-    let x = answerOn t clock s h .effect in
+    let x = frameEffect t clock s h in
     let good = sound-good b y sb in
     let c = changing t clock s h (good .1) z inside in
     options (x .store)
@@ -125,6 +125,17 @@ changed-is b s clock h w y z inside sb none-if =
     ∙ (λ j. storedBy (head-put t (x .head) j) (sym same j) (record { key = key; doc = d }))
     ∙ puts t clock s h (good .1) d q .bytes
     ∙ ap (λ (o : Option Doc). tableBytes (record { head = x .head; rows = storeRow plain (t .rows) key o })) (sym e))
+
+-- the key of a frame that goes on, and the value stored for it
+pub shown-parts : (b s : List ℕ) (h : Header) → Bytes b → sound b ≡ true → reachesDecision (frameStatus s h) ≡ true → (k : List ℕ) (w : Bool) (l : Lookup) (old : List ℕ)
+    → k ≡ bytesIn s (keySpan h) → l ≡ lookupOf w b k → old ≡ part b (l .at) (l .len)
+    → (length k ≤ 250) × ((length old ≤ 1024) × (old ≡ docValue (findRow (tableOf b .rows) k)))
+shown-parts b s h y sb g k w l old ek el eo =
+    let f = finds-sound b k w y sb in
+    let e = eo ∙ ap (λ (x : Lookup). part b (x .at) (x .len)) el in (
+      omega (arith, ap length ek, key-short s h g),
+      (omega (arith, ap length e, part-most b (lookupOf w b k .at) (lookupOf w b k .len), f .short), e ∙ f .value),
+    )
 
 module _ (b s : List ℕ) (clock : ℕ) (h : Header) (y : Bytes b) (z : Bytes s) (sb : sound b ≡ true) (inside : 24 + h .body ≤ length s)
     (g : reachesDecision (frameStatus s h) ≡ true) (k : List ℕ) (w : Bool) (l : Lookup) (old : List ℕ) (hd : Head) (q : Instruction) (d : Decision)
@@ -161,39 +172,35 @@ module _ (b s : List ℕ) (clock : ℕ) (h : Header) (y : Bytes b) (z : Bytes s)
   unfolding decisionOn tableOf
   decision-is = rw g (decided-is ∙ ap (decision (seeing (headOf b) (storedOf row) free clock (numberOf (docValue row)))) eq)
 
-  status-is : d .status ≡ answerOn (tableOf b) clock s h .effect .status
-  unfolding answerOn
+  status-is : d .status ≡ frameEffect (tableOf b) clock s h .status
+  unfolding frameEffect
   status-is = ap (λ (x : Decision). x .status) decision-is
 
-  head-is : d .done .head ≡ answerOn (tableOf b) clock s h .effect .head
-  unfolding answerOn
+  head-is : d .done .head ≡ frameEffect (tableOf b) clock s h .head
+  unfolding frameEffect
   head-is = ap (λ (x : Decision). x .done .head) decision-is
 
-  store-is : (v : List ℕ) → v ≡ bareValue s h → docFrom (d .done .store) (bytesFrom (d .done .source) v) ≡ answerOn (tableOf b) clock s h .effect .store
-  unfolding answerOn requestOf
+  store-is : (v : List ℕ) → v ≡ bareValue s h → docFrom (d .done .store) (bytesFrom (d .done .source) v) ≡ frameEffect (tableOf b) clock s h .store
+  unfolding frameEffect requestOf
   store-is v ev = λ i. docFrom (decision-is i .done .store) (bytesFrom (decision-is i .done .source) (ev i))
 
-  store-none : (v : List ℕ) → v ≡ bareValue s h → w ≡ false → answerOn (tableOf b) clock s h .effect .store ≡ none
+  store-none : (v : List ℕ) → v ≡ bareValue s h → w ≡ false → frameEffect (tableOf b) clock s h .store ≡ none
   store-none v ev e =
       sym (store-is v ev) ∙ no-doc (d .done .store) _ (ap (λ (x : Decision). x .done .store) decided-is
       ∙ stores-none (seeing (headOf b) (storedOf row) free clock (numberOf (docValue row))) q (sym ew ∙ e))
 
-  reply-is : replyBytes (h .opcode) (h .opaque) d k old ≡ frameReply b clock s h
+  reply-is : replyFrom b clock h d k ≡ frameReply b clock s h
   unfolding frameReply
-  reply-is = λ i. replyBytes (h .opcode) (h .opaque) (decision-is i) (ek i) (old-is i)
+  reply-is = λ i. replyFrom b clock h (decision-is i) (ek i)
 
   -- what answering and storing by the decision leaves
-  pub formed-by : (v : List ℕ) (r : Served) (n : ℕ) (b′ out out′ : List ℕ) → v ≡ bareValue s h → 1302 ≤ length out
-      → n ≡ length (fittingReply (length out) (h .opcode) (h .opaque) d k old) → r ≡ Done (d .status) (24 + h .body) n
-      → out′ ≡ written out 0 (fittingReply (length out) (h .opcode) (h .opaque) d k old)
+  pub formed-by : (v : List ℕ) (r : Served) (n : ℕ) (b′ out out′ : List ℕ) → v ≡ bareValue s h → ReplyWritten b clock h d k out n out′
+      → r ≡ Done (d .status) (24 + h .body) n
       → b′ ≡ storedWith b l k (docFrom (d .done .store) (bytesFrom (d .done .source) v)) (d .done .head)
       → ServesFrame b clock s h out r b′ out′
-  formed-by v r n b′ out out′ ev lo en er eout eb =
-      let lk : length k ≤ 250 = omega (arith, ap length ek, key-short s h g) in
-      let lv : length old ≤ 1024 = omega (arith, ap length (old-is ∙ sym (finds .value)), part-most b (lookupOf w b key .at) (lookupOf w b key .len), finds .short) in
-      let fit = fitting (length out) (h .opcode) (h .opaque) d k old lo lk lv ∙ reply-is in
+  formed-by v r n b′ out out′ ev reply er eb =
       record {
-        answer = er ∙ (λ i. Done (status-is i) (24 + h .body) ((en ∙ ap length fit) i));
+        answer = er ∙ (λ i. Done (status-is i) (24 + h .body) ((reply .size ∙ ap length reply-is) i));
         table = eb ∙ (λ i. storedWith b (found i) (ek i) (store-is v ev i) (head-is i)) ∙ changed-is b s clock h w y z inside sb (store-none v ev);
-        reply = eout ∙ ap (written out 0) fit;
+        reply = reply .bytes ∙ ap (written out 0) reply-is;
       }

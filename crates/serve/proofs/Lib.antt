@@ -1,3 +1,4 @@
 pub mod Joint
 pub mod Gates
 pub mod Parts
+pub mod Answers

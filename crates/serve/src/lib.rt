@@ -15,16 +15,20 @@ ghost use Rattle.decision.specs.Decision.{decision};
 ghost use Rattle.decision.specs.Decide.{instructionOf};
 ghost use Rattle.decode.specs.Decode.{requestOf, bareValue};
 ghost use Rattle.plain.specs.Damage.{sound};
-ghost use Rattle.rows.specs.Table.{headOf};
+ghost use Rattle.document.specs.Documents.{docValue};
+ghost use Rattle.rows.specs.Table.{headOf, tableOf};
+ghost use Rattle.rows.specs.Find.{findRow};
 ghost use Rattle.table.specs.Calls.{hasPlace};
 ghost use Rattle.serving.specs.Serve.{reachesDecision};
 ghost use Rattle.serving.specs.Serves.{Serves, ServesFrame};
+ghost use Rattle.serve.specs.Answer.{ReplyWritten};
 ghost use Rattle.reply.specs.Fitting.{bareHeader};
 use commands::Context;
 use commands::Instruction;
 use decision::Decision;
 use decode::Decoded;
 use document::Head;
+use effects::Reply;
 use engine::Checked;
 use header::Header;
 use request::Gate;
@@ -53,6 +57,51 @@ fn decided(head: Head, clock: u32, l: Lookup, old: &[u8], ask: Instruction) -> D
     )
 }
 
+// Writes the keys that a listing shows, and the reply's header before them.
+fn put_listing(
+    b: &[u8],
+    clock: u32,
+    h: Header,
+    d: Decision,
+    start: &[u8],
+    count: u32,
+    out: &mut [u8],
+) -> usize
+    requires { ⌜ (sound (now b) ≡ true) × ((1302 ≤ length (now out)) × (d .done .reply ≡ Reply.Keys count)) ⌝ }
+    ensures { λ r. ⌜ ReplyWritten (now (b .entry)) clock h d (now (start .entry)) (now (out .entry)) r (now (out .exit)) ⌝ }
+{
+    if d.silent {
+        return 0;
+    }
+    let n = table::put_keys(b, clock, start, count, out);
+    let done = d.done;
+    let cas = done.cas;
+    reply::put_value_header(out, h.opcode, h.opaque, d.status, n as u32, cas);
+    24 + n
+}
+
+// Writes a decision's reply and answers its length. old: the value stored for the key.
+fn put_answer(
+    b: &[u8],
+    clock: u32,
+    h: Header,
+    d: Decision,
+    key: &[u8],
+    old: &[u8],
+    out: &mut [u8],
+) -> usize
+    requires { ⌜ (sound (now b) ≡ true) × (1302 ≤ length (now out)) ⌝ }
+    requires { ⌜ (length (now key) ≤ 250) × ((length (now old) ≤ 1024) × (now old ≡ docValue (findRow (tableOf (now b) .rows) (now key)))) ⌝ }
+    ensures { λ r. ⌜ ReplyWritten (now (b .entry)) clock h d (now (key .entry)) (now (out .entry)) r (now (out .exit)) ⌝ }
+{
+    let done = d.done;
+    let reply = done.reply;
+    match reply {
+        Reply::Keys(count) => put_listing(b, clock, h, d, key, count, out),
+        _ => reply::put_reply(out, h.opcode, h.opaque, d, key, old),
+    }
+}
+
 // Answers and stores a frame whose form is right, or right but for a value over 1,024 bytes. key and value are parts of
 // the received bytes s.
 fn serve_formed(
@@ -75,7 +124,7 @@ fn serve_formed(
     let size = ask.size;
     let old = octets::part(b, l.at, l.len);
     let d = decided(head, clock, l, old, ask);
-    let n = reply::put_reply(out, h.opcode, h.opaque, d, key, old);
+    let n = put_answer(b, clock, h, d, key, old, out);
     let done = d.done;
     change::change(b, l, key, done, octets::part(value, 0, size));
     let frame = header::layout_of(h);

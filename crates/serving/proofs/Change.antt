@@ -18,7 +18,7 @@ use Rattle.request.specs.Reading.{frameStatus, bytesIn, extrasSpan, keySpan, va
 use Rattle.document.specs.Documents.{Key, Doc}
 use Rattle.document.specs.declared.Head.{Head}
 use Rattle.document.specs.Head.{marked}
-use Rattle.decision.specs.Decide.{Answer, decide}
+use Rattle.decision.specs.Decide.{Effect, decide}
 use Rattle.decision.specs.Claims.{StoredSound}
 use Rattle.decision.proofs.Stores.{stores-with-room, stores-sound}
 use Rattle.decode.specs.Decode.{requestOf}
@@ -30,7 +30,7 @@ use Rattle.plain.specs.Plain.{plain}
 use Rattle.plain.specs.Claims.{Good}
 use Rattle.table.specs.Claims.{Stores}
 use Rattle.table.proofs.Keeping.{stores-good, head-good}
-use Rattle.serving.specs.Serve.{reachesDecision, decisionOn, answerOn, frameChange}
+use Rattle.serving.specs.Serve.{reachesDecision, decisionOn, frameEffect, frameChange}
 use Rattle.serving.proofs.Formed.{form, command-right}
 use Rattle.serving.proofs.Kept.{decide-keeps, fits-found}
 
@@ -38,35 +38,35 @@ module _ (t : Table) (clock : ℕ) (s : List ℕ) (h : Header) where
   abbrev key : Key
   key = bytesIn s (keySpan h)
 
-  abbrev answer : Answer
-  answer = answerOn t clock s h
+  abbrev effect : Effect
+  effect = frameEffect t clock s h
 
   abbrev mark : ℕ
-  mark = answer .effect .head .mark .0
+  mark = effect .head .mark .0
 
   -- a document that a frame stores
   pub record Storing (d : Doc) : Type 0 where
     pub entry : EntryGood mark (record { key = key; doc = d })
-    pub head : answer .effect .head ≡ marked (t .head) mark
+    pub head : effect .head ≡ marked (t .head) mark
     pub grows : t .head .mark .0 ≤ mark
     pub fits : mark < 2 ^ 64
     pub room : findRow (t .rows) key ≡ none → 0 < freeRows (t .rows)
 
   -- a frame stores nothing and keeps the head, or what it stores is as above
   pub record Changing : Type 0 where
-    pub keeps : answer .effect .store ≡ none → answer .effect .head ≡ t .head
-    pub stores : (d : Doc) → answer .effect .store ≡ some d → Storing d
+    pub keeps : effect .store ≡ none → effect .head ≡ t .head
+    pub stores : (d : Doc) → effect .store ≡ some d → Storing d
 
   refused : reachesDecision (frameStatus s h) ≡ false → Changing
-  unfolding answerOn decisionOn
+  unfolding frameEffect decisionOn
   refused f = record { keeps = λ e. rw f; stores = λ d e. none-some d (rw f at e) }
 
   module _ (g : Good t) (y : Bytes s) (whole : 24 + h .body ≤ length s) (o : reachesDecision (frameStatus s h) ≡ true) where
-    abbrev decided : Answer
+    abbrev decided : Effect
     decided = decide (t .head) (findRow (t .rows) key) (ltb 0 (freeRows (t .rows))) clock (requestOf s h)
 
-    is-decided : decided ≡ answer
-    unfolding answerOn decisionOn decide
+    is-decided : decided ≡ effect
+    unfolding frameEffect decisionOn decide
     is-decided = rw o
 
     sound : StoredSound (t .head) (findRow (t .rows) key) (ltb 0 (freeRows (t .rows))) clock (requestOf s h)
@@ -83,27 +83,27 @@ module _ (t : Table) (clock : ℕ) (s : List ℕ) (h : Header) where
     most = key-most h (bytesIn s (extrasSpan h)) (bytesIn s (valueSpan h)) o
 
     abbrev Kept : Type 0
-    Kept = (decided .effect .store ≡ none → decided .effect .head ≡ t .head) × ((d : Doc) → decided .effect .store ≡ some d → 1 ≤ h .keylen)
+    Kept = (decided .store ≡ none → decided .head ≡ t .head) × ((d : Doc) → decided .store ≡ some d → 1 ≤ h .keylen)
 
     kept : Kept
     kept = decide-keeps (t .head) (findRow (t .rows) key) (ltb 0 (freeRows (t .rows))) clock (requestOf s h) (h .keylen) (command-right s y h o .1)
 
     -- the same, of the decision
-    abbrev At : Answer → Type 0
+    abbrev At : Effect → Type 0
     At x =
-        (x .effect .store ≡ none → x .effect .head ≡ t .head)
-        × ((d : Doc) → x .effect .store ≡ some d
-        → (EntryGood (x .effect .head .mark .0) (record { key = key; doc = d }))
-        × ((x .effect .head ≡ marked (t .head) (x .effect .head .mark .0))
-        × ((t .head .mark .0 ≤ x .effect .head .mark .0)
-        × ((x .effect .head .mark .0 < 2 ^ 64) × (findRow (t .rows) key ≡ none → 0 < freeRows (t .rows))))))
+        (x .store ≡ none → x .head ≡ t .head)
+        × ((d : Doc) → x .store ≡ some d
+        → (EntryGood (x .head .mark .0) (record { key = key; doc = d }))
+        × ((x .head ≡ marked (t .head) (x .head .mark .0))
+        × ((t .head .mark .0 ≤ x .head .mark .0)
+        × ((x .head .mark .0 < 2 ^ 64) × (findRow (t .rows) key ≡ none → 0 < freeRows (t .rows))))))
 
     at-decided : At decided
     at-decided = (
       kept .0,
       λ d e.
           let q = sound .doc d e in
-          let fine : EntryGood (decided .effect .head .mark .0) (record { key = key; doc = d }) = record {
+          let fine : EntryGood (decided .head .mark .0) (record { key = key; doc = d }) = record {
             key-least = omega (arith, key-length, kept .1 d e);
             key-most = omega (arith, key-length, most);
             value-most = q .short;
@@ -116,13 +116,13 @@ module _ (t : Table) (clock : ℕ) (s : List ℕ) (h : Header) where
           } in
           let free : findRow (t .rows) key ≡ none → 0 < freeRows (t .rows) = λ n.
           ltb-true 0 (freeRows (t .rows)) (stores-with-room (t .head) (ltb 0 (freeRows (t .rows))) clock (requestOf s h) d
-          (ap (λ (x : Option Doc). decide (t .head) x (ltb 0 (freeRows (t .rows))) clock (requestOf s h) .effect .store) (sym n) ∙ e)) in
+          (ap (λ (x : Option Doc). decide (t .head) x (ltb 0 (freeRows (t .rows))) clock (requestOf s h) .store) (sym n) ∙ e)) in
           (fine, (sound .head, (sound .grows, (sound .fits, free)))),
     )
 
     went : Changing
     went =
-        let p : At answer = subst At is-decided at-decided in
+        let p : At effect = subst At is-decided at-decided in
         record {
           keeps = p .0;
           stores = λ d e. let q = p .1 d e in record { entry = q .0; head = q .1 .0; grows = q .1 .1 .0; fits = q .1 .1 .1 .0; room = q .1 .1 .1 .1 };
@@ -132,17 +132,17 @@ pub changing : (t : Table) (clock : ℕ) (s : List ℕ) (h : Header) → Good t 
 changing t clock s h g y w = cases (reachesDecision (frameStatus s h)) (went t clock s h g y w) (refused t clock s h)
 
 -- "A non-zero status changes no table byte"
-pub unchanged : (t : Table) (clock : ℕ) (s : List ℕ) (h : Header) → answerOn t clock s h .effect .store ≡ none → answerOn t clock s h .effect .head ≡ t .head
+pub unchanged : (t : Table) (clock : ℕ) (s : List ℕ) (h : Header) → frameEffect t clock s h .store ≡ none → frameEffect t clock s h .head ≡ t .head
     → frameChange t clock s h ≡ t
 unchanged t clock s h e f = λ i. record { head = f i; rows = storeRow plain (t .rows) (bytesIn s (keySpan h)) (e i) }
 
 -- what a frame stores is put in the table with its new head
 module _ (t : Table) (clock : ℕ) (s : List ℕ) (h : Header) (g : Good t) (d : Doc) (q : Storing t clock s h d) where
   abbrev pub raised : Table
-  raised = record { head = answerOn t clock s h .effect .head; rows = t .rows }
+  raised = record { head = frameEffect t clock s h .head; rows = t .rows }
 
   pub raised-good : Good raised
-  raised-good = subst (λ (x : Head). Good (record { head = x; rows = t .rows })) (sym (q .head)) (head-good t (answerOn t clock s h .effect .head .mark .0) g (q .grows) (q .fits))
+  raised-good = subst (λ (x : Head). Good (record { head = x; rows = t .rows })) (sym (q .head)) (head-good t (frameEffect t clock s h .head .mark .0) g (q .grows) (q .fits))
 
   pub puts : Stores raised (bytesIn s (keySpan h)) d
   puts = stores-good raised (bytesIn s (keySpan h)) d raised-good (q .entry) (q .room)
@@ -151,7 +151,7 @@ module _ (t : Table) (clock : ℕ) (s : List ℕ) (h : Header) (g : Good t) (d :
 pub change-good : (t : Table) (clock : ℕ) (s : List ℕ) (h : Header) → Good t → Bytes s → 24 + h .body ≤ length s → Good (frameChange t clock s h)
 change-good t clock s h g y w =
     let c = changing t clock s h g y w in
-    let x = answerOn t clock s h .effect in
+    let x = frameEffect t clock s h in
     options (x .store)
     (λ e. subst Good (sym (unchanged t clock s h e (c .keeps e))) g)
     (λ d e. subst (λ (o : Option Doc). Good (record { head = x .head; rows = storeRow plain (t .rows) (bytesIn s (keySpan h)) o })) (sym e) (puts t clock s h g d (c .stores d e) .good))

@@ -1,7 +1,7 @@
 -- A frame that the reader's rules let pass, save a value over 1,024 bytes, asks for a command whose form is right.
 use Prim.Native.Nat.{ℕ, _+_, _-_, _≤_}
 use mathlib.Core.Path.{_≡_, refl, sym, ap, _∙_}
-use mathlib.Core.Bool.{Bool, true, false, cond, _&&_}
+use mathlib.Core.Bool.{Bool, true, false, cond, _&&_, _||_, or-false}
 use mathlib.Core.List.{List}
 use native.Mathlib.Omega.{arith}
 use lib.ListN.{length}
@@ -19,7 +19,7 @@ use Rattle.header.specs.declared.Header.{Header}
 use Rattle.with_meta.specs.declared.WithMeta.{WithMeta}
 use Rattle.with_meta.specs.WithMeta.{withMeta, carriedNumbers}
 use Rattle.with_meta.specs.FieldRules.{numbersOk, bodyOk, withMetaOk}
-use Rattle.rules.specs.Rules.{formOk, extrasOk, keyOk, fieldRulesOk, judged, status}
+use Rattle.rules.specs.Rules.{formOk, extrasOk, keyOk, countOk, fieldRulesOk, judged, status}
 use Rattle.rules.proofs.RuleLaws.{formed}
 use Rattle.request.specs.Reading.{extrasSpan, valueSpan, bytesIn, frameStatus}
 use Rattle.commands.specs.declared.Kind.{Kind}
@@ -27,7 +27,7 @@ use Rattle.commands.specs.declared.Kind.the-variants.{Set, Add, Replace}
 use Rattle.commands.specs.declared.MetaKind.{MetaKind}
 use Rattle.commands.specs.declared.MetaKind.the-variants.{Set as SetMeta, Add as AddMeta, Delete as DeleteMeta}
 use Rattle.commands.specs.declared.Command.{Command}
-use Rattle.commands.specs.declared.Command.the-variants.{Get, Write, Delete, Count, Noop, Version, WithMeta as Metas}
+use Rattle.commands.specs.declared.Command.the-variants.{Get, Write, Delete, Count, Noop, Version, WithMeta as Metas, GetKeys}
 use Rattle.effects.specs.Done.{isDelete}
 use Rattle.decision.specs.Claims.{Formed}
 use Rattle.decode.specs.Decode.{plainOf, counterOf, metaCommand, commandOf, requestOf}
@@ -50,6 +50,7 @@ Named n (Count k) = 1 ≤ n
 Named n Noop = Unit {0}
 Named n Version = Unit {0}
 Named n (Metas w) = 1 ≤ n
+Named n (GetKeys k) = Unit {0}
 
 -- ---- an opcode whose status lets the frame go on is built
 abbrev Built : Shape → Type 0
@@ -70,11 +71,11 @@ judged-fields s h extras value f z e =
 
 -- ---- what the rules say, by parts
 key-least : (key n : ℕ) → key ≡ 1 → keyOk key n ≡ true → 1 ≤ n
-key-least key n p e = leb-true 1 n (both (leb 1 n) (leb n 250) (rw p at e) .0)
+key-least key n p e = leb-true 1 n (both (leb 1 n) (leb n 250) (rw (p, or-false) at e) .0)
 
 meta-ok : (s : Shape) (extras value : List ℕ) (m : ℕ) → s .meta ≡ m → eqb m 0 ≡ false → fieldRulesOk s extras value ≡ true → withMetaOk m (withMeta extras) value ≡ true
 unfolding fieldRulesOk
-meta-ok s extras value m p z e = rw (p, z) at e
+meta-ok s extras value m p z e = rw (p, z) at (both (countOk (s .extras) extras) (eqb (s .meta) 0 || withMetaOk (s .meta) (withMeta extras) value) e .1)
 
 cas-least : (m : ℕ) (w : WithMeta) (value : List ℕ) → withMetaOk m w value ≡ true → 1 ≤ w .numbers .cas .0
 unfolding withMetaOk numbersOk
@@ -194,7 +195,7 @@ module _ (s : List ℕ) (y : Bytes s) (h : Header) (g : reachesDecision (frameSt
                             (λ q f r. carries SetMeta _ refl refl (λ t. no t) f r),
                             (
                               (λ q f r. carries AddMeta _ refl refl (λ t. no t) f r),
-                              ((λ q f r. carries DeleteMeta _ refl refl (λ t. refl) f r), tt),
+                              ((λ q f r. carries DeleteMeta _ refl refl (λ t. refl) f r), ((λ q f r. (tt, tt)), tt)),
                             ),
                           ),
                         ),

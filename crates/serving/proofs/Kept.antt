@@ -14,7 +14,7 @@ use Rattle.document.specs.Stored.{live, numbersOf, storedOf}
 use Rattle.commands.specs.declared.Context.{Context}
 use Rattle.effects.specs.declared.Done.{Done}
 use Rattle.commands.specs.declared.Command.{Command}
-use Rattle.commands.specs.declared.Command.the-variants.{Get, Write, Delete, Count, Noop, Version, WithMeta}
+use Rattle.commands.specs.declared.Command.the-variants.{Get, Write, Delete, Count, Noop, Version, WithMeta, GetKeys}
 use Rattle.effects.specs.declared.Reply.the-variants.{Bare}
 use Rattle.commands.specs.Rules.{ruleOf, statusBy}
 use Rattle.effects.specs.Done.{doneOf, nothing}
@@ -43,10 +43,11 @@ module _ (c : Context) (frame : List ℕ) (n : ℕ) where
   done-keeps Noop p = (λ e. refl, λ d e. none-some d e)
   done-keeps Version p = (λ e. refl, λ d e. none-some d e)
   done-keeps (WithMeta w) p = (λ e. none-some _ (sym e), λ d e. p)
+  done-keeps (GetKeys k) p = (λ e. refl, λ d e. none-some d e)
 
 pub decide-keeps : (h : Head) (row : Option Doc) (free : Bool) (clock : ℕ) (q : Request) (n : ℕ) → Named n (q .command)
-    → (decide h row free clock q .effect .store ≡ none → decide h row free clock q .effect .head ≡ h)
-    × ((d : Doc) → decide h row free clock q .effect .store ≡ some d → 1 ≤ n)
+    → (decide h row free clock q .store ≡ none → decide h row free clock q .head ≡ h)
+    × ((d : Doc) → decide h row free clock q .store ≡ some d → 1 ≤ n)
 unfolding decide decision
 decide-keeps h row free clock q n p =
     let c = contextOf h row free clock in

@@ -16,8 +16,8 @@ use Rattle.decision.specs.declared.Decision.{Decision}
 use Rattle.effects.specs.declared.Reply.the-variants.{Bare}
 use Rattle.effects.specs.Done.{nothing}
 use Rattle.decision.specs.Decision.{decision}
-use Rattle.decision.specs.Decide.{Effect, Answer, contextOf, instructionOf, answerOf}
-use Rattle.document.specs.Documents.{Key, Doc, docValue}
+use Rattle.decision.specs.Decide.{Effect, contextOf, instructionOf, effectOf}
+use Rattle.document.specs.Documents.{Key, Doc}
 use Rattle.engine.specs.Engine.{storeRow}
 use Rattle.decode.specs.Decode.{requestOf}
 use Rattle.rows.specs.Table.{Table, tableOf, tableBytes}
@@ -27,7 +27,7 @@ use Rattle.plain.specs.Damage.{sound, checkedOutcome}
 use Rattle.rows.specs.Find.{findRow, freeRows}
 use Rattle.serving.specs.declared.Served.{Served}
 use Rattle.serving.specs.declared.Served.the-variants.{Refused, Done}
-use Rattle.serving.specs.Reply.{replyBytes}
+use Rattle.serving.specs.Reply.{replyShows, replyBytes}
 
 -- ---- 01's numbers for each answer; what it doesn't have is 0
 -- its outcome, 0 where a frame was served
@@ -76,10 +76,10 @@ decisionOn t clock s h =
     (decision (contextOn t clock (findRow (t .rows) (bytesIn s (keySpan h)))) (instructionOf (requestOf s h)))
     (refusal (t .head) (frameStatus s h))
 
--- its answer, with the bytes put in
-unfoldable pub answerOn : Table → ℕ → List ℕ → Header → Answer
+-- what it does to the table, with the bytes put in
+unfoldable pub frameEffect : Table → ℕ → List ℕ → Header → Effect
 unfolding decisionOn
-answerOn t clock s h = answerOf (requestOf s h) (docValue (findRow (t .rows) (bytesIn s (keySpan h)))) (decisionOn t clock s h)
+frameEffect t clock s h = effectOf (requestOf s h) (decisionOn t clock s h)
 
 -- a table after a decision on one of its keys
 abbrev pub tableChanged : Table → Key → Effect → Table
@@ -87,22 +87,23 @@ tableChanged t key x = record { head = x .head; rows = storeRow plain (t .rows) 
 
 -- a table after a whole frame
 abbrev pub frameChange : Table → ℕ → List ℕ → Header → Table
-frameChange t clock s h = tableChanged t (bytesIn s (keySpan h)) (answerOn t clock s h .effect)
+frameChange t clock s h = tableChanged t (bytesIn s (keySpan h)) (frameEffect t clock s h)
 
 -- the table's memory after it
 unfoldable pub frameTable : List ℕ → ℕ → List ℕ → Header → List ℕ
-unfolding answerOn
+unfolding frameEffect
 frameTable b clock s h = tableBytes (frameChange (tableOf b) clock s h)
 
 unfoldable pub frameReply : List ℕ → ℕ → List ℕ → Header → List ℕ
 unfolding decisionOn
 frameReply b clock s h =
-    replyBytes (h .opcode) (h .opaque) (decisionOn (tableOf b) clock s h) (bytesIn s (keySpan h)) (docValue (findRow (tableOf b .rows) (bytesIn s (keySpan h))))
+    let x = decisionOn (tableOf b) clock s h in
+    replyBytes (h .opcode) (h .opaque) x (bytesIn s (keySpan h)) (replyShows (x .done .reply) (tableOf b .rows) clock (bytesIn s (keySpan h)))
 
 -- ---- serving: by the gate
 abbrev pub answerBy : List ℕ → ℕ → List ℕ → Gate → Served
 answerBy b clock s (Stop n need) = Refused n need
-answerBy b clock s (Whole h) = Done (answerOn (tableOf b) clock s h .effect .status) (24 + h .body) (length (frameReply b clock s h))
+answerBy b clock s (Whole h) = Done (frameEffect (tableOf b) clock s h .status) (24 + h .body) (length (frameReply b clock s h))
 
 abbrev pub tableBy : List ℕ → ℕ → List ℕ → Gate → List ℕ
 tableBy b clock s (Stop n need) = b

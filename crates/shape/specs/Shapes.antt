@@ -4,9 +4,9 @@ use mathlib.Core.List.{List, [], _∷_}
 use mathlib.Core.Bool.{Bool, true, false, _||_, cond}
 use lib.Dec.{eqb}
 use Rattle.shape.specs.declared.Operation.{Operation}
-use Rattle.shape.specs.declared.Operation.the-variants.{Unknown, NotBuilt, Get, GetKey, Set, Add, Replace, Delete, Increment, Decrement, Noop, Version, SetWithMeta, AddWithMeta, DeleteWithMeta}
+use Rattle.shape.specs.declared.Operation.the-variants.{Unknown, NotBuilt, Get, GetKey, Set, Add, Replace, Delete, Increment, Decrement, Noop, Version, SetWithMeta, AddWithMeta, DeleteWithMeta, GetKeys}
 use Rattle.shape.specs.declared.Extras.{Extras}
-use Rattle.shape.specs.declared.Extras.the-variants.{Nothing, FlagsExpiry, Counter, Meta}
+use Rattle.shape.specs.declared.Extras.the-variants.{Nothing, FlagsExpiry, Counter, Meta, Count}
 use Rattle.shape.specs.declared.Shape.{Shape}
 
 -- what stands between the header and the end of the body
@@ -35,6 +35,10 @@ counter = record { extras = Counter; key = 1; value = 0; meta = 0 }
 -- with-meta: extras of 24, 26, 28 or 30 bytes; after the key a value (1) or none (2), then the extended meta
 abbrev pub metaWrite : ℕ → Form
 metaWrite m = record { extras = Meta; key = 1; value = 1; meta = m }
+
+-- order 1: "optional start key, optional 4-byte count", "No value"
+abbrev pub keyListing : Form
+keyListing = record { extras = Count; key = 2; value = 0; meta = 0 }
 
 -- a command, its opcode, the opcode of its quiet form, and its form
 pub record Command : Type 0 where
@@ -65,6 +69,7 @@ commands =
     ∷ command SetWithMeta 0xa2 0xa3 (metaWrite 1)
     ∷ command AddWithMeta 0xa4 0xa5 (metaWrite 1)
     ∷ command DeleteWithMeta 0xa8 0xa9 (metaWrite 2)
+    ∷ loudOnly GetKeys 0xb8 keyListing
     ∷ []
 
 -- "0x83: opcodes (hexadecimal) 07, 08, 0e, 0f, 10, 17 to 1a"

@@ -1,7 +1,7 @@
 // Every opcode's shape: which command it is, what stands between the header and the end of the body, and whether the
 // command is built.
 ghost use mathlib.Core.Path.{_≡_};
-ghost use Rattle.shape.specs.Shapes.{refused, bare, keyOnly, plainWrite, counter, metaWrite, shapeBy, shapeOf};
+ghost use Rattle.shape.specs.Shapes.{refused, bare, keyOnly, plainWrite, counter, metaWrite, keyListing, shapeBy, shapeOf};
 ghost use Rattle.shape.specs.Table.{numbered};
 
 // The command that an opcode is, its quiet form aside.
@@ -21,6 +21,7 @@ pub enum Operation {
     SetWithMeta,
     AddWithMeta,
     DeleteWithMeta,
+    GetKeys,
 }
 
 // What the extras are, and so which sizes they may have.
@@ -29,6 +30,7 @@ pub enum Extras {
     FlagsExpiry,
     Counter,
     Meta,
+    Count,
 }
 
 pub struct Shape {
@@ -36,7 +38,7 @@ pub struct Shape {
     pub status: u8,
     pub operation: Operation,
     pub extras: Extras,
-    // 0: forbidden, 1: needed
+    // 0: forbidden, 1: needed, 2: optional
     pub key: u8,
     // 0: forbidden, 1: any
     pub value: u8,
@@ -232,7 +234,7 @@ const OPERATIONS: [u8; 256] = [
     0, // b5
     0, // b6
     0, // b7
-    0, // b8
+    30, // b8 GetKeys
     0, // b9
     0, // ba
     0, // bb
@@ -390,6 +392,20 @@ fn meta_write(operation: Operation, meta: u8, quiet: bool) -> Shape
     }
 }
 
+fn key_listing(operation: Operation, quiet: bool) -> Shape
+    ensures { λ r. ⌜ r ≡ shapeBy operation keyListing quiet ⌝ }
+{
+    Shape {
+        status: 0,
+        operation,
+        extras: Extras::Count,
+        key: 2,
+        value: 0,
+        meta: 0,
+        quiet,
+    }
+}
+
 // The shape of the operation with this number.
 fn shape_by(number: u8, quiet: bool) -> Shape
     ensures { λ r. ⌜ r ≡ numbered number quiet ⌝ }
@@ -409,6 +425,7 @@ fn shape_by(number: u8, quiet: bool) -> Shape
         12 => meta_write(Operation::SetWithMeta, 1, quiet),
         13 => meta_write(Operation::AddWithMeta, 1, quiet),
         14 => meta_write(Operation::DeleteWithMeta, 2, quiet),
+        15 => key_listing(Operation::GetKeys, quiet),
         _ => refused(Operation::Unknown, 0x81),
     }
 }

@@ -1,13 +1,15 @@
-// The four calls by which serving and the owner's calls reach a table's rows: checked, find, store and purge. Which engine
+// The five calls by which serving and the owner's calls reach a table's rows: checked, find, store, purge and put_keys. Which engine
 // keeps the rows is decided here and nowhere above. Every function is total on any bytes; what it means on a table that is
 // not damaged is in specs/Claims.antt.
 ghost use mathlib.Core.Path.{_≡_};
 ghost use Prim.Native.Nat.{_≤_, _<_};
 ghost use lib.ListN.{length};
+ghost use Rattle.octets.specs.Parts.{written};
 ghost use Rattle.document.specs.Stored.{goneDoc};
 ghost use Rattle.rows.specs.Table.{rowCount};
 ghost use Rattle.plain.specs.Damage.{sound, checkedOf};
 ghost use Rattle.plain_writer.specs.Change.{purgedRows, freedRows};
+ghost use Rattle.plain_listing.specs.Places.{fittingKeys};
 ghost use Rattle.table.specs.Calls.{hasPlace, lookupAt, lookupOf, rowPlace, storedBy};
 use document::Metadata;
 use document::Stored;
@@ -122,4 +124,13 @@ pub fn purge(b: &mut [u8], clock: u32, bound: Cas) -> usize
     ensures { λ r. ⌜ (r ≡ freedRows (goneDoc clock (bound .0)) (now (b .entry))) × (now (b .exit) ≡ purgedRows (goneDoc clock (bound .0)) (now (b .entry))) ⌝ }
 {
     plain_writer::purge(b, clock, bound)
+}
+
+// Writes a listing's value from byte 24 on and answers its length. Nothing where the room is under 1,302 bytes or the rows are over
+// 256.
+pub fn put_keys(b: &[u8], clock: u32, start: &[u8], count: u32, out: &mut [u8]) -> usize
+    ensures { λ r. ⌜ (r ≡ length (fittingKeys (length (now (out .entry))) (now (b .entry)) clock (now (start .entry)) count))
+        × (now (out .exit) ≡ written (now (out .entry)) 24 (fittingKeys (length (now (out .entry))) (now (b .entry)) clock (now (start .entry)) count)) ⌝ }
+{
+    plain_listing::put_keys(b, clock, start, count, out)
 }

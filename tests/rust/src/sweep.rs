@@ -77,7 +77,7 @@ fn refuses(answer: &Answer) -> bool {
     }
 }
 
-/// Every key read at every clock, then a Get and a set-with-meta served for each.
+/// All keys listed, every key read at every clock, then a Get and a set-with-meta served for each.
 fn calls(memory: &[u8], mode: u8) -> Vec<Call> {
     let mut keys: Vec<&[u8]> = vec![b"contact-1", b"contact-2", b"contact-3"];
     let found = Table::read(memory).map(|table| table.rows).unwrap_or_default();
@@ -85,9 +85,10 @@ fn calls(memory: &[u8], mode: u8) -> Vec<Call> {
     keys.sort_unstable();
     keys.dedup();
     let reads = keys.iter().flat_map(|key| CLOCKS.map(|clock| Call::Read { clock, key: key.to_vec() }));
+    let listing = serve(Frame { opcode: 0xb8, vbucket: VBUCKET, ..Frame::default() });
     let gets = keys.iter().map(|key| serve(get(key)));
     let sets = keys.iter().map(|key| serve(set_with_meta(key, mode)));
-    [Call::Sound].into_iter().chain(reads).chain(gets).chain(sets).collect()
+    [Call::Sound, listing].into_iter().chain(reads).chain(gets).chain(sets).collect()
 }
 
 fn serve(frame: Frame) -> Call {

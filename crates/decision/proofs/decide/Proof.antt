@@ -47,6 +47,12 @@ enum-known-command-4 c = search needs
 with-meta-requires : tie.Need-with-meta-requires
 with-meta-requires c κs = tt
 
+enum-known-command-5 : tie.Need-enum-known-command-5
+enum-known-command-5 c = search needs
+
+get-keys-requires : tie.Need-get-keys-requires
+get-keys-requires c κs = tt
+
 returns : tie.Need-returns
 unfolding ruleOf doneOf
 returns c = by-command _ _ _ _ (c .before .before .command .given .1) (c .get .ensures)
@@ -75,6 +81,10 @@ returns-7 : tie.Need-returns-7
 unfolding ruleOf doneOf
 returns-7 c = by-command _ _ _ _ (c .before .before .command4 .given .1) (c .with-meta .ensures)
 
+returns-8 : tie.Need-returns-8
+unfolding ruleOf doneOf
+returns-8 c = by-command _ _ _ _ (c .before .before .command5 .given .1) (c .get-keys .ensures)
+
 pub decide-spec : {M : Type 1} → statement M
 decide-spec =
     tie.close
@@ -93,10 +103,13 @@ decide-spec =
     version-requires
     enum-known-command-4
     with-meta-requires
+    enum-known-command-5
+    get-keys-requires
     returns
     returns-2
     returns-3
     returns-4
     returns-5
     returns-6
-    returns-7)
+    returns-7
+    returns-8)

@@ -52,6 +52,12 @@ enum-known-k-2 c = search needs
 meta-decoded-requires : tie.Need-meta-decoded-requires
 meta-decoded-requires c κs = search needs
 
+enum-told : tie.Need-enum-told
+enum-told c = search needs
+
+list-decoded-requires : tie.Need-list-decoded-requires
+list-decoded-requires c κs = search needs
+
 returns : tie.Need-returns
 returns c =
     let a = c .before .before .before .before .before .before .before .args in
@@ -76,6 +82,11 @@ returns-4 c =
     let a = c .before .before .before .before .before .before .before .args in
     c .meta-decoded .ensures ∙ told (a .shape) (a .h) (now (a .extras)) (now (a .value)) _ _ (c .before .before .before .before .family-of .ensures) (c .before .before .k2 .given .1)
 
+returns-5 : tie.Need-returns-5
+returns-5 c =
+    let a = c .before .before .before .before .before .before .args in
+    c .list-decoded .ensures ∙ told (a .shape) (a .h) (now (a .extras)) (now (a .value)) _ _ (c .before .before .before .family-of .ensures) (c .before .enum-told .given .1)
+
 pub decoded-by-spec : {M : Type 1} → statement M
 decoded-by-spec =
     tie.close
@@ -91,7 +102,10 @@ decoded-by-spec =
     instruction-with-requires-3
     enum-known-k-2
     meta-decoded-requires
+    enum-told
+    list-decoded-requires
     returns
     returns-2
     returns-3
-    returns-4)
+    returns-4
+    returns-5)

@@ -48,6 +48,9 @@ enum-told-14 c = search needs
 enum-told-15 : tie.Need-enum-told-15
 enum-told-15 c = search needs
 
+enum-told-16 : tie.Need-enum-told-16
+enum-told-16 c = search needs
+
 returns : tie.Need-returns
 returns c = rw (c .enum-told .given .1)
 
@@ -93,6 +96,9 @@ returns-14 c = rw (c .enum-told14 .given .1)
 returns-15 : tie.Need-returns-15
 returns-15 c = rw (c .enum-told15 .given .1)
 
+returns-16 : tie.Need-returns-16
+returns-16 c = rw (c .enum-told16 .given .1)
+
 pub family-of-spec : {M : Type 1} → statement M
 family-of-spec =
     tie.close
@@ -112,6 +118,7 @@ family-of-spec =
     enum-told-13
     enum-told-14
     enum-told-15
+    enum-told-16
     returns
     returns-2
     returns-3
@@ -126,4 +133,5 @@ family-of-spec =
     returns-12
     returns-13
     returns-14
-    returns-15)
+    returns-15
+    returns-16)

@@ -9,8 +9,8 @@ enum-told c = search needs
 enum-known-s : tie.Need-enum-known-s
 enum-known-s c = search needs
 
-expired-requires : tie.Need-expired-requires
-expired-requires c κs = search needs
+alive-requires : tie.Need-alive-requires
+alive-requires c κs = search needs
 
 returns : tie.Need-returns
 unfolding live
@@ -18,7 +18,7 @@ returns c = rw ((c .enum-told) .given .1)
 
 returns-2 : tie.Need-returns-2
 unfolding live
-returns-2 c = rw ((c .before .before .before .s) .given .1) (simp ((c .expired) .ensures))
+returns-2 c = rw ((c .before .before .s) .given .1) ((c .alive) .ensures)
 
 pub live-spec : {M : Type 1} → statement M
-live-spec = tie.close (tie.spec enum-told enum-known-s expired-requires returns returns-2)
+live-spec = tie.close (tie.spec enum-told enum-known-s alive-requires returns returns-2)

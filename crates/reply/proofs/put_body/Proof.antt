@@ -38,6 +38,12 @@ slice-aggregate-put-bytes c = search needs
 put-bytes-requires : tie.Need-put-bytes-requires
 put-bytes-requires c κs = search needs
 
+enum-told-3 : tie.Need-enum-told-3
+enum-told-3 c = search needs
+
+put-bytes-requires-2 : tie.Need-put-bytes-requires-2
+put-bytes-requires-2 c κs = search needs
+
 returns : tie.Need-returns
 returns c = rw ((c .enum-told) .given .1) (refl, sym (written-none _ 24 (omega (arith, (c .before .before .before .before .before .pre)))))
 
@@ -48,7 +54,7 @@ returns-2 : tie.Need-returns-2
 returns-2 c =
     let f = c .before .before .before .before .before .before in
     let a = f .before .before .before .before .before .args in
-    found-body (a .r) (now (a .key)) (now (a .old)) _ _ _ _ _ _ (f .r .given .1) (c .before .before .before .shown-key .ensures) (c .before .before .put-found .ensures)
+    found-body (a .r) (now (a .key)) (now (a .shown)) _ _ _ _ _ _ (f .r .given .1) (c .before .before .before .shown-key .ensures) (c .before .before .put-found .ensures)
 
 same-length-2 : tie.Need-same-length-2
 same-length-2 c = search needs
@@ -63,6 +69,12 @@ same-length-3 c = search needs
 returns-4 : tie.Need-returns-4
 returns-4 c = rw ((c .before .before .before .before .before .enum-told2) .given .1) (refl, (c .before .before .put-bytes) .ensures)
 
+same-length-4 : tie.Need-same-length-4
+same-length-4 c = search needs
+
+returns-5 : tie.Need-returns-5
+returns-5 c = rw ((c .before .before .before .before .enum-told3) .given .1) (refl, (c .before .before .put-bytes2) .ensures)
+
 pub put-body-spec : {M : Type 1} → statement M
 put-body-spec =
     tie.close
@@ -76,10 +88,14 @@ put-body-spec =
     enum-told-2
     slice-aggregate-put-bytes
     put-bytes-requires
+    enum-told-3
+    put-bytes-requires-2
     returns
     same-length
     returns-2
     same-length-2
     returns-3
     same-length-3
-    returns-4)
+    returns-4
+    same-length-4
+    returns-5)

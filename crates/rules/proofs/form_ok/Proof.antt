@@ -20,7 +20,7 @@ extras-ok-requires c κs = tt
 
 returns : tie.Need-returns
 unfolding formOk
-returns c = let p = c .before .before .before .before .before .before .before in rw (p .extras-ok .ensures)
+returns c = let p = c .before .before .before .before .before .before .before .before .before in rw (p .extras-ok .ensures)
 
 pub form-ok-spec : {M : Type 1} → statement M
 form-ok-spec = tie.close (tie.spec cast-parts cast-parts-2 add-parts cast-body extras-ok-requires returns)

@@ -1,6 +1,6 @@
 use Rattle.serving.specs.declared.Served.the-variants.{Done}
 use Rattle.octets.specs.Parts.{Bytes}
-use Rattle.serve.proofs.Joint.{formed-by}
+use Rattle.serve.proofs.Joint.{shown-parts, formed-by}
 use mathlib.Core.Path.{refl, _∙_}
 use denote.Ref.{now}
 use borrow.Author.Needs.{needs}
@@ -19,8 +19,16 @@ part-requires c κs = search needs
 decided-requires : tie.Need-decided-requires
 decided-requires c κs = search needs
 
-put-reply-requires : tie.Need-put-reply-requires
-put-reply-requires c κs = search needs
+put-answer-requires : tie.Need-put-answer-requires
+put-answer-requires c κs =
+    let r = c .before .before .before .before .before .before .before .before .before .before .before .before in
+    let b = now (r .args .b) in
+    let p = r .pre .1 in
+    let found = c .before .before .before .before .find .ensures in
+    let y : Bytes b = λ i. c .before .before .before .before .before .before .before .before .before .before .before .slice-known .given i .fits in (
+      (r .pre .0 .0, r .pre .0 .1 .1),
+      shown-parts b (now (r .args .s)) (r .args .h) y (r .pre .0 .0) (p .0) (now (r .args .key)) _ _ _ (p .1 .1 .0) found (c .before .before .part .ensures),
+    )
 
 part-requires-2 : tie.Need-part-requires-2
 part-requires-2 c κs = search needs
@@ -49,10 +57,10 @@ returns c =
     let z : Bytes s = λ i. l .before .before .before .before .before .before .shared-slice-known .given i .fits in
     formed-by b s (r .args .clock) (r .args .h) y z (r .pre .0 .0) (p .1 .1 .1 .1) (p .0) _ _ _ _ _ _ _ (p .1 .1 .0)
     (l .before .writes .ensures) (l .find .ensures) (a .before .before .before .part .ensures)
-    (r .pre .0 .1 .0) (p .1 .0) (a .before .before .decided .ensures) _ _ _ _ _ _ (c .before .before .before .before .part2 .ensures ∙ p .1 .1 .1 .0) (r .pre .0 .1 .1)
-    (a .put-reply .ensures .0)
-    (λ i. Done (a .before .before .decided .result .status) (c .layout-of .ensures i .end) (a .put-reply .result))
-    (a .put-reply .ensures .1) (c .before .before .before .change .ensures)
+    (r .pre .0 .1 .0) (p .1 .0) (a .before .before .decided .ensures) _ _ _ _ _ _ (c .before .before .before .before .part2 .ensures ∙ p .1 .1 .1 .0)
+    (a .put-answer .ensures)
+    (λ i. Done (a .before .before .decided .result .status) (c .layout-of .ensures i .end) (a .put-answer .result))
+    (c .before .before .before .change .ensures)
 
 pub serve-formed-spec : {M : Type 1} → statement M
 serve-formed-spec =
@@ -62,7 +70,7 @@ serve-formed-spec =
     find-requires
     part-requires
     decided-requires
-    put-reply-requires
+    put-answer-requires
     part-requires-2
     change-requires
     layout-of-requires

@@ -114,12 +114,19 @@ returns-14 : tie.Need-returns-14
 unfolding numbered operations commands
 returns-14 c = rw (c .before .match .keys14) (c .meta-write3 .ensures)
 
-refused-requires-2 : tie.Need-refused-requires-2
-refused-requires-2 c κs = tt
+key-listing-requires : tie.Need-key-listing-requires
+key-listing-requires c κs = tt
 
 returns-15 : tie.Need-returns-15
 unfolding numbered operations commands
-returns-15 c =
+returns-15 c = rw (c .before .match .keys15) (c .key-listing .ensures)
+
+refused-requires-2 : tie.Need-refused-requires-2
+refused-requires-2 c κs = tt
+
+returns-16 : tie.Need-returns-16
+unfolding numbered operations commands
+returns-16 c =
     let n = c .before .before .args .number in
     let q = c .before .before .args .quiet in
     let r = c .before .match .rest in
@@ -128,21 +135,22 @@ returns-15 c =
     (λ z. rw (eqb-true n 0 z))
     (λ z.
     let p0 = next 0 n (omega arith) (eqb-false n 0 z) in
-    let p1 = next 1 n p0 (r .0 .0 .0 .0 .0 .0 .0 .0 .0 .0 .0 .0 .0 .1) in
-    let p2 = next 2 n p1 (r .0 .0 .0 .0 .0 .0 .0 .0 .0 .0 .0 .0 .1) in
-    let p3 = next 3 n p2 (r .0 .0 .0 .0 .0 .0 .0 .0 .0 .0 .0 .1) in
-    let p4 = next 4 n p3 (r .0 .0 .0 .0 .0 .0 .0 .0 .0 .0 .1) in
-    let p5 = next 5 n p4 (r .0 .0 .0 .0 .0 .0 .0 .0 .0 .1) in
-    let p6 = next 6 n p5 (r .0 .0 .0 .0 .0 .0 .0 .0 .1) in
-    let p7 = next 7 n p6 (r .0 .0 .0 .0 .0 .0 .0 .1) in
-    let p8 = next 8 n p7 (r .0 .0 .0 .0 .0 .0 .1) in
-    let p9 = next 9 n p8 (r .0 .0 .0 .0 .0 .1) in
-    let p10 = next 10 n p9 (r .0 .0 .0 .0 .1) in
-    let p11 = next 11 n p10 (r .0 .0 .0 .1) in
-    let p12 = next 12 n p11 (r .0 .0 .1) in
-    let p13 = next 13 n p12 (r .0 .1) in
-    let p14 = next 14 n p13 (r .1) in
-    ap (λ (f : Bool → Shape). f q) (sym (List·getD-eq-default operations unknown p14)))
+    let p1 = next 1 n p0 (r .0 .0 .0 .0 .0 .0 .0 .0 .0 .0 .0 .0 .0 .0 .1) in
+    let p2 = next 2 n p1 (r .0 .0 .0 .0 .0 .0 .0 .0 .0 .0 .0 .0 .0 .1) in
+    let p3 = next 3 n p2 (r .0 .0 .0 .0 .0 .0 .0 .0 .0 .0 .0 .0 .1) in
+    let p4 = next 4 n p3 (r .0 .0 .0 .0 .0 .0 .0 .0 .0 .0 .0 .1) in
+    let p5 = next 5 n p4 (r .0 .0 .0 .0 .0 .0 .0 .0 .0 .0 .1) in
+    let p6 = next 6 n p5 (r .0 .0 .0 .0 .0 .0 .0 .0 .0 .1) in
+    let p7 = next 7 n p6 (r .0 .0 .0 .0 .0 .0 .0 .0 .1) in
+    let p8 = next 8 n p7 (r .0 .0 .0 .0 .0 .0 .0 .1) in
+    let p9 = next 9 n p8 (r .0 .0 .0 .0 .0 .0 .1) in
+    let p10 = next 10 n p9 (r .0 .0 .0 .0 .0 .1) in
+    let p11 = next 11 n p10 (r .0 .0 .0 .0 .1) in
+    let p12 = next 12 n p11 (r .0 .0 .0 .1) in
+    let p13 = next 13 n p12 (r .0 .0 .1) in
+    let p14 = next 14 n p13 (r .0 .1) in
+    let p15 = next 15 n p14 (r .1) in
+    ap (λ (f : Bool → Shape). f q) (sym (List·getD-eq-default operations unknown p15)))
 
 pub shape-by-spec : {M : Type 1} → statement M
 shape-by-spec =
@@ -162,6 +170,7 @@ shape-by-spec =
     meta-write-requires
     meta-write-requires-2
     meta-write-requires-3
+    key-listing-requires
     refused-requires-2
     returns
     returns-2
@@ -177,4 +186,5 @@ shape-by-spec =
     returns-12
     returns-13
     returns-14
-    returns-15)
+    returns-15
+    returns-16)

@@ -1,6 +1,7 @@
 //! What the compared calls have met, and what of it a run must meet, and how often.
 
 mod contests;
+mod listings;
 mod situations;
 
 use crate::generate::faults::Fault;
@@ -53,6 +54,7 @@ impl Coverage {
         if let Some(damage) = self.damage {
             self.meet(situations::of_damage(before, damage, answer));
         }
+        self.meet(listings::of_form(call, answer).map(Situation::GetKeys));
         let (Call::Serve { clock, received, .. }, Answer::Served(served)) = (call, answer) else {
             return;
         };
@@ -66,7 +68,7 @@ impl Coverage {
         }
     }
 
-    fn meet(&mut self, met: Vec<Situation>) {
+    fn meet(&mut self, met: impl IntoIterator<Item = Situation>) {
         for situation in met {
             *self.situations.entry(situation).or_default() += 1;
         }
@@ -207,6 +209,7 @@ fn statuses_of(opcode: u8) -> &'static [u8] {
         Err(_) => &[0x81],
         Ok(Command::Noop | Command::Version) => &[0x00, 0x04],
         Ok(Command::Get | Command::GetK) => &[0x00, 0x01, 0x04, 0x07],
+        Ok(Command::GetKeys) => &[0x00, 0x04, 0x07],
         Ok(Command::Delete) => &[0x00, 0x01, 0x02, 0x04, 0x07, 0x84],
         Ok(Command::Replace) => &[0x00, 0x01, 0x02, 0x03, 0x04, 0x07, 0x84],
         Ok(Command::Increment | Command::Decrement) => &[0x00, 0x01, 0x02, 0x04, 0x06, 0x07, 0x82, 0x84],

@@ -1,8 +1,10 @@
 //! Situations that a run must come to, told from the table, the frame and the answer, whatever was aimed at.
 
+use super::listings;
 use crate::answers::Served;
 use crate::generate::keys::{bucket, fingerprint};
 use crate::generate::tables::Damage;
+use crate::generate::GET_KEYS;
 use crate::rendering::bytes::{put, u16_at, u32_at};
 use crate::rendering::request::{
     is_with_meta, view, MetaExtras, View, FORCE, FORCE_ACCEPT, HEADER as FRAME_HEADER, REGENERATE_CAS, SKIP_CONFLICTS,
@@ -110,6 +112,7 @@ pub enum Situation {
         skips: bool,
         status: u8,
     },
+    GetKeys(listings::Met),
 }
 
 impl Situation {
@@ -121,6 +124,7 @@ impl Situation {
             | Situation::SharedBucket(_)
             | Situation::KeyTwiceAmongShared(_)
             | Situation::DamagedAbove12Rows(_) => calls / 250_000,
+            Situation::GetKeys(met) if met.is_rare() => calls / 250_000,
             _ => calls / 50_000,
         }
     }
@@ -139,6 +143,7 @@ pub fn expected() -> Vec<Situation> {
     expected.extend(WITH_META.into_iter().flat_map(expected_with_meta));
     expected.extend([0x02, 0x12].into_iter().flat_map(expected_add));
     expected.extend([0xa4, 0xa5].into_iter().flat_map(expected_add_with_meta));
+    expected.extend(listings::expected().into_iter().map(Situation::GetKeys));
     expected
 }
 
@@ -258,6 +263,9 @@ pub fn of_frame(before: &[u8], clock: u32, frame: &[u8], served: &Served) -> Vec
     let mut met = Vec::new();
     if QUIET.contains(&opcode) {
         met.push(if served.reply == 0 { Situation::Silent(opcode) } else { Situation::Sent(opcode) });
+    }
+    if opcode == GET_KEYS {
+        met.extend(listings::of_frame(before, clock, frame, served).into_iter().map(Situation::GetKeys));
     }
     match view(frame) {
         Ok(request) => {

@@ -8,15 +8,19 @@ use crate::random::Random;
 use crate::rendering::bytes::u64_at;
 use crate::rendering::table::KEY;
 
-/// Keys that share prefixes and differ in the last byte or in length.
-const SHORT: [&[u8]; 12] = [
+/// Keys that share prefixes and differ in the last byte or in length, some of them around the sign bit.
+const SHORT: [&[u8]; 16] = [
     b"a",
     b"b",
     b"\0",
+    b"\x7f",
+    b"\x80",
     b"\xff",
     b"aa",
     b"ab",
     b"ab\0",
+    b"ab\x7f",
+    b"ab\x80",
     b"contact-0001",
     b"contact-0002",
     b"contact-001",

@@ -1,7 +1,8 @@
-//! Tables and calls at random, biased to the limits of document 01.
+//! Tables and calls at random, biased to the limits of document 01 and of order 1.
 
 pub mod faults;
 pub mod keys;
+mod listings;
 mod parts;
 mod requests;
 pub mod tables;
@@ -19,10 +20,12 @@ use std::collections::BTreeMap;
 use tables::Damage;
 
 /// The opcodes that are built.
-pub const BUILT: [u8; 24] = [
+pub const BUILT: [u8; 25] = [
     0x00, 0x01, 0x02, 0x03, 0x04, 0x05, 0x06, 0x09, 0x0a, 0x0b, 0x0c, 0x0d, 0x11, 0x12, 0x13, 0x14, 0x15, 0x16, 0xa2,
-    0xa3, 0xa4, 0xa5, 0xa8, 0xa9,
+    0xa3, 0xa4, 0xa5, 0xa8, 0xa9, GET_KEYS,
 ];
+
+pub const GET_KEYS: u8 = 0xb8;
 
 /// What of a table shapes the next call: its rows, and a stand-in for the header of a damaged one.
 struct Sight<'t> {
@@ -55,9 +58,10 @@ impl<'t> Sight<'t> {
 /// Deals sessions: a start, then calls that fit the table as it is by then.
 pub struct Generator {
     random: Random,
-    /// The session's keys and clock.
+    /// The session's keys and clock, and whether it is about listing them.
     keys: Vec<Vec<u8>>,
     clock: u32,
+    lists: bool,
     /// How often each opcode met each fault.
     pub faults: BTreeMap<(u8, Fault), u64>,
 }
@@ -72,19 +76,20 @@ pub struct Start {
 
 impl Generator {
     pub fn new(seed: u64) -> Generator {
-        Generator { random: Random::new(seed), keys: Vec::new(), clock: 0, faults: BTreeMap::new() }
+        Generator { random: Random::new(seed), keys: Vec::new(), clock: 0, lists: false, faults: BTreeMap::new() }
     }
 
     pub fn start(&mut self) -> Start {
-        let rows = self.row_count();
+        self.lists = self.random.percent(6);
+        let rows = if self.lists { self.listed_row_count() } else { self.row_count() };
         self.clock = self.session_clock();
-        self.keys = self.session_keys(rows);
+        self.keys = if self.lists { self.listed_keys(rows) } else { self.session_keys(rows) };
         let mut table = self.table(rows);
-        if self.random.percent(if rows > 12 { 40 } else { 12 }) {
+        if !self.lists && self.random.percent(if rows > 12 { 40 } else { 12 }) {
             let damage = self.damage(&mut table);
             return Start { table, damage, tally: self.tally(), calls: 8 };
         }
-        let calls = if rows > 12 { 8 } else { self.random.between(10, 60) };
+        let calls = if rows > 12 || self.lists { 8 } else { self.random.between(10, 60) };
         Start { table, damage: None, tally: self.tally(), calls }
     }
 

@@ -1,7 +1,7 @@
 //! Requests: near-valid frames of every command.
 
 use super::faults::Fault;
-use super::{Generator, Sight, BUILT};
+use super::{Generator, Sight, BUILT, GET_KEYS};
 use crate::frame::{counter_extras, meta_extras, plain_extras, Frame};
 use crate::rendering::numbers::{Cas, Mode, Numbers, Revision};
 
@@ -19,11 +19,7 @@ impl Generator {
     }
 
     pub(super) fn request(&mut self, sight: &Sight, clock: u32) -> Frame {
-        let opcode = match self.random.below(20) {
-            0 => self.random.byte(),
-            1..=9 => *self.random.pick(&WITH_META),
-            _ => *self.random.pick(&BUILT),
-        };
+        let opcode = self.opcode();
         let key = self.key_near(sight);
         let cas = self.header_cas(sight, &key);
         let vbucket = if self.random.percent(96) { sight.vbucket } else { sight.vbucket ^ 1 };
@@ -36,8 +32,21 @@ impl Generator {
             0x05 | 0x06 | 0x15 | 0x16 => Frame { extras: self.counter_extras(clock), ..frame },
             0x0a | 0x0b => Frame { key: Vec::new(), ..frame },
             0xa2..=0xa5 | 0xa8 | 0xa9 => self.with_meta(sight, clock, frame),
+            GET_KEYS => self.get_keys(sight, frame),
             0x00 | 0x04 | 0x09 | 0x0c | 0x0d | 0x14 => frame,
             _ => Frame { value: self.value(), ..frame },
+        }
+    }
+
+    /// One request in ten lists keys, and every second one of a session that is about it.
+    fn opcode(&mut self) -> u8 {
+        if self.random.percent(if self.lists { 50 } else { 8 }) {
+            return GET_KEYS;
+        }
+        match self.random.below(20) {
+            0 => self.random.byte(),
+            1..=9 => *self.random.pick(&WITH_META),
+            _ => *self.random.pick(&BUILT),
         }
     }
 

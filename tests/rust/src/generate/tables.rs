@@ -120,17 +120,18 @@ impl Generator {
         }
     }
 
-    /// A sound table; some are fresh, some full.
+    /// A sound table; some are fresh, some full, and of a session that lists keys most have live documents alone.
     pub(super) fn table(&mut self, rows: usize) -> Vec<u8> {
         let mut memory = vec![0; HEADER + rows * ROW];
         let state = if self.random.percent(80) { 1 } else { self.random.between(2, 4) as u8 };
         let mode = self.random.between(1, 2) as u8;
-        let free = *self.random.pick(&[0, 0, 20, 50, 100]);
+        let lives = self.lists && self.random.percent(70);
+        let free = if lives { 0 } else { *self.random.pick(&[0, 0, 20, 50, 100]) };
         let mark = if free == 100 { 0 } else { self.mark() };
         write_head(&mut memory, state, mode, self.vbucket(), Cas(mark));
         for place in 0..rows {
             if !self.random.percent(free) {
-                self.put_row(&mut memory, place, mark);
+                self.put_row(&mut memory, place, mark, lives);
             }
         }
         memory
@@ -143,7 +144,7 @@ impl Generator {
         }
     }
 
-    fn put_row(&mut self, memory: &mut [u8], place: usize, mark: u64) {
+    fn put_row(&mut self, memory: &mut [u8], place: usize, mark: u64, lives: bool) {
         let cas = match self.random.below(4) {
             0 => mark,
             1 => 1,
@@ -151,11 +152,12 @@ impl Generator {
         };
         let revision = self.number_near(mark);
         let key = self.keys[place].clone();
-        let tombstone = self.random.percent(25);
+        let tombstone = !lives && self.random.percent(25);
         let (kind, flags, expiry, value) = if tombstone {
             (Kind::Tombstone, 0, 0, Vec::new())
         } else {
-            (Kind::Document, self.flags(), self.absolute_expiry(self.clock), self.value())
+            let expiry = if lives { 0 } else { self.absolute_expiry(self.clock) };
+            (Kind::Document, self.flags(), expiry, self.value())
         };
         let numbers = Numbers { flags, expiry, revision: Revision(revision), cas: Cas(cas) };
         write_row(memory, place, &Row { kind, numbers, key: &key, value: &value });

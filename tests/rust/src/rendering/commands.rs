@@ -1,8 +1,10 @@
 //! Every command, judged by statuses 2 to 8 in their order.
 
+use super::listing::listing;
 use super::numbers::{plain_expiry, Cas, Mode, Numbers, Revision};
 use super::request::{
-    is_with_meta, CounterExtras, MetaExtras, PlainExtras, View, FORCE, FORCE_ACCEPT, REGENERATE_CAS, SKIP_CONFLICTS,
+    is_with_meta, CounterExtras, KeysExtras, MetaExtras, PlainExtras, View, FORCE, FORCE_ACCEPT, REGENERATE_CAS,
+    SKIP_CONFLICTS,
 };
 use super::shape::Command;
 use super::status::Status;
@@ -19,6 +21,8 @@ pub enum Effect<'t, 'f> {
         with_key: bool,
     },
     Store(Write<'f>),
+    /// Lists keys, by the value that does.
+    List(Vec<u8>),
 }
 
 /// A row stored at a place, by which the mark is raised to its CAS where lower.
@@ -53,6 +57,10 @@ pub fn decide<'t, 'f>(table: &Table<'t>, clock: u32, request: &View<'f>) -> Resu
         Command::Delete => key.delete().map(Effect::Store),
         Command::Increment | Command::Decrement => key.count(clock).map(Effect::Store),
         Command::SetWithMeta | Command::AddWithMeta | Command::DeleteWithMeta => key.with_meta().map(Effect::Store),
+        Command::GetKeys => {
+            let count = KeysExtras::read(request.extras).count;
+            Ok(Effect::List(listing(table, clock, request.key, count)))
+        }
     }
 }
 
@@ -71,7 +79,7 @@ fn mode_and_clock_rules(mode: Mode, clock: u32, request: &View) -> Result<(), St
             let accepts = MetaExtras::read(request.extras).has(FORCE_ACCEPT);
             Status::Invalid.unless(accepts == (mode == Mode::LastWriteWins))
         }
-        Command::Get | Command::GetK | Command::Delete | Command::Noop | Command::Version => Ok(()),
+        Command::Get | Command::GetK | Command::Delete | Command::Noop | Command::Version | Command::GetKeys => Ok(()),
     }
 }
 

@@ -1,4 +1,4 @@
-//! Document 01 in plain Rust, written from the papers alone, to be read with 01 beside it.
+//! Document 01 with order 1 of document 02 in plain Rust, written from the papers alone, to be read with them beside.
 //!
 //! | Section of 01 | Module |
 //! |---|---|
@@ -7,9 +7,11 @@
 //! | Statuses, first that applies | [`status`], [`request`] (1 to 3), [`commands`] (2 to 8) |
 //! | Commands, With-meta | [`shape`], [`commands`], [`numbers`] |
 //! | How strict the promises are: reader and writer | [`request`] |
+//! | Order 1 of 02, key listing | [`listing`], and its shape and rules in [`shape`], [`request`], [`commands`] |
 
 pub mod bytes;
 pub mod commands;
+pub mod listing;
 pub mod numbers;
 pub mod owner;
 pub mod request;

@@ -79,6 +79,10 @@ pub fn view(frame: &[u8]) -> Result<View<'_>, Status> {
         meta_section_rule(meta)?;
         field_rules(shape.command, &MetaExtras::read(extras))?;
     }
+    // Order 1: "count 0 is 0x04"
+    if shape.command == Command::GetKeys {
+        Status::Invalid.unless(KeysExtras::read(extras).count != 0)?;
+    }
     Ok(View { shape, vbucket: u16_at(frame, 6), cas: u64_at(frame, 16), extras, key, value, meta })
 }
 
@@ -156,6 +160,18 @@ impl MetaExtras {
 
     pub fn has(&self, option: u32) -> bool {
         self.options & option != 0
+    }
+}
+
+/// Order 1: "optional 4-byte count, 1,000 if absent"
+#[derive(Clone, Copy, Debug)]
+pub struct KeysExtras {
+    pub count: u32,
+}
+
+impl KeysExtras {
+    pub fn read(extras: &[u8]) -> KeysExtras {
+        KeysExtras { count: if extras.is_empty() { 1_000 } else { u32_at(extras, 0) } }
     }
 }
 

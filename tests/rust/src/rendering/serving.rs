@@ -75,6 +75,8 @@ fn answer(decision: &Result<Effect, Status>, frame: &[u8], out: &mut [u8]) -> us
                 Reply { cas: numbers.cas, value: &number.to_be_bytes(), ..bare }.write(frame, out)
             }
         },
+        // Order 1: "reply CAS 0"
+        Ok(Effect::List(value)) => Reply { value, ..bare }.write(frame, out),
     }
 }
 

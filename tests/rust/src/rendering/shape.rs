@@ -17,6 +17,7 @@ pub enum Command {
     SetWithMeta,
     AddWithMeta,
     DeleteWithMeta,
+    GetKeys,
 }
 
 #[derive(Clone, Copy, Debug, PartialEq, Eq)]
@@ -39,7 +40,7 @@ pub struct Shape {
 }
 
 /// The shape of an opcode, or status 1 of the list: "0x83: opcodes (hexadecimal) 07, 08, 0e, 0f, 10, 17 to 1a. 0x81:
-/// every other opcode not in the next section."
+/// every other opcode not in the next section." Order 1: "This amends 01's opcode list and the 256-entry table."
 pub fn shape(opcode: u8) -> Result<Shape, Status> {
     use Command::*;
     let (command, silent) = match opcode {
@@ -69,6 +70,8 @@ pub fn shape(opcode: u8) -> Result<Shape, Status> {
         0xa5 => (AddWithMeta, Some(0)),
         0xa8 => (DeleteWithMeta, None),
         0xa9 => (DeleteWithMeta, Some(0)),
+        // Order 1: "Add Get Keys, opcode 0xb8"
+        0xb8 => (GetKeys, None),
         0x07 | 0x08 | 0x0e | 0x0f | 0x10 | 0x17..=0x1a => return Err(Status::Unbuilt),
         _ => return Err(Status::Unknown),
     };
@@ -90,6 +93,8 @@ fn of_command(command: Command, silent: Option<u8>) -> Shape {
         // "for Set and Add, no value byte before the extended meta; for Delete, such a byte"
         SetWithMeta | AddWithMeta => (&[24, 26, 28, 30], Must, Must),
         DeleteWithMeta => (&[24, 26, 28, 30], Must, MustNot),
+        // Order 1: "optional start key, optional 4-byte count [...] No value"
+        GetKeys => (&[0, 4], May, MustNot),
     };
     Shape { command, extras, key, value, silent }
 }

@@ -1,4 +1,5 @@
 //! A table on its store, with what a boat's software lends it.
+#![allow(dead_code)]
 
 use contact_tests::answers::{Document, Served, Store, Tally};
 use contact_tests::frame::{counter_extras, plain_extras, Frame};

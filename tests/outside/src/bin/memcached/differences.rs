@@ -1,4 +1,5 @@
-//! Every way in which the store answers otherwise than memcached, with the sentences of document 01 that ask for it.
+//! Every way in which the store answers otherwise than memcached, with the sentences of document 01, or of an order of
+//! document 02, that ask for it.
 
 use contacts::{opcode, BODY_MAX, VALUE_MAX};
 
@@ -69,7 +70,7 @@ pub struct Difference {
 
 const BARE: &str = "Its reply is a bare header with that status, the opcode and opaque echoed, CAS 0.";
 
-pub const DIFFERENCES: [Difference; 22] = [
+pub const DIFFERENCES: [Difference; 23] = [
     Difference {
         name: "no error text",
         sentences: &[BARE],
@@ -219,6 +220,13 @@ pub const DIFFERENCES: [Difference; 22] = [
         },
     },
     Difference {
+        name: "Get Keys",
+        sentences: &["Add Get Keys, opcode 0xb8, by source document 004"],
+        explains: |seen| {
+            seen.request.opcode == opcode::GET_KEYS && seen.field == Field::Status && seen.theirs.status == Some(0x81)
+        },
+    },
+    Difference {
         name: "open after a wrong form",
         sentences: &[
             "| 2 | magic not 0x80 | the same; caller closes |",
@@ -259,7 +267,7 @@ fn is_left_out(opcode: u8) -> bool {
 
 /// Opcodes that are served.
 fn is_built(opcode: u8) -> bool {
-    matches!(opcode, 0x00..=0x06 | 0x09..=0x0d | 0x11..=0x16) || is_with_meta(opcode)
+    matches!(opcode, 0x00..=0x06 | 0x09..=0x0d | 0x11..=0x16 | opcode::GET_KEYS) || is_with_meta(opcode)
 }
 
 fn is_with_meta(opcode: u8) -> bool {

@@ -240,6 +240,9 @@ fn with_bodies() -> Vec<Case> {
     let unknown = [0x1b, 0x40, 0xa0, 0xff].map(|opcode| bare(opcode).extras(b"extras").key(KEY).value(b"value"));
     let others = [
         bare(0xa8).extras(&numbers).key(KEY),
+        bare(opcode::GET_KEYS).key(KEY),
+        bare(opcode::GET_KEYS).extras(&[0, 0, 0, 2]).key(KEY),
+        bare(opcode::GET_KEYS).extras(&[0, 0, 0, 0]),
         bare(0x08).extras(&SECONDS),
         bare(0x10).key(b"settings"),
         bare(0x40).value(b"value"),

@@ -1,40 +1,80 @@
-//! What tshark has to show of a request, by what it was written from. docs/OUTSIDE.md lists where the dissector shows
-//! otherwise.
+//! What tshark has to show of a request, by what it was written from, and of a reply, by what it has to say.
+//! docs/OUTSIDE.md lists where the dissector shows otherwise.
 
 use contacts::opcode;
 
+use crate::replied::Replied;
 use crate::shown::{Said, Shown};
 use crate::written::Written;
 
 const HEADER: usize = 24;
 
-pub fn expected(written: &Written) -> Vec<Shown> {
-    let extras = written.extras_bytes().len();
+pub fn of_request(written: &Written) -> Vec<Shown> {
+    let (fields, extras) = (&written.fields, written.extras_bytes().len());
+    let header = Header {
+        magic: 0x80,
+        opcode: fields.opcode,
+        extras,
+        key: written.key.len(),
+        value: written.value.len(),
+        addressed: ("vbucket", fields.vbucket),
+        opaque: fields.opaque,
+        cas: fields.cas.0,
+    };
     let value_at = HEADER + extras + written.key.len();
-    [header(written), extras_fields(written), key(&written.key, HEADER + extras), value(&written.value, value_at)]
+    [header.fields(), extras_fields(written), key(&written.key, HEADER + extras), value(&written.value, value_at)]
         .concat()
 }
 
-fn header(written: &Written) -> Vec<Shown> {
-    let (fields, key, value) = (&written.fields, written.key.len() as u64, written.value.len() as u64);
-    let extras = written.extras_bytes().len() as u64;
-    vec![
-        number("magic", 0, 1, 0x80),
-        number("opcode", 1, 1, fields.opcode.into()),
-        number("key.length", 2, 2, key),
-        number("extras.length", 4, 1, extras),
-        number("datatype", 5, 1, fields.datatype.into()),
-        number("datatype.json", 5, 1, 0),
-        number("datatype.snappy", 5, 1, 0),
-        number("datatype.xattr", 5, 1, 0),
-        number("vbucket", 6, 2, fields.vbucket.into()),
-        // Counted by the dissector: no bytes of the frame.
-        number("value.length", 8, 0, value),
-        number("total_bodylength", 8, 4, extras + key + value),
-        // Shown in the other byte order.
-        number("opaque", 12, 4, fields.opaque.swap_bytes().into()),
-        number("cas", 16, 8, fields.cas.0),
-    ]
+/// A reply without extras and key, with CAS 0.
+pub fn of_reply(replied: &Replied) -> Vec<Shown> {
+    let header = Header {
+        magic: 0x81,
+        opcode: replied.to.opcode,
+        extras: 0,
+        key: 0,
+        value: replied.value.len(),
+        addressed: ("status", 0),
+        opaque: replied.to.opaque,
+        cas: 0,
+    };
+    [header.fields(), value(&replied.value, HEADER)].concat()
+}
+
+/// A frame's header, with the lengths of its parts; a request has a vbucket where a reply has its status.
+struct Header {
+    magic: u64,
+    opcode: u8,
+    extras: usize,
+    key: usize,
+    value: usize,
+    addressed: (&'static str, u16),
+    opaque: u32,
+    cas: u64,
+}
+
+impl Header {
+    fn fields(&self) -> Vec<Shown> {
+        let (extras, key, value) = (self.extras as u64, self.key as u64, self.value as u64);
+        let (name, addressed) = self.addressed;
+        vec![
+            number("magic", 0, 1, self.magic),
+            number("opcode", 1, 1, self.opcode.into()),
+            number("key.length", 2, 2, key),
+            number("extras.length", 4, 1, extras),
+            number("datatype", 5, 1, 0),
+            number("datatype.json", 5, 1, 0),
+            number("datatype.snappy", 5, 1, 0),
+            number("datatype.xattr", 5, 1, 0),
+            number(name, 6, 2, addressed.into()),
+            // Counted by the dissector: no bytes of the frame.
+            number("value.length", 8, 0, value),
+            number("total_bodylength", 8, 4, extras + key + value),
+            // Shown in the other byte order.
+            number("opaque", 12, 4, self.opaque.swap_bytes().into()),
+            number("cas", 16, 8, self.cas),
+        ]
+    }
 }
 
 fn extras_fields(written: &Written) -> Vec<Shown> {
@@ -43,7 +83,7 @@ fn extras_fields(written: &Written) -> Vec<Shown> {
         return vec![];
     }
     let mut shown = vec![bytes("extras", HEADER, all.len(), b"")];
-    if !takes_extras_apart(written) {
+    if !takes_extras_apart(written.fields.opcode) {
         shown.push(bytes("extras.unknown", HEADER, all.len(), &all));
         return shown;
     }
@@ -58,9 +98,9 @@ fn extras_fields(written: &Written) -> Vec<Shown> {
     shown
 }
 
-/// Of the with-meta commands the dissector knows the extras of two.
-fn takes_extras_apart(written: &Written) -> bool {
-    !written.is_with_meta() || matches!(written.fields.opcode, opcode::SET_WITH_META | opcode::DELETE_WITH_META)
+/// Of the with-meta commands the dissector knows the extras of two, and it knows none of Get Keys.
+fn takes_extras_apart(opcode: u8) -> bool {
+    opcode < opcode::SET_WITH_META || matches!(opcode, opcode::SET_WITH_META | opcode::DELETE_WITH_META)
 }
 
 /// The bits of the options. A Delete has one that no request of ours sets.

@@ -1,7 +1,9 @@
-//! Lets tshark dissect requests that the library wrote, and compares every field that it shows with what was written.
+//! Lets tshark dissect requests that the library wrote and replies that it gave, and compares every field that it shows
+//! with what was written or is due.
 
 mod expected;
 mod pcap;
+mod replied;
 mod shown;
 mod written;
 
@@ -9,7 +11,12 @@ use std::process::{self, ExitCode};
 use std::{env, fs, io};
 
 use shown::Shown;
-use written::Written;
+
+/// A frame, and what has to be shown of it.
+struct Frame {
+    bytes: Vec<u8>,
+    expected: Vec<Shown>,
+}
 
 fn main() -> ExitCode {
     match compare() {
@@ -29,31 +36,37 @@ fn main() -> ExitCode {
 }
 
 fn compare() -> io::Result<bool> {
-    let requests = written::requests();
-    let shown = dissect(&requests)?;
+    let (requests, replies) = (written::requests(), replied::replies());
+    let written = requests.iter().map(|one| Frame { bytes: one.frame(), expected: expected::of_request(one) });
+    let replied = replies.iter().map(|one| Frame { bytes: one.frame.clone(), expected: expected::of_reply(one) });
+    let frames: Vec<Frame> = written.chain(replied).collect();
+    let shown = dissect(&frames)?;
     let fields: usize = shown.iter().map(Vec::len).sum();
     println!("{}", shown::version()?);
-    println!("{} requests written, {} dissected, {fields} fields shown", requests.len(), shown.len());
-    let good = requests.iter().zip(&shown).filter(|(written, shown)| is_expected(written, shown)).count();
-    Ok(good == requests.len() && good == shown.len())
+    println!(
+        "{} requests written and {} replies given, {} dissected, {fields} fields shown",
+        requests.len(),
+        replies.len(),
+        shown.len()
+    );
+    let good = frames.iter().zip(&shown).filter(|(frame, shown)| is_expected(frame, shown)).count();
+    Ok(good == frames.len() && good == shown.len())
 }
 
 /// Whether all is shown as expected. Tells the first field that isn't.
-fn is_expected(written: &Written, shown: &[Shown]) -> bool {
-    let expected = expected::expected(written);
+fn is_expected(Frame { bytes, expected }: &Frame, shown: &[Shown]) -> bool {
     let same = expected.iter().zip(shown).take_while(|(expected, shown)| expected == shown).count();
     let all = same == expected.len() && same == shown.len();
     if !all {
-        println!("of {:02x?}", written.frame());
+        println!("of {bytes:02x?}");
         println!("  expected {:x?}, shown {:x?}", expected.get(same), shown.get(same));
     }
     all
 }
 
-fn dissect(requests: &[Written]) -> io::Result<Vec<Vec<Shown>>> {
-    let frames: Vec<_> = requests.iter().map(Written::frame).collect();
+fn dissect(frames: &[Frame]) -> io::Result<Vec<Vec<Shown>>> {
     let capture = env::temp_dir().join(format!("contacts-{}.pcap", process::id()));
-    fs::write(&capture, pcap::capture(&frames))?;
+    fs::write(&capture, pcap::capture(frames.iter().map(|frame| &frame.bytes[..])))?;
     let shown = shown::dissect(&capture);
     fs::remove_file(&capture)?;
     shown

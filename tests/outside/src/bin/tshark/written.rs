@@ -34,12 +34,8 @@ impl Written {
         frame
     }
 
-    pub fn is_with_meta(&self) -> bool {
-        self.fields.opcode >= opcode::SET_WITH_META
-    }
-
     pub fn is_delete_with_meta(&self) -> bool {
-        self.fields.opcode >= opcode::DELETE_WITH_META
+        matches!(self.fields.opcode, opcode::DELETE_WITH_META | opcode::DELETEQ_WITH_META)
     }
 }
 
@@ -64,7 +60,18 @@ pub fn requests() -> Vec<Written> {
     for opcode in WITH_META {
         requests.extend(with_meta(opcode));
     }
+    for key in [&b""[..], b"sonar:17", &[b'k'; KEY_MAX]] {
+        requests.push(request(opcode::GET_KEYS, vec![], key, b""));
+        requests.push(request(opcode::GET_KEYS, vec![count(0x5556_5758)], key, b""));
+    }
+    requests.push(start_key());
     requests
+}
+
+/// Document 004's Get Keys by its prose: two keys from `start_key` on, in vbucket 3.
+pub fn start_key() -> Written {
+    let fields = Fields { opcode: opcode::GET_KEYS, vbucket: 3, ..Fields::default() };
+    Written { fields, extras: vec![count(2)], key: b"start_key".to_vec(), value: vec![] }
 }
 
 const KEY_ALONE: [u8; 6] = [opcode::GET, opcode::GETQ, opcode::GETK, opcode::GETKQ, opcode::DELETE, opcode::DELETEQ];
@@ -99,7 +106,7 @@ fn extra(name: &'static str, size: usize, number: u64) -> Extra {
     Extra { name, size, number }
 }
 
-fn stored() -> Vec<Extra> {
+pub fn stored() -> Vec<Extra> {
     vec![extra("flags", 4, 0x2122_2324), extra("expiration", 4, 0x2526_2728)]
 }
 
@@ -109,6 +116,10 @@ fn counted() -> Vec<Extra> {
         extra("initial", 8, 0x4142_4344_4546_4748),
         extra("expiration", 4, 0x5152_5354),
     ]
+}
+
+fn count(count: u64) -> Extra {
+    extra("count", 4, count)
 }
 
 /// A with-meta command with extras of 24, 26, 28 and 30 bytes, every option and every extended meta.

@@ -1,0 +1,6 @@
+pub mod Sorting
+pub mod Taken
+pub mod Members
+pub mod LiveKeys
+pub mod Exact
+pub mod Paging

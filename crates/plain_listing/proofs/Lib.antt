@@ -1,0 +1,4 @@
+pub mod Listed
+pub mod Moves
+pub mod Placing
+pub mod Writing
