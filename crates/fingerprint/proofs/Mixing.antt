@@ -13,7 +13,7 @@ use borrow.Author.Tests.{le-leb, lt-leb, lt-ltb, le-ltb}
 use Rattle.octets.specs.Parts.{part}
 use Rattle.octets.specs.BigEndian.{num}
 use Rattle.octets.specs.Words.{wordAt}
-use Rattle.fingerprint.specs.Fingerprint.{mixed, begun, further, joined, lanesOver, lanesAll, folded, fingerprint, printAmong}
+use Rattle.fingerprint.specs.Fingerprint.{mixed, laneOf, laneWith, joined, lanesOver, lanesAll, folded, fingerprint, printAmong}
 use Rattle.fingerprint.specs.declared.Lane.{Lane}
 
 fits : (m q : ℕ) → m < 2 ^ 59 → q < 32 → m * 32 + q < 2 ^ 64
@@ -36,19 +36,19 @@ abbrev pub left : List ℕ → ℕ → Lane → Lane → ℕ
 left key at a b = lanesOver ((length key - 16 - at + 15) / 16) a b (drop at key)
 
 pub first-step : (key : List ℕ) → 16 ≤ length key
-    → fingerprint key ≡ folded (left key 0 (begun (wordAt (drop (length key - 16) key) 0)) (begun (wordAt (drop (length key - 16) key) 8)))
+    → fingerprint key ≡ folded (left key 0 (laneOf (wordAt (drop (length key - 16) key) 0)) (laneOf (wordAt (drop (length key - 16) key) 8)))
 unfolding fingerprint lanesAll
 first-step key h =
     let e : length key - 1 ≡ length key - 16 - 0 + 15 = omega arith in
     rw (lt-leb (length key) 8 (omega arith), le-ltb (length key) 16 h, e)
 
 pub next-step : (key : List ℕ) (at : ℕ) (a b : Lane) → at < length key - 16
-    → left key at a b ≡ left key (at + 16) (further a (wordAt (part key at 16) 0)) (further b (wordAt (part key at 16) 8))
+    → left key at a b ≡ left key (at + 16) (laneWith a (wordAt (part key at 16) 0)) (laneWith b (wordAt (part key at 16) 8))
 unfolding lanesOver
 next-step key at a b h =
     let e : (length key - 16 - at + 15) / 16 ≡ suc ((length key - 16 - (at + 16) + 15) / 16) = omega arith in
     ap (λ (n : ℕ). lanesOver n a b (drop at key)) e
-    ∙ ap (lanesOver ((length key - 16 - (at + 16) + 15) / 16) (further a (wordAt (part key at 16) 0)) (further b (wordAt (part key at 16) 8))) (drop-drop 16 at key)
+    ∙ ap (lanesOver ((length key - 16 - (at + 16) + 15) / 16) (laneWith a (wordAt (part key at 16) 0)) (laneWith b (wordAt (part key at 16) 8))) (drop-drop 16 at key)
 
 pub last-step : (key : List ℕ) (at : ℕ) (a b : Lane) → length key - 16 ≤ at → left key at a b ≡ joined a b
 unfolding lanesOver

@@ -20,12 +20,12 @@ mixed p w = (turned p + w) % 2 ^ 64
 
 -- a lane of words is their sum and the sum of what that was after each of them, by which a word counts by its place too
 -- a lane of one word
-unfoldable pub begun : ℕ → Lane
-begun w = record { words = w; sums = w }
+unfoldable pub laneOf : ℕ → Lane
+laneOf w = record { words = w; sums = w }
 
 -- a lane with one word more, without the carries
-unfoldable pub further : Lane → ℕ → Lane
-further l w = record { words = (l .words + w) % 2 ^ 64; sums = (l .sums + (l .words + w) % 2 ^ 64) % 2 ^ 64 }
+unfoldable pub laneWith : Lane → ℕ → Lane
+laneWith l w = record { words = (l .words + w) % 2 ^ 64; sums = (l .sums + (l .words + w) % 2 ^ 64) % 2 ^ 64 }
 
 -- two lanes as one number
 unfoldable pub joined : Lane → Lane → ℕ
@@ -34,14 +34,14 @@ joined a b = mixed (mixed (a .sums) (a .words)) (mixed (b .sums) (b .words))
 
 -- two lanes over n steps of sixteen bytes each: one has the first word of every step, the other the second
 unfoldable pub lanesOver : ℕ → Lane → Lane → List ℕ → ℕ
-unfolding further joined wordAt
+unfolding laneWith joined wordAt
 lanesOver zero a b key = joined a b
-lanesOver (suc n) a b key = lanesOver n (further a (wordAt (part key 0 16) 0)) (further b (wordAt (part key 0 16) 8)) (drop 16 key)
+lanesOver (suc n) a b key = lanesOver n (laneWith a (wordAt (part key 0 16) 0)) (laneWith b (wordAt (part key 0 16) 8)) (drop 16 key)
 
 -- the last sixteen bytes, and every sixteen from the front until those are reached
 unfoldable pub lanesAll : List ℕ → ℕ
-unfolding begun lanesOver wordAt
-lanesAll key = let tail = drop (length key - 16) key in lanesOver ((length key - 1) / 16) (begun (wordAt tail 0)) (begun (wordAt tail 8)) key
+unfolding laneOf lanesOver wordAt
+lanesAll key = let tail = drop (length key - 16) key in lanesOver ((length key - 1) / 16) (laneOf (wordAt tail 0)) (laneOf (wordAt tail 8)) key
 
 -- the two halves added, without the carry
 unfoldable pub folded : ℕ → ℕ

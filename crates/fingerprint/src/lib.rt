@@ -1,6 +1,6 @@
 // Fingerprints: a number that equal keys share, so that two keys are compared only where their fingerprints agree.
 ghost use mathlib.Core.Path.{_≡_};
-ghost use Rattle.fingerprint.specs.Fingerprint.{turned, mixed, begun, further, joined, folded, fingerprint, bucketOf, printAmong};
+ghost use Rattle.fingerprint.specs.Fingerprint.{turned, mixed, laneOf, laneWith, joined, folded, fingerprint, bucketOf, printAmong};
 
 // The bits of p turned by five.
 fn turned(p: u64) -> u64
@@ -24,14 +24,14 @@ struct Lane {
 
 // A lane of one word.
 fn begun(w: u64) -> Lane
-    ensures { λ r. ⌜ r ≡ begun w ⌝ }
+    ensures { λ r. ⌜ r ≡ laneOf w ⌝ }
 {
     Lane { words: w, sums: w }
 }
 
 // A lane with one word more.
 fn further(l: Lane, w: u64) -> Lane
-    ensures { λ r. ⌜ r ≡ further l w ⌝ }
+    ensures { λ r. ⌜ r ≡ laneWith l w ⌝ }
 {
     let words = std::num::wrapping_add_u64(l.words, w);
     let sums = std::num::wrapping_add_u64(l.sums, words);

@@ -1,10 +1,10 @@
 use mathlib.Core.Path.{refl}
-use Rattle.fingerprint.specs.Fingerprint.{begun}
+use Rattle.fingerprint.specs.Fingerprint.{laneOf}
 use Rattle.fingerprint.proofs.begun.Statement.{statement}
 use Rattle.fingerprint.proofs.begun.Tie as tie
 
 returns : tie.Need-returns
-unfolding begun
+unfolding laneOf
 returns c = refl
 
 pub begun-spec : {M : Type 1} → statement M

@@ -1,6 +1,6 @@
 use Prim.Native.Nat.{_+_, _%_, _^_}
 use mathlib.Core.Path.{_∙_}
-use Rattle.fingerprint.specs.Fingerprint.{further}
+use Rattle.fingerprint.specs.Fingerprint.{laneWith}
 use Rattle.fingerprint.proofs.further.Statement.{statement}
 use Rattle.fingerprint.proofs.further.Tie as tie
 
@@ -11,7 +11,7 @@ wrapping-add-u64-requires-2 : tie.Need-wrapping-add-u64-requires-2
 wrapping-add-u64-requires-2 c κs = tt
 
 returns : tie.Need-returns
-unfolding further
+unfolding laneWith
 returns c =
     let l = c .before .before .args .l in
     let words = c .before .wrapping-add-u64 .ensures in

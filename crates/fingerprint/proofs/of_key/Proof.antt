@@ -6,7 +6,7 @@ use lib.ListN.{length, drop}
 use Rattle.octets.specs.Parts.{part}
 use Rattle.octets.specs.Words.{wordAt}
 use Rattle.octets.proofs.Lists.{take-rest}
-use Rattle.fingerprint.specs.Fingerprint.{mixed, begun, further, joined, folded, fingerprint}
+use Rattle.fingerprint.specs.Fingerprint.{mixed, laneOf, laneWith, joined, folded, fingerprint}
 use Rattle.fingerprint.proofs.Mixing.{left, short, middle, first-step, next-step, last-step}
 use borrow.Author.Needs.{needs}
 use Rattle.fingerprint.proofs.of_key.Statement.{statement}
@@ -79,8 +79,8 @@ loop-holds c =
     let w = c .before .before .before in
     let key = w .before .before .before .before .before .args .key .now in
     let tail = take-rest key (length key - 16) in
-    let a = c .before .before .begun .ensures ∙ ap begun (w .word3 .ensures ∙ ap (λ (s : List ℕ). wordAt s 0) tail) in
-    let b = c .begun2 .ensures ∙ ap begun (c .before .word4 .ensures ∙ ap (λ (s : List ℕ). wordAt s 8) tail) in
+    let a = c .before .before .begun .ensures ∙ ap laneOf (w .word3 .ensures ∙ ap (λ (s : List ℕ). wordAt s 0) tail) in
+    let b = c .begun2 .ensures ∙ ap laneOf (c .before .word4 .ensures ∙ ap (λ (s : List ℕ). wordAt s 8) tail) in
     (omega arith, first-step key (omega arith) ∙ sym (λ i. folded (left key 0 (a i) (b i))))
 
 add-end : tie.Need-add-end Inv-loop μ-loop
@@ -118,8 +118,8 @@ loop-again c =
     let e : l .at + 16 - l .at ≡ 16 = omega arith in
     let v : w .word5 .result ≡ wordAt (part key (l .at) 16) 0 = rw e at (w .word5 .ensures) in
     let u : c .before .word6 .result ≡ wordAt (part key (l .at) 16) 8 = rw e at (c .before .word6 .ensures) in
-    let a = c .before .before .further .ensures ∙ ap (further (l .a)) v in
-    let b = c .further2 .ensures ∙ ap (further (l .b)) u in
+    let a = c .before .before .further .ensures ∙ ap (laneWith (l .a)) v in
+    let b = c .further2 .ensures ∙ ap (laneWith (l .b)) u in
     (omega arith, l .inv .1 ∙ ap folded (next-step key (l .at) (l .a) (l .b) (omega arith) ∙ sym (λ i. left key (l .at + 16) (a i) (b i))))
 
 joined-requires : tie.Need-joined-requires Inv-loop μ-loop
