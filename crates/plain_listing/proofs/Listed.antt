@@ -44,7 +44,8 @@ module _ (clock : ℕ) (start : Key) (r : List ℕ) where
     pub listed-dead : (kind expiry : ℕ) → kind ≡ num r 0 2 → expiry ≡ num r 12 4 → alive (eqb kind 2) expiry clock ≡ false → isListed clock start (rowOf r) ≡ false
     listed-dead kind expiry k x e = rw (row-used r u, row-alive kind expiry k x, e)
 
-    pub listed-live : (kind expiry : ℕ) → kind ≡ num r 0 2 → expiry ≡ num r 12 4 → alive (eqb kind 2) expiry clock ≡ true → isListed clock start (rowOf r) ≡ not (keyBelow (part r 32 (num r 2 2)) start)
+    pub listed-live : (kind expiry : ℕ) → kind ≡ num r 0 2 → expiry ≡ num r 12 4 → alive (eqb kind 2) expiry clock ≡ true
+        → isListed clock start (rowOf r) ≡ not (keyBelow (part r 32 (num r 2 2)) start)
     unfolding keyOf slotOf
     listed-live kind expiry k x e = rw (row-used r u, row-alive kind expiry k x, e)
 
