@@ -10,7 +10,8 @@ use Rattle.octets.proofs.Choices.{cases}
 use Rattle.keys.specs.Keys.{keyBelow}
 use Rattle.keys.proofs.KeyLaws.{irreflexive, transitive, trichotomy}
 use Rattle.document.specs.Documents.{Key}
-use Rattle.listing.specs.Listing.{insertKey, sortKeys, fromKey, NoneBelow, InOrder}
+use Rattle.listing.specs.Listing.{insertKey, sortKeys, fromKey}
+use Rattle.listing.specs.Order.{NoneBelow, InOrder}
 
 -- ---- a key that is not below another is that one or after it
 module _ (a b c : Key) where

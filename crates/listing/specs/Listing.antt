@@ -1,7 +1,6 @@
 -- Order 1, key listing, from the documents alone: "Exactly the live keys at or after the start key, in byte order, each once, stopping at the count or before the first key that would carry the value past 1,278 bytes."
 use Prim.Native.Nat.{ℕ, _+_, _-_}
-use mathlib.Core.Path.{_≡_}
-use mathlib.Core.Bool.{false, cond, _&&_}
+use mathlib.Core.Bool.{cond, _&&_}
 use mathlib.Core.List.{List, [], _∷_, _++_}
 use mathlib.Core.Option.{some}
 use lib.Dec.{leb}
@@ -24,15 +23,6 @@ insertKey k (x ∷ xs) = cond (keyBelow x k) (x ∷ insertKey k xs) (k ∷ (x �
 abbrev pub sortKeys : List Key → List Key
 sortKeys [] = []
 sortKeys (k ∷ ks) = insertKey k (sortKeys ks)
-
--- no key stands before one that comes before it
-abbrev pub NoneBelow : Key → List Key → Type 0
-NoneBelow k [] = Unit {0}
-NoneBelow k (x ∷ xs) = (keyBelow x k ≡ false) × NoneBelow k xs
-
-abbrev pub InOrder : List Key → Type 0
-InOrder [] = Unit {0}
-InOrder (x ∷ xs) = NoneBelow x xs × InOrder xs
 
 -- "at or after the start key": sorted keys from the first one that is not below it
 abbrev pub fromKey : Key → List Key → List Key

@@ -9,7 +9,8 @@ use lib.ListN.{length, take, drop, getD, length-drop, length-map, drop-of-length
 use lib.Seq.{drop-cons, drop-drop, getD-drop}
 use Rattle.keys.specs.Keys.{keyBelow}
 use Rattle.document.specs.Documents.{Key}
-use Rattle.listing.specs.Listing.{insertKey, InOrder}
+use Rattle.listing.specs.Listing.{insertKey}
+use Rattle.listing.specs.Order.{InOrder}
 use Rattle.listing.proofs.Sorting.{insert-first, insert-after}
 use Rattle.plain_listing.specs.Places.{keyAt, keysOf, Within}
 

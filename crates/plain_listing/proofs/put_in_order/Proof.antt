@@ -2,7 +2,7 @@ use Rattle.plain_listing.proofs.Placing.{keys-none, none-within}
 use Rattle.plain_listing.proofs.Listed.{sortedFrom, sorted-none, sorted-more, sorted-all}
 use Rattle.plain_listing.specs.Places.{keysOf, Within, withKey, keysListed}
 use Rattle.listing.proofs.Sorting.{sort-order}
-use Rattle.listing.specs.Listing.{InOrder}
+use Rattle.listing.specs.Order.{InOrder}
 use Rattle.rows.specs.Table.{rowCount, rowAt, rowsOf}
 use Rattle.rows.specs.Row.{rowOf}
 use lib.ListN.{length, drop}
