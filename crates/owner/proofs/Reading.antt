@@ -7,11 +7,13 @@ use mathlib.Core.Option.{Option, none, some}
 use lib.ListN.{length}
 use Rattle.octets.specs.Parts.{Bytes, written}
 use Rattle.octets.specs.BigEndian.{bytesOf}
+use Rattle.numbers.specs.Expiry.{later}
+use Rattle.document.specs.declared.Head.{Head}
 use Rattle.document.specs.Documents.{Key, Doc, docValue}
 use Rattle.document.specs.Stored.{metadataOf, storedOf, live, numbersOf, goneDoc}
 use Rattle.document.specs.declared.Stored.the-variants.{Used}
 use Rattle.rows.specs.Row.{Row}
-use Rattle.rows.specs.Table.{Table, tableOf, tableAt, clockAt, tableBytes}
+use Rattle.rows.specs.Table.{Table, headOf, tableOf, tableAt, clockAt, tableBytes}
 use Rattle.rows.specs.Find.{findRow, valuePlace}
 use Rattle.plain.specs.Damage.{sound}
 use Rattle.plain.specs.Plain.{plain}
@@ -44,6 +46,11 @@ by-doc : (rows : List Row) (clock : ℕ) (key : Key) (o : Option Doc)
 unfolding live
 by-doc rows clock key none = refl
 by-doc rows clock key (some d) = refl
+
+-- the later of the head's clock and the call's
+pub later-at : (b : List ℕ) (clock : ℕ) (h : Head) (now : ℕ) → h ≡ headOf b → now ≡ later (h .clock) clock → now ≡ clockAt (tableOf b) clock
+unfolding tableOf
+later-at b clock h now e n = n ∙ ap (λ (x : Head). later (x .clock) clock) e
 
 module _ (b : List ℕ) (clock : ℕ) where
   module _ (key : Key) where

@@ -135,14 +135,7 @@ fn serve_formed(
 }
 
 // Answers a frame whose status the reader gives: a bare header, and nothing stored but the clock.
-fn refused(
-    b: &mut [u8],
-    head: Head,
-    clock: u32,
-    h: Header,
-    status: u8,
-    out: &mut [u8],
-) -> Served
+fn refused(b: &mut [u8], head: Head, clock: u32, h: Header, status: u8, out: &mut [u8]) -> Served
     ensures { λ r. ⌜ (r ≡ Served.Done status (24 + h .body) 24)
         × ((now (b .exit) ≡ written (now (b .entry)) 4 (bytesOf 4 (later (head .clock) clock)))
         × (now (out .exit) ≡ written (now (out .entry)) 0 (headerBytes (bareHeader (h .opcode) (h .opaque) status)))) ⌝ }
