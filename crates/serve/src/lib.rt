@@ -39,9 +39,9 @@ use serving::Served;
 use shape::Shape;
 use table::Lookup;
 
-// The decision on a request at the head's clock, from what was found for its key. old: the stored value.
-fn decided(head: Head, l: Lookup, old: &[u8], ask: Instruction) -> Decision
-    ensures { λ r. ⌜ r ≡ decision (record { head = head; row = l .stored; free = hasPlace (l .place); clock = head .clock; number = numberOf (now (old .entry)) }) ask ⌝ }
+// The decision on a request, from what was found for its key. old: the stored value.
+fn decided(head: Head, clock: u32, l: Lookup, old: &[u8], ask: Instruction) -> Decision
+    ensures { λ r. ⌜ r ≡ decision (record { head = head; row = l .stored; free = hasPlace (l .place); clock = clock; number = numberOf (now (old .entry)) }) ask ⌝ }
 {
     let row = l.stored;
     let place = l.place;
@@ -52,7 +52,7 @@ fn decided(head: Head, l: Lookup, old: &[u8], ask: Instruction) -> Decision
             head,
             row,
             free,
-            clock: head.clock,
+            clock,
             number,
         },
         ask,
@@ -126,7 +126,7 @@ fn serve_formed(
     let size = ask.size;
     let old = octets::part(b, l.at, l.len);
     let now = document::at_clock(head, clock);
-    let d = decided(now, l, old, ask);
+    let d = decided(now, now.clock, l, old, ask);
     let n = put_answer(b, now.clock, h, d, key, old, out);
     let done = d.done;
     change::change(b, l, key, done, octets::part(value, 0, size));
