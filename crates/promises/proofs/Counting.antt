@@ -1,5 +1,5 @@
 -- A counter for a key without a live document begins at its initial number, and goes on with a live one.
-use Prim.Native.Nat.{ℕ}
+use Prim.Native.Nat.{ℕ, _^_, _<_}
 use mathlib.Core.Path.{_≡_, refl, sym, ap, _∙_}
 use mathlib.Core.Bool.{Bool, true, false, cond}
 use mathlib.Core.List.{List}
@@ -26,33 +26,36 @@ use Rattle.decision.specs.Decision.{decision}
 use Rattle.decision.specs.Decide.{docFrom, bytesFrom}
 use Rattle.decode.specs.Decode.{requestOf}
 use Rattle.engine.specs.Engine.{storeRow}
-use Rattle.rows.specs.Table.{Table, tableOf}
+use Rattle.rows.specs.Table.{Table, tableOf, tableAt, clockAt}
 use Rattle.rows.specs.Find.{findRow}
 use Rattle.plain.specs.Plain.{plain}
 use Rattle.plain.proofs.PlainLaws.{plain-laws}
-use Rattle.plain.proofs.TableLaws.{sound-good, good-sound}
+use Rattle.plain.proofs.TableLaws.{good-sound}
 use Rattle.serving.specs.Serve.{reachesDecision, decisionOn, frameEffect, frameChange, frameTable, gateAll, tableBy, servedTable}
 use Rattle.serving.proofs.Change.{changing, change-good}
 use Rattle.serving.proofs.Formed.{no}
 use Rattle.serving.proofs.Gated.{was-open}
 use Rattle.serving.proofs.Statuses.{statuses-in-order}
 use Rattle.promises.specs.Merge.{docAt}
+use Rattle.promises.specs.Kept.{laterAt}
 use Rattle.promises.specs.Expiry.{opcode, extrasIn, keyIn, initialIn, counterExpiry, NotLive, Live, BeginsAt, Answers, DeadCounts, LiveCounts}
+use Rattle.promises.proofs.Kept.{good-later}
 use Rattle.promises.proofs.Asks.{counts}
-use Rattle.promises.proofs.Liveness.{dead, alive, avoids, answered, was-whole}
+use Rattle.promises.proofs.Liveness.{dead-at, alive-at, avoids, answered, was-whole}
 use Rattle.promises.proofs.Dead.{seen, command, count-needs, without-missing, without-conflict, without-number, not-missing, no-conflict, no-number}
 
 -- what a served frame stores is what its key has then
-pub stored-at : (b : List ℕ) (clock : ℕ) (s : List ℕ) (room : ℕ) (d : Doc) → Bytes b → Bytes s → gateAll b room s ≡ Whole (headerOf s)
-    → frameEffect (tableOf b) clock s (headerOf s) .store ≡ some d → docAt (servedTable b clock s room) (keyIn s) ≡ some d
+pub stored-at : (b : List ℕ) (clock : ℕ) (s : List ℕ) (room : ℕ) (d : Doc) → Bytes b → Bytes s → clock < 2 ^ 32 → gateAll b room s ≡ Whole (headerOf s)
+    → frameEffect (tableAt (tableOf b) clock) (clockAt (tableOf b) clock) s (headerOf s) .store ≡ some d → docAt (servedTable b clock s room) (keyIn s) ≡ some d
 unfolding servedTable frameTable
-stored-at b clock s room d y z o e =
-    let t = tableOf b in
+stored-at b clock s room d y z c o e =
+    let t = tableAt (tableOf b) clock in
+    let now = clockAt (tableOf b) clock in
     let h = headerOf s in
     let w = was-open b s room h o in
-    let g = sound-good b y (w .undamaged) .1 in
-    let after = good-sound (frameChange t clock s h) (change-good t clock s h g z (w .frame .inside)) .1 in
-    let storing = changing t clock s h g z (w .frame .inside) .stores d e in
+    let g = good-later b clock y (w .undamaged) c in
+    let after = good-sound (frameChange t now s h) (change-good t now s h g z (w .frame .inside)) .1 in
+    let storing = changing t now s h g z (w .frame .inside) .stores d e in
     ap (λ (m : List ℕ). docAt m (keyIn s)) (ap (tableBy b clock s) o)
     ∙ ap (λ (x : Table). findRow (x .rows) (keyIn s)) after
     ∙ ap (λ (x : Option Doc). findRow (storeRow plain (t .rows) (keyIn s) x) (keyIn s)) e
@@ -63,20 +66,20 @@ stored-at b clock s room d y z o e =
 module _ (b : List ℕ) (clock : ℕ) (s : List ℕ) (room : ℕ) (d : Doc)
     (does : docFrom (doneOf (seen b clock s) (command b clock s) .store)
     (bytesFrom (doneOf (seen b clock s) (command b clock s) .source) (requestOf s (headerOf s) .value)) ≡ some d) where
-  reached : reachesDecision (frameStatus s (headerOf s)) ≡ true → decisionOn (tableOf b) clock s (headerOf s) .status ≡ 0
-      → frameEffect (tableOf b) clock s (headerOf s) .store ≡ some d
+  reached : reachesDecision (frameStatus s (headerOf s)) ≡ true → decisionOn (tableAt (tableOf b) clock) (clockAt (tableOf b) clock) s (headerOf s) .status ≡ 0
+      → frameEffect (tableAt (tableOf b) clock) (clockAt (tableOf b) clock) s (headerOf s) .store ≡ some d
   unfolding frameEffect decisionOn decision
   reached r e = rw (r, eq-eqb _ 0 (rw r at e)) does
 
-  unreached : reachesDecision (frameStatus s (headerOf s)) ≡ false → decisionOn (tableOf b) clock s (headerOf s) .status ≡ 0 → ⊥
+  unreached : reachesDecision (frameStatus s (headerOf s)) ≡ false → decisionOn (tableAt (tableOf b) clock) (clockAt (tableOf b) clock) s (headerOf s) .status ≡ 0 → ⊥
   unfolding decisionOn
   unreached r e = no (sym r ∙ ap reachesDecision (rw r at e))
 
-  pub done-at : Bytes b → Bytes s → Answers b clock s room 0 → docAt (servedTable b clock s room) (keyIn s) ≡ some d
-  done-at y z (len, e) =
-      let zero = sym (statuses-in-order (tableOf b) clock s (headerOf s)) ∙ answered b clock s room 0 _ len e in
+  pub done-at : Bytes b → Bytes s → clock < 2 ^ 32 → Answers b clock s room 0 → docAt (servedTable b clock s room) (keyIn s) ≡ some d
+  done-at y z c (len, e) =
+      let zero = sym (statuses-in-order (tableAt (tableOf b) clock) (clockAt (tableOf b) clock) s (headerOf s)) ∙ answered b clock s room 0 _ len e in
       let stored = cases (reachesDecision (frameStatus s (headerOf s))) (λ r. reached r zero) (λ r. absurd (unreached r zero)) in
-      stored-at b clock s room d y z (was-whole b clock s room 0 _ len e) stored
+      stored-at b clock s room d y z c (was-whole b clock s room 0 _ len e) stored
 
 module _ (b : List ℕ) (clock : ℕ) (s : List ℕ) (room : ℕ) (up : Bool)
     (asks : command b clock s ≡ Count (record { up = up; delta = num (extrasIn s) 0 8; initial = initialIn s; expiry = counterExpiry s })) where
@@ -91,33 +94,33 @@ module _ (b : List ℕ) (clock : ℕ) (s : List ℕ) (room : ℕ) (up : Bool)
   does = docFrom (doneOf (seen b clock s) (command b clock s) .store)
       (bytesFrom (doneOf (seen b clock s) (command b clock s) .source) (requestOf s (headerOf s) .value))
 
-  begins : NotLive clock (docAt b (keyIn s)) → does ≡ some (counting (initialIn s) 0 (absolute (counterExpiry s) clock))
+  begins : NotLive (laterAt b clock) (docAt b (keyIn s)) → does ≡ some (counting (initialIn s) 0 (absolute (counterExpiry s) (clockAt (tableOf b) clock)))
   unfolding doneOf
-  begins n = rw (asks, dead clock (docAt b (keyIn s)) n)
+  begins n = rw (asks, dead-at b clock (docAt b (keyIn s)) n)
 
-  goes-on : (d : Doc) → docAt b (keyIn s) ≡ some d → Live clock d
+  goes-on : (d : Doc) → docAt b (keyIn s) ≡ some d → Live (laterAt b clock) d
       → does ≡ some (counting (sum (seen b clock s .number) counter) (numbersOf (seen b clock s .row) .flags) (numbersOf (seen b clock s .row) .expiry))
   unfolding doneOf
-  goes-on d at l = let t : live (seen b clock s .row) clock ≡ true = rw at (alive clock d l) in rw (asks, t)
+  goes-on d at l = let t : live (seen b clock s .row) (clockAt (tableOf b) clock) ≡ true = rw at (alive-at b clock d l) in rw (asks, t)
 
-  anew : NotLive clock (docAt b (keyIn s)) → Bytes b → Bytes s → Answers b clock s room 0
+  anew : NotLive (laterAt b clock) (docAt b (keyIn s)) → Bytes b → Bytes s → clock < 2 ^ 32 → Answers b clock s room 0
       → (d : Doc) × ((docAt (servedTable b clock s room) (keyIn s) ≡ some d) × BeginsAt (initialIn s) d)
-  anew n y z a = (_, (done-at b clock s room _ (begins n) y z a, record { document = refl; value = refl; flags = refl }))
+  anew n y z c a = (_, (done-at b clock s room _ (begins n) y z c a, record { document = refl; value = refl; flags = refl }))
 
 pub live-counts : LiveCounts
 unfolding requestOf
-live-counts b clock s room d y z at l e a =
+live-counts b clock s room d y z c at l e a =
     let (up, asks) = counts (seen b clock s) (extrasIn s) (opcode s) e in
-    (_, (done-at b clock s room _ (goes-on b clock s room up asks d at l) y z a, (rw at, rw at)))
+    (_, (done-at b clock s room _ (goes-on b clock s room up asks d at l) y z c a, (rw at, rw at)))
 
 pub dead-counts : DeadCounts
 unfolding requestOf ruleOf
-dead-counts b clock s room y z n e c x =
+dead-counts b clock s room y z small n e c x =
     let (up, asks) = counts (seen b clock s) (extrasIn s) (opcode s) e in
     let needless = count-needs b clock s e ∙ ne-eqb (counterExpiry s) 0xffffffff x in
     record {
       found = avoids b clock s room 0x01 (without-missing b clock s (not-missing b clock s needless c));
       free = avoids b clock s room 0x02 (without-conflict b clock s (no-conflict b clock s n (rw asks) c));
       number = avoids b clock s room 0x06 (without-number b clock s (no-number b clock s n));
-      stored = anew b clock s room up asks n y z;
+      stored = anew b clock s room up asks n y z small;
     }

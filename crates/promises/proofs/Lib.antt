@@ -1,3 +1,4 @@
+pub mod Kept
 pub mod Sound
 pub mod MergingCall
 pub mod Demand3
