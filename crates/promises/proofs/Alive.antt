@@ -16,7 +16,7 @@ use Rattle.document.specs.Stored.{storedOf, live, accepted}
 use Rattle.document.specs.declared.Stored.the-variants.{Nothing}
 use Rattle.header.specs.declared.Header.{Header}
 use Rattle.header.specs.Header.{headerOf}
-use Rattle.shape.specs.Shapes.{among}
+use Rattle.shape.specs.Shapes.{among, shapeOf}
 use Rattle.with_meta.specs.WithMeta.{withMeta}
 use Rattle.request.specs.declared.Gate.{Gate}
 use Rattle.request.specs.declared.Gate.the-variants.{Stop, Whole}
@@ -30,13 +30,14 @@ use Rattle.commands.specs.Rules.{ruleOf, testsOf, guard, firstFailure, statusBy
 use Rattle.effects.specs.declared.Done.{Done}
 use Rattle.effects.specs.Done.{doneOf}
 use Rattle.decision.specs.Decision.{decision}
-use Rattle.decision.specs.Decide.{docFrom, bytesFrom}
-use Rattle.decode.specs.Decode.{metaCommand, requestOf}
+use Rattle.decision.specs.Decide.{instructionOf}
+use Rattle.decode.specs.Decode.{metaCommand, commandOf, requestOf}
 use Rattle.rows.specs.Row.{Row}
+use Rattle.rows.specs.Find.{findRow}
 use Rattle.rows.specs.Table.{Table, tableOf, tableAt, clockAt, tableBytes}
 use Rattle.plain.specs.Damage.{sound}
 use Rattle.owner.specs.Owner.{shown, readOf}
-use Rattle.serving.specs.Serve.{reachesDecision, decisionOn, frameEffect, frameTable, gateAll, answerBy, tableBy, served, servedTable}
+use Rattle.serving.specs.Serve.{reachesDecision, contextOn, decisionOn, frameEffect, frameTable, gateAll, answerBy, tableBy, served, servedTable}
 use Rattle.serving.specs.Statuses.{statuses}
 use Rattle.serving.proofs.Change.{unchanged}
 use Rattle.serving.proofs.Formed.{no, by-cond}
@@ -45,8 +46,9 @@ use Rattle.promises.specs.Merge.{docAt, modeAt}
 use Rattle.promises.specs.Kept.{laterAt, keptBy}
 use Rattle.promises.specs.Expiry.{opcode, headerCas, extrasIn, keyIn, gets, adds, replaces, deletes, keyed, needsLive, toldLive, readLive}
 use Rattle.promises.specs.Expiry.{NotLive, Answers, Reaches, OneLiveness, LiveIsFound, DeadIsCompared, GetKeeps}
+use Rattle.promises.specs.Clock.{reading}
 use Rattle.promises.proofs.Kept.{raised-bytes}
-use Rattle.promises.proofs.Asks.{at-opcode, reads, carries, added}
+use Rattle.promises.proofs.Asks.{Each, at-opcode, ask, reads, carries, added}
 use Rattle.promises.proofs.Liveness.{and-false, or-false, dead-at, alive-at, status, answers, avoids, answered, without}
 use Rattle.promises.proofs.Dead.{seen, command, rule, instruction, tests, sought, unguarded, not-missing, without-missing, without-conflict, is-missing, is-conflict}
 
@@ -170,6 +172,29 @@ module _ (c : Context) where
       by-cond Kept (eqb (statusBy c i (ruleOf c (i .command))) 0) _ _
       (λ t. subst (λ (y : Command). Kept (doneOf c y)) (sym e) k) (λ t. (refl, refl))
 
+-- a frame that asks for one, on any table
+module _ (t : Table) (clock : ℕ) (s : List ℕ) where
+  abbrev sees : Context
+  sees = contextOn t clock (findRow (t .rows) (keyIn s))
+
+  frame-kept : (x : Command) → requestOf s (headerOf s) .command ≡ x → Kept sees (doneOf sees x)
+      → (frameEffect t clock s (headerOf s) .store ≡ none) × (frameEffect t clock s (headerOf s) .head ≡ t .head)
+  unfolding frameEffect decisionOn
+  frame-kept x asks k =
+      let (none-stored, same-head) = kept sees (instructionOf (requestOf s (headerOf s))) x asks k in
+      cases (reachesDecision (frameStatus s (headerOf s))) (λ t. rw t (rw none-stored refl, same-head)) (λ t. rw t (refl, refl))
+
+  -- so do a Get of any form, Noop, Version and Get Keys
+  abbrev Reads : ℕ → Type 0
+  Reads n = Kept sees (doneOf sees (ask sees (extrasIn s) n))
+
+  pub reading-keeps : among (opcode s) reading ≡ true → frameEffect t clock s (headerOf s) .store ≡ none
+  unfolding shapeOf commandOf doneOf requestOf
+  reading-keeps e =
+      let all : Each Reads reading =
+      ((refl, refl), ((refl, refl), ((refl, refl), ((refl, refl), ((refl, refl), ((refl, refl), ((refl, refl), tt))))))) in
+      frame-kept (ask sees (extrasIn s) (opcode s)) refl (at-opcode Reads (opcode s) reading all e) .0
+
 module _ (b : List ℕ) (clock : ℕ) (s : List ℕ) (x : Command) (asks : command b clock s ≡ x) (k : Kept (seen b clock s) (doneOf (seen b clock s) x)) where
   abbrev t : Table
   t = tableAt (tableOf b) clock
@@ -177,18 +202,12 @@ module _ (b : List ℕ) (clock : ℕ) (s : List ℕ) (x : Command) (asks : comma
   abbrev now : ℕ
   now = clockAt (tableOf b) clock
 
-  pub frame-kept : (frameEffect t now s (headerOf s) .store ≡ none) × (frameEffect t now s (headerOf s) .head ≡ t .head)
-  unfolding frameEffect decisionOn
-  frame-kept =
-      let (none-stored, same-head) = kept (seen b clock s) (instruction b clock s) x asks k in
-      cases (reachesDecision (frameStatus s (headerOf s))) (λ t. rw t (rw none-stored refl, same-head)) (λ t. rw t (refl, refl))
-
   kept-by : (room : ℕ) → Bytes b → (g : Gate) → gateAll b room s ≡ g → tableBy b clock s g ≡ keptBy (answerBy b clock s g) b clock
   unfolding frameTable
   kept-by room y (Stop n need) o = refl
   kept-by room y (Whole h) o =
       let w = was-open b s room h o in
-      let same = frame-kept in
+      let same = frame-kept t now s x asks k in
       ap (λ (x : Header). frameTable b clock s x) (sym (w .frame .header))
       ∙ ap tableBytes (unchanged t now s (headerOf s) (same .0) (same .1)) ∙ raised-bytes b clock y (w .undamaged)
 

@@ -8,6 +8,8 @@ pub mod Liveness
 pub mod Dead
 pub mod Counting
 pub mod Alive
+pub mod Steps
+pub mod Clock
 pub mod Alike
 pub mod Buried
 pub mod Judged
