@@ -40,7 +40,8 @@ use Rattle.plain.proofs.TableLaws.{sound-good, good-sound}
 use Rattle.serving.specs.declared.Served.{Served}
 use Rattle.serving.specs.declared.Served.the-variants.{Done}
 use Rattle.serving.specs.Reply.{replyShows, replyBytes}
-use Rattle.serving.specs.Serve.{reachesDecision, decisionOn, frameEffect, effectAt, tableChanged, frameChange, frameTable, frameReply, gateAll, answerBy, tableBy, replyBy, served, servedTable, servedReply}
+use Rattle.serving.specs.Serve.{reachesDecision, decisionOn, frameEffect, effectAt, tableChanged, frameChange, frameTable, frameReply}
+use Rattle.serving.specs.Serve.{gateAll, answerBy, tableBy, replyBy, served, servedTable, servedReply}
 use Rattle.serving.proofs.Change.{changing, unchanged}
 use Rattle.serving.proofs.Gated.{was-open}
 use Rattle.promises.specs.Merge.{docAt}

@@ -1,4 +1,4 @@
--- One call on a good table's memory: a good table's again, whose kept clock is the later one where the call raises it, and whose documents are as before but for the key that is written and those that are purged.
+-- One call on a good table's memory leaves a good table's: its kept clock is the later one where the call raises it, and but for a key that is written and those purged its documents are as before.
 use Prim.Native.Nat.{ℕ, _+_, _^_, _≤_, _<_, max}
 use mathlib.Core.Path.{_≡_, refl, sym, ap, subst, _∙_}
 use mathlib.Core.Bool.{Bool, false, cond, not, _&&_}
