@@ -46,7 +46,7 @@ use Rattle.promises.specs.Merge.{docAt, modeAt}
 use Rattle.promises.specs.Kept.{laterAt, keptBy}
 use Rattle.promises.specs.Expiry.{opcode, headerCas, extrasIn, keyIn, gets, adds, replaces, deletes, keyed, needsLive, toldLive, readLive}
 use Rattle.promises.specs.Expiry.{NotLive, Answers, Reaches, OneLiveness, LiveIsFound, DeadIsCompared, GetKeeps}
-use Rattle.promises.specs.Clock.{reading}
+use Rattle.promises.specs.Clock.{readOnly}
 use Rattle.promises.proofs.Kept.{raised-bytes}
 use Rattle.promises.proofs.Asks.{Each, at-opcode, ask, reads, carries, added}
 use Rattle.promises.proofs.Liveness.{and-false, or-false, dead-at, alive-at, status, answers, avoids, answered, without}
@@ -188,12 +188,12 @@ module _ (t : Table) (clock : ℕ) (s : List ℕ) where
   abbrev Reads : ℕ → Type 0
   Reads n = Kept sees (doneOf sees (ask sees (extrasIn s) n))
 
-  pub reading-keeps : among (opcode s) reading ≡ true → frameEffect t clock s (headerOf s) .store ≡ none
+  pub read-only-keeps : among (opcode s) readOnly ≡ true → frameEffect t clock s (headerOf s) .store ≡ none
   unfolding shapeOf commandOf doneOf requestOf
-  reading-keeps e =
-      let all : Each Reads reading =
+  read-only-keeps e =
+      let all : Each Reads readOnly =
       ((refl, refl), ((refl, refl), ((refl, refl), ((refl, refl), ((refl, refl), ((refl, refl), ((refl, refl), tt))))))) in
-      frame-kept (ask sees (extrasIn s) (opcode s)) refl (at-opcode Reads (opcode s) reading all e) .0
+      frame-kept (ask sees (extrasIn s) (opcode s)) refl (at-opcode Reads (opcode s) readOnly all e) .0
 
 module _ (b : List ℕ) (clock : ℕ) (s : List ℕ) (x : Command) (asks : command b clock s ≡ x) (k : Kept (seen b clock s) (doneOf (seen b clock s) x)) where
   abbrev t : Table

@@ -11,7 +11,7 @@ use Rattle.octets.specs.Parts.{pasted, written}
 use Rattle.octets.specs.BigEndian.{beFrom, be, bytesOf}
 use Rattle.octets.specs.Compare.{zeros, same}
 use Rattle.octets.proofs.Choices.{cases}
-use Rattle.numbers.specs.Expiry.{expired}
+use Rattle.numbers.specs.Expiry.{expired, passes, absolute}
 use Rattle.document.specs.Documents.{Key, Doc}
 use Rattle.document.specs.Stored.{storedOf, live, gone, goneDoc}
 use Rattle.shape.specs.Shapes.{commands, unbuilt, lookUp, among, shapeOf}
@@ -37,8 +37,8 @@ use Rattle.serving.proofs.Formed.{no}
 use Rattle.promises.specs.Merge.{docAt}
 use Rattle.promises.specs.Kept.{keptAt, laterAt}
 use Rattle.promises.specs.Expiry.{Expired, NotLive}
-use Rattle.promises.specs.Clock.{TableCall, Serve, Purge, Read, clockOf, tableCalled, tableAfter, raises, AllGiven, clockAfter, writesKey, Unwritten}
-use Rattle.promises.specs.Clock.{KeepsLatest, ExpiredForGood, StaysExpired, ReadsAlone}
+use Rattle.promises.specs.Clock.{TableCall, Serve, Purge, Read, clockOf, tableCalled, memoryAfter, raises, AllGiven, clockAfter, writesKey, Unwritten}
+use Rattle.promises.specs.Clock.{KeepsLatest, ExpiredForGood, StaysExpired, ReadsAlone, SumsLater}
 use Rattle.promises.proofs.Kept.{kept-clock, kept-good}
 use Rattle.promises.proofs.Liveness.{dead-at}
 use Rattle.promises.proofs.Dead.{dead-is-missing}
@@ -58,21 +58,21 @@ module _ (b : List ℕ) (damaged : sound b ≡ false) where
   raises-none (Purge clock bound) = rw damaged
   raises-none (Read clock k) = refl
 
-  keeps-damaged : (xs : List TableCall) → keptAt (tableAfter b xs) ≡ clockAfter (keptAt b) b xs
+  keeps-damaged : (xs : List TableCall) → keptAt (memoryAfter b xs) ≡ clockAfter (keptAt b) b xs
   keeps-damaged [] = refl
   keeps-damaged (x ∷ xs) =
-      ap (λ (m : List ℕ). keptAt (tableAfter m xs)) (stays x) ∙ keeps-damaged xs
+      ap (λ (m : List ℕ). keptAt (memoryAfter m xs)) (stays x) ∙ keeps-damaged xs
       ∙ (λ i. clockAfter (cond (sym (raises-none x) i) (max (keptAt b) (clockOf x)) (keptAt b)) (sym (stays x) i) xs)
 
 -- ---- a good table
-keeps-good : (t : Table) (xs : List TableCall) → Good t → AllGiven xs → keptAt (tableAfter (tableBytes t) xs) ≡ clockAfter (keptAt (tableBytes t)) (tableBytes t) xs
+keeps-good : (t : Table) (xs : List TableCall) → Good t → AllGiven xs → keptAt (memoryAfter (tableBytes t) xs) ≡ clockAfter (keptAt (tableBytes t)) (tableBytes t) xs
 keeps-good t [] g p = refl
 keeps-good t (x ∷ xs) g p =
     let next = step t g x (p .0) in
     let clock : keptAt (tableBytes (next .table)) ≡ cond (raises (tableBytes t) x) (max (keptAt (tableBytes t)) (clockOf x)) (keptAt (tableBytes t)) =
     kept-good (next .table) (next .good) ∙ next .kept
     ∙ ap (λ (n : ℕ). cond (raises (tableBytes t) x) (max n (clockOf x)) n) (sym (kept-good t g)) in
-    ap (λ (m : List ℕ). keptAt (tableAfter m xs)) (next .bytes) ∙ keeps-good (next .table) xs (next .good) (p .1)
+    ap (λ (m : List ℕ). keptAt (memoryAfter m xs)) (next .bytes) ∙ keeps-good (next .table) xs (next .good) (p .1)
     ∙ (λ i. clockAfter (clock i) (sym (next .bytes) i) xs)
 
 pub keeps-latest : KeepsLatest
@@ -80,7 +80,7 @@ keeps-latest b xs y p =
     cases (sound b)
     (λ e.
     let (back, good) = sound-good b y e in
-    subst (λ (m : List ℕ). keptAt (tableAfter m xs) ≡ clockAfter (keptAt m) m xs) back (keeps-good (tableOf b) xs good p))
+    subst (λ (m : List ℕ). keptAt (memoryAfter m xs) ≡ clockAfter (keptAt m) m xs) back (keeps-good (tableOf b) xs good p))
     (λ e. keeps-damaged b e xs)
 
 -- ---- an expired document
@@ -109,7 +109,7 @@ module _ (k : Key) (d : Doc) where
   next t x s f l e = record { good = s .good; left = left-again d _ _ l (s .docs k f); expired = e }
 
   stays-over : (t : Table) (xs : List TableCall) → Over t k d → AllGiven xs → Unwritten (tableBytes t) xs k
-      → (u : Table) × ((tableAfter (tableBytes t) xs ≡ tableBytes u) × Over u k d)
+      → (u : Table) × ((memoryAfter (tableBytes t) xs ≡ tableBytes u) × Over u k d)
   stays-over t [] o p w = (t, (refl, o))
   stays-over t (x ∷ xs) o p w =
       let s = step t (o .good) x (p .0) in
@@ -117,7 +117,7 @@ module _ (k : Key) (d : Doc) where
       let past = expired-later (t .head .clock) (s .table .head .clock) d (rw (s .kept) clock) (o .expired) in
       let rest = subst (λ (m : List ℕ). Unwritten m xs k) (s .bytes) (w .1) in
       let (u, (e, v)) = stays-over (s .table) xs (next t x s (w .0) (o .left) past) (p .1) rest in
-      (u, (ap (λ (m : List ℕ). tableAfter m xs) (s .bytes) ∙ e, v))
+      (u, (ap (λ (m : List ℕ). memoryAfter m xs) (s .bytes) ∙ e, v))
 
 -- what that says of the memory
 module _ (t : Table) (k : Key) (d : Doc) (o : Over t k d) where
@@ -187,8 +187,8 @@ stays-expired b x xs k d p e w =
     let first = next k d t x s (written .0) (inl (e .there)) (subst (λ (n : ℕ). Expired n d) (sym clock) (e .expired)) in
     let rest = subst (λ (m : List ℕ). Unwritten m xs k) (s .bytes) (written .1) in
     let (u, (after, over)) = stays-over k d (s .table) xs first (p .1) rest in
-    let all : tableAfter b (x ∷ xs) ≡ tableBytes u =
-    ap (λ (m : List ℕ). tableAfter m (x ∷ xs)) (sym back) ∙ ap (λ (m : List ℕ). tableAfter m xs) (s .bytes) ∙ after in
+    let all : memoryAfter b (x ∷ xs) ≡ tableBytes u =
+    ap (λ (m : List ℕ). memoryAfter m (x ∷ xs)) (sym back) ∙ ap (λ (m : List ℕ). memoryAfter m xs) (s .bytes) ∙ after in
     subst (λ (m : List ℕ). ExpiredForGood m k d) (sym all) (for-good u k d over)
 
 -- ---- reads alone, computed
@@ -198,3 +198,11 @@ unfolding pasted written beFrom be bytesOf zeros same expired live gone goneDoc 
     slotOf sizeBytes shortBytes longBytes slotBytes docOf keyOf rowOf slotFor usedBytes rowBytes headOf tableOf headBytes tableBytes sizeOk headOk
     usedOk rowSound sound readOf purgedBytes gateAll decisionOn frameEffect frameTable servedTable
 reads-alone = record { missed = refl; shown-again = refl; after-frame = refl; after-purge = refl }
+
+-- ---- the plain expiry sum, computed
+pub sums-later : SumsLater
+unfolding pasted written beFrom be bytesOf zeros same expired live gone goneDoc commands unbuilt lookUp among shapeOf headerOf formOk fieldRulesOk metaSize
+    judged status gateOf extrasSpan keySpan valueSpan frameStatus ruleOf testsOf firstStatus firstFailure decision doneOf commandOf bareValue requestOf
+    slotOf sizeBytes shortBytes longBytes slotBytes docOf keyOf rowOf slotFor usedBytes rowBytes headOf tableOf headBytes tableBytes sizeOk headOk
+    usedOk rowSound sound gateAll decisionOn frameEffect frameTable served servedTable absolute passes
+sums-later = record { stored = refl; kept = refl; spent = refl; never = refl }

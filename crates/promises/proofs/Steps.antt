@@ -12,7 +12,6 @@ use Rattle.octets.specs.Parts.{Bytes}
 use Rattle.octets.specs.Compare.{same}
 use Rattle.octets.proofs.Choices.{cases}
 use Rattle.octets.proofs.Options.{options, none-some}
-use Rattle.document.specs.declared.Head.{Head}
 use Rattle.document.specs.Documents.{Key, Doc}
 use Rattle.document.specs.Stored.{goneDoc}
 use Rattle.shape.specs.Shapes.{among}
@@ -37,10 +36,11 @@ use Rattle.serving.specs.Serve.{servedOutcome, servedStatus, gateAll, frameEffe
 use Rattle.serving.proofs.Formed.{no, by-cond}
 use Rattle.serving.proofs.Gated.{was-open}
 use Rattle.serving.proofs.Change.{changing, change-good}
+use Rattle.serving.proofs.Clock.{clock-stays}
 use Rattle.promises.specs.Expiry.{opcode, keyIn}
-use Rattle.promises.specs.Clock.{TableCall, Serve, Purge, Read, clockOf, tableCalled, raises, Given, reading, writesKey}
+use Rattle.promises.specs.Clock.{TableCall, Serve, Purge, Read, clockOf, tableCalled, raises, Given, readOnly, writesKey}
 use Rattle.promises.proofs.Keeps.{nothing-stored}
-use Rattle.promises.proofs.Alive.{reading-keeps}
+use Rattle.promises.proofs.Alive.{read-only-keeps}
 
 -- what is left of a key's document: all of it, or nothing
 abbrev pub Left : Option Doc → Option Doc → Type 0
@@ -100,28 +100,24 @@ module _ (t : Table) (g : Good t) where
     abbrev writesBy : Gate → Key → Bool
     writesBy gate k =
         eqb (servedOutcome (answerBy b clock s gate)) 0
-        && (eqb (servedStatus (answerBy b clock s gate)) 0 && (not (among (opcode s) reading) && same (keyIn s) k))
+        && (eqb (servedStatus (answerBy b clock s gate)) 0 && (not (among (opcode s) readOnly) && same (keyIn s) k))
 
     abbrev By : Gate → Type 0
     By gate = Stepped t (tableBy b clock s gate) (eqb (servedOutcome (answerBy b clock s gate)) 0) clock (writesBy gate)
 
     -- what is stored is for a key that is written
-    apart : (d : Doc) (k : Key) → effect .store ≡ some d → (eqb (effect .status) 0 && (not (among (opcode s) reading) && same (keyIn s) k)) ≡ false
+    apart : (d : Doc) (k : Key) → effect .store ≡ some d → (eqb (effect .status) 0 && (not (among (opcode s) readOnly) && same (keyIn s) k)) ≡ false
         → same (keyIn s) k ≡ false
     apart d k e f =
         cases (eqb (effect .status) 0)
-        (λ y. cases (among (opcode s) reading) (λ r. none-some d (sym (reading-keeps u now s r) ∙ e)) (λ r. rw (y, r) at f))
+        (λ y. cases (among (opcode s) readOnly) (λ r. none-some d (sym (read-only-keeps u now s r) ∙ e)) (λ r. rw (y, r) at f))
         (λ y. none-some d (sym (nothing-stored u now s h (λ q. no (sym y ∙ eq-eqb (effect .status) 0 q)) .0) ∙ e))
 
     module _ (inside : 24 + h .body ≤ length s) where
       clock-kept : effect .head .clock ≡ max (t .head .clock) clock
-      clock-kept =
-          let change = changing u now s h good-now z inside in
-          options (effect .store)
-          (λ e. ap (λ (x : Head). x .clock) (change .keeps e))
-          (λ d e. ap (λ (x : Head). x .clock) (change .stores d e .head))
+      clock-kept = clock-stays u now s h good-now z inside
 
-      unwritten : (k : Key) → (eqb (effect .status) 0 && (not (among (opcode s) reading) && same (keyIn s) k)) ≡ false
+      unwritten : (k : Key) → (eqb (effect .status) 0 && (not (among (opcode s) readOnly) && same (keyIn s) k)) ≡ false
           → findRow (storeRow plain (t .rows) (keyIn s) (effect .store)) k ≡ findRow (t .rows) k
       unwritten k f =
           let stored : Option Doc → Option Doc = λ o. findRow (storeRow plain (t .rows) (keyIn s) o) k in
@@ -140,7 +136,7 @@ module _ (t : Table) (g : Good t) where
         kept = clock-kept;
         docs = λ k f.
             let status = ap (λ (x : Table). frameEffect (tableAt x clock) (clockAt x clock) s h .status) back in
-            inl (unwritten k (ap (λ (n : ℕ). eqb n 0 && (not (among (opcode s) reading) && same (keyIn s) k)) (sym status) ∙ f));
+            inl (unwritten k (ap (λ (n : ℕ). eqb n 0 && (not (among (opcode s) readOnly) && same (keyIn s) k)) (sym status) ∙ f));
       }
 
     by-gate : (room : ℕ) (gate : Gate) → gateAll b room s ≡ gate → By gate

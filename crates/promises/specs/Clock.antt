@@ -45,9 +45,9 @@ tableCalled b (Serve c) = tableServed b c
 tableCalled b (Purge clock bound) = purgedBytes b clock bound
 tableCalled b (Read clock k) = b
 
-abbrev pub tableAfter : List ℕ → List TableCall → List ℕ
-tableAfter b [] = b
-tableAfter b (x ∷ xs) = tableAfter (tableCalled b x) xs
+abbrev pub memoryAfter : List ℕ → List TableCall → List ℕ
+memoryAfter b [] = b
+memoryAfter b (x ∷ xs) = memoryAfter (tableCalled b x) xs
 
 -- the calls that "raise it": "A purge, and serving a frame with any status"; "outcomes 1 to 5 and document reads don't"
 abbrev pub raises : List ℕ → TableCall → Bool
@@ -73,17 +73,17 @@ clockAfter n b (x ∷ xs) = clockAfter (cond (raises b x) (max n (clockOf x)) n)
 
 -- "Nothing lowers it", and nothing else raises it: on any memory
 abbrev pub KeepsLatest : Type 0
-KeepsLatest = (b : List ℕ) (xs : List TableCall) → Bytes b → AllGiven xs → keptAt (tableAfter b xs) ≡ clockAfter (keptAt b) b xs
+KeepsLatest = (b : List ℕ) (xs : List TableCall) → Bytes b → AllGiven xs → keptAt (memoryAfter b xs) ≡ clockAfter (keptAt b) b xs
 
 -- ---- an expired document stays expired
 -- the opcodes that store nothing: any Get, Noop, Version, Get Keys
-abbrev pub reading : List ℕ
-reading = gets ++ (0x0a ∷ 0x0b ∷ 0xb8 ∷ [])
+abbrev pub readOnly : List ℕ
+readOnly = gets ++ (0x0a ∷ 0x0b ∷ 0xb8 ∷ [])
 
 -- the key is written: a frame for it that isn't one of those is served with status 0
 abbrev pub writesKey : List ℕ → TableCall → Key → Bool
 writesKey b (Serve c) k =
-    eqb (servedOutcome (servedBy b c)) 0 && (eqb (servedStatus (servedBy b c)) 0 && (not (among (opcode (c .received)) reading) && same (keyIn (c .received)) k))
+    eqb (servedOutcome (servedBy b c)) 0 && (eqb (servedStatus (servedBy b c)) 0 && (not (among (opcode (c .received)) readOnly) && same (keyIn (c .received)) k))
 writesKey b (Purge clock bound) k = false
 writesKey b (Read clock j) k = false
 
@@ -114,7 +114,7 @@ pub record ExpiredForGood (b : List ℕ) (k : Key) (d : Doc) : Type 0 where
 abbrev pub StaysExpired : Type 0
 StaysExpired =
     (b : List ℕ) (x : TableCall) (xs : List TableCall) (k : Key) (d : Doc) → AllGiven (x ∷ xs) → ExpiredTo b x k d → Unwritten b (x ∷ xs) k
-    → ExpiredForGood (tableAfter b (x ∷ xs)) k d
+    → ExpiredForGood (memoryAfter b (x ∷ xs)) k d
 
 -- ---- "A read raises nothing, so an earlier read by itself promises nothing of a later one"
 abbrev pub key : Key
@@ -138,7 +138,28 @@ noop = 0x80 ∷ 0x0a ∷ replicate 22 0
 pub record ReadsAlone : Type 0 where
   pub missed : readOf shortLived 50 key ≡ Missing
   -- a second earlier it is there again
-  pub shown-again : readOf (tableAfter shortLived (Read 50 key ∷ [])) 49 key ≡ Live numbers 49 1
+  pub shown-again : readOf (memoryAfter shortLived (Read 50 key ∷ [])) 49 key ≡ Live numbers 49 1
   -- but not once a frame was served at 50, be it a Noop, or a purge answered, be it one that frees no row
-  pub after-frame : readOf (tableAfter shortLived (Serve (at 50 noop) ∷ [])) 49 key ≡ Missing
-  pub after-purge : readOf (tableAfter shortLived (Purge 50 0 ∷ [])) 49 key ≡ Missing
+  pub after-frame : readOf (memoryAfter shortLived (Serve (at 50 noop) ∷ [])) 49 key ≡ Missing
+  pub after-purge : readOf (memoryAfter shortLived (Purge 50 0 ∷ [])) 49 key ≡ Missing
+
+-- ---- the plain expiry sum: "a Set of 10 s given clock 50 on a table that kept 110 stores 120"
+-- a table of one free row that keeps a clock
+abbrev keeping : ℕ → List ℕ
+keeping kept = tableBytes (record { head = record { state = 1; mode = 1; vbucket = 0; clock = kept; mark = record { 0 = 0 } }; rows = none ∷ [] })
+
+-- a Set of that contact, with an expiry under 256
+abbrev setFor : ℕ → List ℕ
+setFor expiry =
+    0x80 ∷ 0x01 ∷ 0 ∷ 1 ∷ 8 ∷ 0 ∷ 0 ∷ 0 ∷ 0 ∷ 0 ∷ 0 ∷ 10 ∷ replicate 12 0
+    ++ (0 ∷ 0 ∷ 0 ∷ 0 ∷ 0 ∷ 0 ∷ 0 ∷ expiry ∷ 0x63 ∷ 0x31 ∷ [])
+
+abbrev storedUntil : ℕ → Doc
+storedUntil expiry = record { tomb = false; value = 0x31 ∷ []; numbers = record { flags = 0; expiry = expiry; revision = record { 0 = 1 }; cas = record { 0 = 1 } } }
+
+pub record SumsLater : Type 0 where
+  pub stored : docAt (tableServed (keeping 110) (at 50 (setFor 10))) key ≡ some (storedUntil 120)
+  pub kept : keptAt (tableServed (keeping 110) (at 50 (setFor 10))) ≡ 110
+  -- a clock of 2^32 - 1 given once stays: a second is 0x04 from then on, "never" isn't
+  pub spent : servedStatus (servedBy (keeping 0xffffffff) (at 50 (setFor 1))) ≡ 0x04
+  pub never : servedStatus (servedBy (keeping 0xffffffff) (at 50 (setFor 0))) ≡ 0

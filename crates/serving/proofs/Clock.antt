@@ -16,7 +16,7 @@ use Rattle.serving.specs.Clock.{FrameRaises}
 use Rattle.serving.proofs.Change.{changing, change-good}
 
 -- a frame leaves the clock of the table that it is served on
-clock-stays : (t : Table) (clock : ℕ) (s : List ℕ) (h : Header) → Good t → Bytes s → 24 + h .body ≤ length s → frameEffect t clock s h .head .clock ≡ t .head .clock
+pub clock-stays : (t : Table) (clock : ℕ) (s : List ℕ) (h : Header) → Good t → Bytes s → 24 + h .body ≤ length s → frameEffect t clock s h .head .clock ≡ t .head .clock
 clock-stays t clock s h g z w =
     let c = changing t clock s h g z w in
     options (frameEffect t clock s h .store) (λ e. ap (λ (x : Head). x .clock) (c .keeps e)) (λ d e. ap (λ (x : Head). x .clock) (c .stores d e .head))

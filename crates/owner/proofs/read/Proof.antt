@@ -36,7 +36,8 @@ returns-2 c =
     let a = (at8 .before .args) in
     let y : Bytes (a .s .now) = λ k. at8 .shared-slice-known .given k .fits in
     let whole = checked-sound _ _ (sym (at6 .checked .ensures) ∙ at4 .head .given .1) in
-    read-found (a .s .now) (a .clock) (a .key .now) _ _ _ y (whole .0) (later-at (a .s .now) (a .clock) _ _ (whole .1) (c .before .later .ensures)) (c .before .before .find .ensures) (c .shown .ensures)
+    read-found (a .s .now) (a .clock) (a .key .now) _ _ _ y (whole .0) (later-at (a .s .now) (a .clock) _ _ (whole .1) (c .before .later .ensures))
+    (c .before .before .find .ensures) (c .shown .ensures)
 
 pub read-spec : {M : Type 1} → statement M
 read-spec =

@@ -62,7 +62,8 @@ returns c =
     let z : Bytes s = λ i. l .before .before .before .before .before .before .shared-slice-known .given i .fits in
     formed-by b s (r .args .clock) (r .args .h) y z (r .fits .clock .fits) (r .pre .0 .0) (p .1 .1 .1 .1) (p .0) _ _ _ _ _ _ _ (p .1 .1 .0)
     (l .before .writes .ensures) (l .find .ensures) (a .before .before .before .before .part .ensures)
-    (a .before .before .before .at-clock .ensures ∙ ap (λ (x : Head). atClock x (r .args .clock)) (r .pre .0 .1 .0)) (p .1 .0) (a .before .before .decided .ensures) _ _ _ _ _ _ (c .before .before .before .before .part2 .ensures ∙ p .1 .1 .1 .0)
+    (a .before .before .before .at-clock .ensures ∙ ap (λ (x : Head). atClock x (r .args .clock)) (r .pre .0 .1 .0)) (p .1 .0)
+    (a .before .before .decided .ensures) _ _ _ _ _ _ (c .before .before .before .before .part2 .ensures ∙ p .1 .1 .1 .0)
     (a .put-answer .ensures)
     (λ i. Done (a .before .before .decided .result .status) (c .layout-of .ensures i .end) (a .put-answer .result))
     (c .before .before .before .change .ensures)

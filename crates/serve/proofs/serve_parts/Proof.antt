@@ -121,7 +121,8 @@ returns c =
     let decoded = c .before .before .before .before .before .before .before .before .before .decoded-by .ensures in
     let e = broken-status s h whole form _ _ _ _ (p .pre .1 .0) extras value decoded (c .before .before .before .before .before .before .before .enum-told .given .1) in
     let r = c .before .before .before .before .refused .ensures in
-    let y : Bytes (now (p .args .b)) = λ i. c .before .before .before .before .before .before .before .before .before .before .before .before .before .before .before .before .slice-known .given i .fits in
+    let at8 = c .before .before .before .before .before .before .before .before in
+    let y : Bytes (now (p .args .b)) = λ i. at8 .before .before .before .before .before .before .before .before .slice-known .given i .fits in
     refused-by (now (p .args .b)) s (p .args .clock) h (ap reachesDecision (sym e)) 0x04 (p .args .head) _ _ _ _ y (p .pre .0 .0) e (p .pre .0 .1 .0) (r .0) (r .1 .0) (r .1 .1)
 
 same-length-3 : tie.Need-same-length-3
