@@ -309,8 +309,8 @@ contacts_purged contacts_purge(uint8_t *table, size_t table_len, uint32_t clock,
  *   0x82         the key has no row and no row is free
  *   0x00         otherwise
  *
- * A status that isn't 0 changes no byte of the table but the kept clock's, nor do Get, Noop, Version and Get Keys with
- * any status. Its reply, if any, is a header with CAS 0. With status 0
+ * A status that isn't 0 changes no byte of the table but the kept clock's, and its reply, if any, is a header with CAS 0.
+ * Get, Noop, Version and Get Keys change no other byte either. With status 0
  *
  *   Get        replies the flags as 4 extras, for GetK the key, the value and the CAS
  *   Set        stores value, flags and expiry, as Add and Replace do
