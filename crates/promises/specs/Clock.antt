@@ -143,7 +143,7 @@ pub record ReadsAlone : Type 0 where
   pub after-frame : readOf (memoryAfter shortLived (Serve (at 50 noop) ∷ [])) 49 key ≡ Missing
   pub after-purge : readOf (memoryAfter shortLived (Purge 50 0 ∷ [])) 49 key ≡ Missing
 
--- ---- the plain expiry sum: "a Set of 10 s given clock 50 on a table that kept 110 stores 120"
+-- ---- the plain expiry sum: "A Set of 10 s given clock 50 on a table that kept 110 stores 120."
 -- a table of one free row that keeps a clock
 abbrev keeping : ℕ → List ℕ
 keeping kept = tableBytes (record { head = record { state = 1; mode = 1; vbucket = 0; clock = kept; mark = record { 0 = 0 } }; rows = none ∷ [] })
