@@ -1,26 +1,27 @@
--- A counter for a key without a live document begins at its initial number, and goes on with a live one.
-use Prim.Native.Nat.{ℕ, _^_, _<_}
-use mathlib.Core.Path.{_≡_, refl, sym, ap, _∙_}
+-- A counter for a key without a live document begins at its initial number, and goes on with a live one; what a plain write stores expires by the plain rule.
+use Prim.Native.Nat.{ℕ, _+_, _^_, _≤_, _<_}
+use mathlib.Core.Path.{_≡_, refl, sym, ap, subst, _∙_}
 use mathlib.Core.Bool.{Bool, true, false, cond}
 use mathlib.Core.List.{List}
 use mathlib.Core.Option.{Option, none, some}
 use native.Mathlib.Omega.{arith}
 use lib.Dec.{eqb}
-use borrow.Author.Tests.{eq-eqb, ne-eqb}
+use borrow.Author.Tests.{eq-eqb, ne-eqb, le-leb, ltb-false, le-ltb, lt-ltb}
 use Rattle.octets.specs.Parts.{Bytes}
 use Rattle.octets.specs.BigEndian.{num}
 use Rattle.octets.proofs.Choices.{cases}
 use Rattle.octets.proofs.Tests.{same-refl}
 use Rattle.digits.specs.Decimal.{digits}
-use Rattle.numbers.specs.Expiry.{absolute}
+use Rattle.numbers.specs.Expiry.{passes, absolute}
 use Rattle.document.specs.Documents.{Doc}
 use Rattle.document.specs.Stored.{live, numbersOf}
 use Rattle.header.specs.Header.{headerOf}
 use Rattle.request.specs.declared.Gate.the-variants.{Whole}
 use Rattle.request.specs.Reading.{frameStatus}
+use Rattle.commands.specs.declared.Kind.{Kind}
 use Rattle.commands.specs.declared.Counter.{Counter}
-use Rattle.commands.specs.declared.Command.the-variants.{Count}
-use Rattle.commands.specs.Rules.{ruleOf}
+use Rattle.commands.specs.declared.Command.the-variants.{Write, Count}
+use Rattle.commands.specs.Rules.{ruleOf, testsOf}
 use Rattle.effects.specs.Done.{doneOf, plainNumbers, sum}
 use Rattle.decision.specs.Decision.{decision}
 use Rattle.decision.specs.Decide.{docFrom, bytesFrom}
@@ -38,11 +39,37 @@ use Rattle.serving.proofs.Gated.{was-open}
 use Rattle.serving.proofs.Statuses.{statuses-in-order}
 use Rattle.promises.specs.Merge.{docAt}
 use Rattle.promises.specs.Kept.{laterAt}
-use Rattle.promises.specs.Expiry.{opcode, extrasIn, keyIn, initialIn, counterExpiry, NotLive, Live, BeginsAt, Answers, DeadCounts, LiveCounts}
-use Rattle.promises.proofs.Kept.{good-later}
-use Rattle.promises.proofs.Asks.{counts}
-use Rattle.promises.proofs.Liveness.{dead-at, alive-at, avoids, answered, was-whole}
-use Rattle.promises.proofs.Dead.{seen, command, count-needs, without-missing, without-conflict, without-number, not-missing, no-conflict, no-number}
+use Rattle.promises.specs.Expiry.{opcode, extrasIn, keyIn, initialIn, counterExpiry, NotLive, Live, PlainExpiry, BeginsAt, Answers, DeadCounts, LiveCounts, writtenExpiry, WritesUntil}
+use Rattle.promises.proofs.Kept.{good-later, later-clock}
+use Rattle.promises.proofs.Asks.{stores, counts}
+use Rattle.promises.proofs.Liveness.{all-pass, dead-at, alive-at, avoids, answered, was-whole}
+use Rattle.promises.proofs.Dead.{seen, command, rule, list, count-needs, without-missing, without-conflict, without-number, not-missing, no-conflict, no-number}
+
+-- ---- the plain rule
+plain-expiry : (given clock : ℕ) → passes given clock ≡ false → PlainExpiry given clock (absolute given clock)
+unfolding passes absolute
+plain-expiry given clock e =
+    record {
+      never = λ z. rw z;
+      added = λ l m.
+          let inside : given + clock ≤ 0xffffffff = ltb-false 0xffffffff (given + clock) (rw (le-leb 1 given l, le-leb given 2592000 m) at e) in
+          let nonzero : given ≡ 0 → ⊥ = λ z. omega arith in
+          (omega arith, rw (ne-eqb given 0 nonzero, le-ltb 2592000 given m) (omega arith));
+      absolute = λ g. let nonzero : given ≡ 0 → ⊥ = λ z. omega arith in rw (ne-eqb given 0 nonzero, lt-ltb 2592000 given g);
+    }
+
+-- at the later of the kept clock and a call's
+until-later : (b : List ℕ) (clock given : ℕ) → passes given (clockAt (tableOf b) clock) ≡ false
+    → PlainExpiry given (laterAt b clock) (absolute given (clockAt (tableOf b) clock))
+until-later b clock given e =
+    subst (λ (c : ℕ). PlainExpiry given c (absolute given (clockAt (tableOf b) clock))) (later-clock b clock) (plain-expiry given (clockAt (tableOf b) clock) e)
+
+-- a frame with status 0 breaks no rule that needs mode or clock
+faultless : (b : List ℕ) (clock : ℕ) (s : List ℕ) (room : ℕ) → Answers b clock s room 0 → rule b clock s .fault ≡ false
+unfolding testsOf
+faultless b clock s room (len, e) =
+    let p = all-pass (list b clock s) (refl, (refl, (refl, (refl, (refl, (refl, (refl, (refl, (refl, (refl, (refl, (refl, tt)))))))))))) (answered b clock s room 0 _ len e) in
+    p .1 .1 .1 .1 .0
 
 -- what a served frame stores is what its key has then
 pub stored-at : (b : List ℕ) (clock : ℕ) (s : List ℕ) (room : ℕ) (d : Doc) → Bytes b → Bytes s → clock < 2 ^ 32 → gateAll b room s ≡ Whole (headerOf s)
@@ -104,8 +131,9 @@ module _ (b : List ℕ) (clock : ℕ) (s : List ℕ) (room : ℕ) (up : Bool)
   goes-on d at l = let t : live (seen b clock s .row) (clockAt (tableOf b) clock) ≡ true = rw at (alive-at b clock d l) in rw (asks, t)
 
   anew : NotLive (laterAt b clock) (docAt b (keyIn s)) → Bytes b → Bytes s → clock < 2 ^ 32 → Answers b clock s room 0
-      → (d : Doc) × ((docAt (servedTable b clock s room) (keyIn s) ≡ some d) × BeginsAt (initialIn s) d)
-  anew n y z c a = (_, (done-at b clock s room _ (begins n) y z c a, record { document = refl; value = refl; flags = refl }))
+      → (d : Doc) × ((docAt (servedTable b clock s room) (keyIn s) ≡ some d) × BeginsAt (initialIn s) (counterExpiry s) (laterAt b clock) d)
+  unfolding ruleOf
+  anew n y z c a = (_, (done-at b clock s room _ (begins n) y z c a, record { document = refl; value = refl; flags = refl; expiry = until-later b clock (counterExpiry s) (rw asks at (faultless b clock s room a)) }))
 
 pub live-counts : LiveCounts
 unfolding requestOf
@@ -124,3 +152,28 @@ dead-counts b clock s room y z small n e c x =
       number = avoids b clock s room 0x06 (without-number b clock s (no-number b clock s n));
       stored = anew b clock s room up asks n y z small;
     }
+
+-- ---- a Set, an Add or a Replace
+module _ (b : List ℕ) (clock : ℕ) (s : List ℕ) (room : ℕ) (kind : Kind)
+    (asks : command b clock s ≡ Write (record { kind = kind; flags = num (extrasIn s) 0 4; expiry = writtenExpiry s })) where
+  abbrev document : Doc
+  document = record {
+    tomb = false;
+    value = requestOf s (headerOf s) .value;
+    numbers = plainNumbers (seen b clock s) (num (extrasIn s) 0 4) (absolute (writtenExpiry s) (clockAt (tableOf b) clock));
+  }
+
+  writes : docFrom (doneOf (seen b clock s) (command b clock s) .store)
+      (bytesFrom (doneOf (seen b clock s) (command b clock s) .source) (requestOf s (headerOf s) .value)) ≡ some document
+  unfolding doneOf
+  writes = rw asks
+
+  until : Answers b clock s room 0 → PlainExpiry (writtenExpiry s) (laterAt b clock) (document .numbers .expiry)
+  unfolding ruleOf
+  until a = until-later b clock (writtenExpiry s) (rw asks at (faultless b clock s room a))
+
+pub writes-until : WritesUntil
+unfolding requestOf
+writes-until b clock s room y z small e a =
+    let (kind, asks) = stores (seen b clock s) (extrasIn s) (opcode s) e in
+    (_, (done-at b clock s room _ (writes b clock s room kind asks) y z small a, until b clock s room kind asks a))

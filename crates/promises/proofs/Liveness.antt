@@ -102,6 +102,19 @@ without n (c ∷ cs) p e =
     (λ t. let z : c .status ≡ n = rw t at e in no (sym (p .0) ∙ rw (eq-eqb (c .status) n z, t)))
     (λ t. without n cs (p .1) (rw t at e))
 
+-- where the status is 0 each of them passes
+abbrev pub Refusing : List Check → Type 0
+Refusing [] = Unit {0}
+Refusing (c ∷ cs) = (eqb (c .status) 0 ≡ false) × Refusing cs
+
+pub all-pass : (l : List Check) → Refusing l → firstFailure l ≡ 0 → Passes l
+unfolding firstFailure
+all-pass [] r e = tt
+all-pass (c ∷ cs) r e =
+    cases (c .fails)
+    (λ t. let z : c .status ≡ 0 = rw t at e in no (sym (r .0) ∙ eq-eqb (c .status) 0 z))
+    (λ t. (t, all-pass cs (r .1) (rw t at e)))
+
 -- ---- a frame that is served
 module _ (b : List ℕ) (clock : ℕ) (s : List ℕ) (room : ℕ) where
   -- the table at the call's clock, and the later clock

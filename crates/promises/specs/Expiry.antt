@@ -132,23 +132,41 @@ DeadIsWritten =
     (b : List ℕ) (clock : ℕ) (s : List ℕ) (room : ℕ) → NotLive (laterAt b clock) (docAt b (keyIn s)) → among (opcode s) (sets ++ adds) ≡ true → headerCas s ≡ 0
     → Avoids b clock s room 0x01 × Avoids b clock s room 0x02
 
--- a document that begins a count
-pub record BeginsAt (initial : ℕ) (d : Doc) : Type 0 where
+-- "Plain expiry: 0 never; 1 to 2,592,000 is added to the clock, 0x04 if that passes 2^32 - 1; above, absolute.": what is stored for an expiry that is given
+pub record PlainExpiry (given clock stored : ℕ) : Type 0 where
+  pub never : given ≡ 0 → stored ≡ 0
+  pub added : 1 ≤ given → given ≤ 2592000 → (given + clock < 2 ^ 32) × (stored ≡ given + clock)
+  pub absolute : 2592000 < given → stored ≡ given
+
+-- a document that begins a count: "the initial number is stored, flags 0, expiry by the plain rule"
+pub record BeginsAt (initial given clock : ℕ) (d : Doc) : Type 0 where
   pub document : d .tomb ≡ false
   pub value : d .value ≡ digits initial
   pub flags : d .numbers .flags ≡ 0
+  pub expiry : PlainExpiry given clock (d .numbers .expiry)
 
 -- a counter without a header CAS begins at its initial number, and isn't refused with 0x01, 0x02 or 0x06
 pub record CountsAnew (b : List ℕ) (clock : ℕ) (s : List ℕ) (room : ℕ) : Type 0 where
   pub found : Avoids b clock s room 0x01
   pub free : Avoids b clock s room 0x02
   pub number : Avoids b clock s room 0x06
-  pub stored : Answers b clock s room 0 → (d : Doc) × ((docAt (servedTable b clock s room) (keyIn s) ≡ some d) × BeginsAt (initialIn s) d)
+  pub stored : Answers b clock s room 0 → (d : Doc) × ((docAt (servedTable b clock s room) (keyIn s) ≡ some d) × BeginsAt (initialIn s) (counterExpiry s) (laterAt b clock) d)
 
 abbrev pub DeadCounts : Type 0
 DeadCounts =
     (b : List ℕ) (clock : ℕ) (s : List ℕ) (room : ℕ) → Bytes b → Bytes s → clock < 2 ^ 32 → NotLive (laterAt b clock) (docAt b (keyIn s)) → among (opcode s) counters ≡ true
     → headerCas s ≡ 0 → (counterExpiry s ≡ 0xffffffff → ⊥) → CountsAnew b clock s room
+
+-- ---- the expiry of a Set, an Add or a Replace: "8 extras (flags, expiry)"
+abbrev pub writtenExpiry : List ℕ → ℕ
+writtenExpiry s = num (extrasIn s) 4 4
+
+-- one with status 0 stores it by the plain rule, at the later of the kept clock and the call's
+abbrev pub WritesUntil : Type 0
+WritesUntil =
+    (b : List ℕ) (clock : ℕ) (s : List ℕ) (room : ℕ) → Bytes b → Bytes s → clock < 2 ^ 32 → among (opcode s) (sets ++ (adds ++ replaces)) ≡ true
+    → Answers b clock s room 0
+    → (d : Doc) × ((docAt (servedTable b clock s room) (keyIn s) ≡ some d) × PlainExpiry (writtenExpiry s) (laterAt b clock) (d .numbers .expiry))
 
 -- ---- an expired document
 -- the tombstone with its revision and CAS: "A tombstone has no value, flags 0, expiry 0."
