@@ -133,7 +133,9 @@ module _ (b : List ℕ) (clock : ℕ) (s : List ℕ) (room : ℕ) (up : Bool)
   anew : NotLive (laterAt b clock) (docAt b (keyIn s)) → Bytes b → Bytes s → clock < 2 ^ 32 → Answers b clock s room 0
       → (d : Doc) × ((docAt (servedTable b clock s room) (keyIn s) ≡ some d) × BeginsAt (initialIn s) (counterExpiry s) (laterAt b clock) d)
   unfolding ruleOf
-  anew n y z c a = (_, (done-at b clock s room _ (begins n) y z c a, record { document = refl; value = refl; flags = refl; expiry = until-later b clock (counterExpiry s) (rw asks at (faultless b clock s room a)) }))
+  anew n y z c a =
+      let until = until-later b clock (counterExpiry s) (rw asks at (faultless b clock s room a)) in
+      (_, (done-at b clock s room _ (begins n) y z c a, record { document = refl; value = refl; flags = refl; expiry = until }))
 
 pub live-counts : LiveCounts
 unfolding requestOf
