@@ -87,7 +87,7 @@ extern "C" {
 #define CONTACTS_TABLE_AT_STATE 0     /* 1 byte */
 #define CONTACTS_TABLE_AT_MODE 1      /* 1 byte */
 #define CONTACTS_TABLE_AT_VBUCKET 2   /* 2 bytes */
-#define CONTACTS_TABLE_AT_KEPT 4      /* 4 bytes, 0 */
+#define CONTACTS_TABLE_AT_KEPT 4      /* 4 bytes: the kept clock, any */
 #define CONTACTS_TABLE_AT_MARK 8      /* 8 bytes: no row's CAS is above the mark */
 
 /* Where row i stands, i counted from 0. */
@@ -152,7 +152,8 @@ extern "C" {
 #define CONTACTS_OP_DELETEQ_WITH_META 0xa9
 #define CONTACTS_OP_GET_KEYS 0xb8             /* no extras or 4, no key or one to start at; never quiet */
 
-/* Extras of Set, Add and Replace. An expiry of 0 is never, 1 to 2,592,000 is added to the clock, above is absolute. */
+/* Extras of Set, Add and Replace. An expiry of 0 is never, 1 to 2,592,000 is added to the later clock, above is
+ * absolute. */
 #define CONTACTS_SET_EXTRAS 8
 #define CONTACTS_SET_AT_FLAGS 0               /* 4 bytes */
 #define CONTACTS_SET_AT_EXPIRY 4              /* 4 bytes */
@@ -192,6 +193,21 @@ extern "C" {
 /* The extended meta: this version byte, then fields of one-byte id (1 or 2), two-byte length and that many bytes. */
 #define CONTACTS_EXTENDED_META_VERSION 1
 
+/* ---- The clock ------------------------------------------------------------------------------------------------- */
+
+/*
+ * A clock is seconds since 1970. A table keeps the latest clock that it has been given: its kept clock, 0 in a fresh
+ * table. Serving, reading and purging go by the later of the kept clock and the call's. Below, that is the later clock:
+ * it decides what is expired, and a relative expiry is added to it. So a clock that goes back brings no contact back.
+ *
+ * The kept clock is raised to the later clock by contacts_serve with outcome 0, whatever the status, so by each frame
+ * that contacts_serve_run serves, and by contacts_purge with outcome 0, whether or not it frees a row. Outcomes 1 to 5,
+ * contacts_read and contacts_sound leave it. Nothing lowers it but contacts_make, which makes it 0.
+ *
+ * WARNING: a clock that is too late stays. After one of 2^32 - 1 every relative expiry is 0x04, and every document with
+ * an expiry is expired, until the table is made anew. Check the clock before the first call.
+ */
+
 /* ---- The owner's calls ----------------------------------------------------------------------------------------- */
 
 /* Bytes of the table or of a frame: their place, counted from its first byte, and their number. */
@@ -206,7 +222,8 @@ typedef struct contacts_part {
 size_t contacts_size(size_t rows);
 
 /*
- * Makes a fresh table for one vbucket: every row free, the mark 0. What stood in the memory doesn't matter.
+ * Makes a fresh table for one vbucket: every row free, the mark 0, the kept clock 0. What stood in the memory doesn't
+ * matter.
  *
  *   rows      1 to 256
  *   state     CONTACTS_STATE_ACTIVE .. CONTACTS_STATE_DEAD
@@ -224,8 +241,8 @@ uint8_t contacts_make(uint8_t *table, size_t table_len, size_t rows, uint8_t sta
  */
 bool contacts_sound(const uint8_t *table, size_t table_len);
 
-/* A live document: one that isn't expired at the clock given. It is expired where its expiry isn't 0 and the clock is
- * at or past it; its row then stays until it is purged or written. */
+/* A live document: one that isn't expired. It is expired where its expiry isn't 0 and the later clock is at or past it;
+ * its row then stays until it is purged or written. */
 typedef struct contacts_document {
     uint8_t outcome;
     uint8_t status;
@@ -237,9 +254,10 @@ typedef struct contacts_document {
 } contacts_document;
 
 /*
- * Reads a key's live document. Changes nothing, and minds neither vbucket nor state.
+ * Reads a key's live document. Changes nothing, and minds neither vbucket nor state. Since the kept clock stays too, a
+ * later read with an earlier clock may find what this one didn't.
  *
- *   clock   seconds since 1970
+ *   clock   seconds since 1970; the later clock decides
  *   key     any bytes; one of 0 or over 250 bytes is never found
  *
  * Answers
@@ -256,8 +274,9 @@ typedef struct contacts_purged {
 } contacts_purged;
 
 /*
- * Frees exactly the rows of tombstones and of documents expired at the clock whose CAS is at or below the bound, and
- * leaves all else of the table, the mark too. With UINT64_MAX as bound it frees them all.
+ * Frees exactly the rows of tombstones and of documents expired at the later clock whose CAS is at or below the bound,
+ * raises the kept clock to the later clock, also where no row is freed, and leaves all else of the table, the mark too.
+ * With UINT64_MAX as bound it frees them all.
  *
  * WARNING: a freed row is forgotten. If an older copy of an erased or expired document may still arrive, as a with-meta
  * write, it is then stored as new: the contact comes back. Choose as bound a CAS up to which every copy has arrived,
@@ -274,10 +293,10 @@ contacts_purged contacts_purge(uint8_t *table, size_t table_len, uint32_t clock,
  *
  *   0x83, 0x81   the opcode isn't among those above: 0x83 for 07, 08, 0e, 0f, 10 and 17 to 1a
  *   0x04         the datatype isn't 0; extras and key are longer than the body; extras, key or value aren't what the
- *                command carries; the key is over 250 bytes; the clock and a relative expiry pass 2^32 - 1, even where
- *                the expiry goes unused; the count of Get Keys is 0; with meta, also: CAS or revision out of range;
- *                option bits other than 0x0f; option 0x04 without 0x08; option 0x02 missing in last-write-wins or set
- *                in revision mode; flags or expiry of a Delete not 0; broken extended meta
+ *                command carries; the key is over 250 bytes; the later clock and a relative expiry pass 2^32 - 1, even
+ *                where the expiry goes unused; the count of Get Keys is 0; with meta, also: CAS or revision out of
+ *                range; option bits other than 0x0f; option 0x04 without 0x08; option 0x02 missing in last-write-wins
+ *                or set in revision mode; flags or expiry of a Delete not 0; broken extended meta
  *   0x03         the value is over 1,024 bytes, extended meta not counted
  *   0x07         another vbucket, or a state that isn't active, save with option 0x01 in states 2 and 3. Noop and
  *                Version never have it
@@ -290,7 +309,8 @@ contacts_purged contacts_purge(uint8_t *table, size_t table_len, uint32_t clock,
  *   0x82         the key has no row and no row is free
  *   0x00         otherwise
  *
- * A status that isn't 0 changes no byte of the table, and its reply, if any, is a header with CAS 0. With status 0
+ * A status that isn't 0 changes no byte of the table but the kept clock's, and its reply, if any, is a header with CAS 0.
+ * Get, Noop, Version and Get Keys change no other byte either. With status 0
  *
  *   Get        replies the flags as 4 extras, for GetK the key, the value and the CAS
  *   Set        stores value, flags and expiry, as Add and Replace do
@@ -335,7 +355,7 @@ typedef struct contacts_served {
  * Serves the request at the start of the received bytes: changes the table by it, writes its reply at the start of the
  * reply area and counts it. Bytes after the frame are left for the next call.
  *
- *   clock       seconds since 1970; it alone decides what is expired, whatever earlier calls were given
+ *   clock       seconds since 1970; the later clock decides, and the kept clock is raised to it with every outcome 0
  *   received    any bytes, from a frame's first on
  *   reply_len   CONTACTS_REPLY_ROOM or more, whatever the request
  *
@@ -349,7 +369,8 @@ typedef struct contacts_served {
  *   outcome 0               one frame is served: its status, the bytes used, and the reply's length, which is 0 for a
  *                           silent frame; needed is 0
  * With outcomes 1 to 5 table, reply area and tally are unchanged, and all else of the answer is 0. With outcome 0 the
- * bytes of the reply area past the reply are unchanged, and a status other than 0 changes no byte of the table.
+ * bytes of the reply area past the reply are unchanged, and a status other than 0 changes no byte of the table but the
+ * kept clock's.
  */
 contacts_served contacts_serve(uint8_t *table, size_t table_len, uint32_t clock, const uint8_t *received,
                                size_t received_len, uint8_t *reply, size_t reply_len, contacts_tally *tally);
@@ -362,8 +383,9 @@ typedef struct contacts_ran {
 } contacts_ran;
 
 /*
- * Serves the received frames one after another, each as contacts_serve does, until one is refused. The replies stand
- * one after another in the reply area; its bytes past them are unchanged.
+ * Serves the received frames one after another, each as contacts_serve does and with the same clock, until one is
+ * refused. The replies stand one after another in the reply area; its bytes past them are unchanged. The kept clock is
+ * raised where a frame is served, and left where none is.
  *
  * Answers what the served frames used and were replied, with the outcome, 1 to 5, and needed of the refusal:
  *   outcome 5               the table is damaged; nothing is changed, used and reply are 0

@@ -5,7 +5,9 @@ use contact_tests::frame::{meta_extras, plain_extras, Frame};
 use contact_tests::rendering;
 use contacts::{opcode, Mode, State, Status};
 
-pub const CLOCK: u32 = 1_000_000;
+/// What the tables' documents are stored at, so the kept clock of a full table.
+const CLOCK: u32 = 1_000_000;
+const DAY: u32 = 86_400;
 
 const ROWS: [usize; 3] = [1, 32, 256];
 const SHORT: usize = 8;
@@ -97,10 +99,13 @@ pub enum Request {
     Noop,
     /// Without a start and a count.
     GetKeys,
+    /// With an earlier clock than the kept one.
+    GetHitEarlier,
+    SetEarlier,
 }
 
 impl Request {
-    const ALL: [Request; 7] = [
+    const ALL: [Request; 9] = [
         Request::GetHit,
         Request::GetMiss,
         Request::Set,
@@ -108,6 +113,8 @@ impl Request {
         Request::SetWithMetaRefused,
         Request::Noop,
         Request::GetKeys,
+        Request::GetHitEarlier,
+        Request::SetEarlier,
     ];
 
     pub fn name(self) -> &'static str {
@@ -119,6 +126,8 @@ impl Request {
             Request::SetWithMetaRefused => "Set with meta, refused",
             Request::Noop => "Noop",
             Request::GetKeys => "Get Keys",
+            Request::GetHitEarlier => "Get, hit, earlier clock",
+            Request::SetEarlier => "Set, earlier clock",
         }
     }
 
@@ -126,16 +135,18 @@ impl Request {
         match self {
             Request::GetMiss => Status::NotFound,
             Request::SetWithMetaRefused => Status::Exists,
-            Request::GetHit | Request::Set | Request::SetWithMeta | Request::Noop | Request::GetKeys => Status::Success,
+            _ => Status::Success,
         }
     }
 
-    /// A free table has nothing to hit or to lose against, and Noop and Get Keys have no key.
+    /// A free table has nothing to hit or to lose against, and Noop and Get Keys have no key. An earlier clock is timed on
+    /// one table.
     fn suits(self, table: &Table) -> bool {
         match self {
             Request::GetHit | Request::SetWithMetaRefused => !table.is_free(),
             Request::Noop | Request::GetKeys => !table.is_free() || table.key == SHORT,
             Request::GetMiss | Request::Set | Request::SetWithMeta => true,
+            Request::GetHitEarlier | Request::SetEarlier => table.rows == 32 && !table.is_free() && table.key == SHORT,
         }
     }
 }
@@ -166,13 +177,21 @@ impl Case {
         cases
     }
 
+    /// The clock that the request comes with.
+    pub fn clock(&self) -> u32 {
+        match self.request {
+            Request::GetHitEarlier | Request::SetEarlier => CLOCK - DAY,
+            _ => CLOCK,
+        }
+    }
+
     /// The request's frame; a key that is to be found is the last row's.
     pub fn frame(&self) -> Vec<u8> {
         let last = self.table.key_at(self.table.rows - 1);
         match self.request {
-            Request::GetHit => frame(opcode::GET, vec![], last, &[]),
+            Request::GetHit | Request::GetHitEarlier => frame(opcode::GET, vec![], last, &[]),
             Request::GetMiss => frame(opcode::GET, vec![], self.table.absent_key(), &[]),
-            Request::Set => frame(opcode::SET, plain_extras(0, 0), last, &VALUE),
+            Request::Set | Request::SetEarlier => frame(opcode::SET, plain_extras(0, 0), last, &VALUE),
             Request::SetWithMeta => set_with_meta(last, 2),
             Request::SetWithMetaRefused => set_with_meta(last, 0),
             Request::Noop => frame(opcode::NOOP, vec![], vec![], &[]),

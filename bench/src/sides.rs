@@ -1,6 +1,6 @@
 //! The same calls of the rendering and the library, held to one answer and then timed.
 
-use crate::cases::{Case, Table, CLOCK};
+use crate::cases::{Case, Table};
 use crate::race::{race, Times};
 use contact_tests::{answers, rendering};
 use contacts::REPLY_ROOM;
@@ -8,30 +8,30 @@ use std::hint::black_box;
 
 pub fn serving(case: &Case, rounds: usize) -> Times {
     hold_to_one_answer(case);
-    let frame = case.frame();
+    let (clock, frame) = (case.clock(), case.frame());
     let (mut rendered, mut reply) = ([0; REPLY_ROOM], [0; REPLY_ROOM]);
     let (mut rendered_tally, mut tally) = (answers::Tally::default(), contacts::Tally::default());
     race(
         &case.table,
         rounds,
         |memory| {
-            black_box(rendering::serve(memory, CLOCK, black_box(&frame), &mut rendered, &mut rendered_tally));
+            black_box(rendering::serve(memory, clock, black_box(&frame), &mut rendered, &mut rendered_tally));
         },
         |memory| {
-            let _ = black_box(contacts::serve(memory, CLOCK, black_box(&frame), &mut reply, &mut tally));
+            let _ = black_box(contacts::serve(memory, clock, black_box(&frame), &mut reply, &mut tally));
         },
     )
 }
 
 /// The status is the one expected, and answer, tally, reply area and table are the same on both sides.
 fn hold_to_one_answer(case: &Case) {
-    let frame = case.frame();
+    let (clock, frame) = (case.clock(), case.frame());
     let mut rendered_memory = case.table.memory();
     let mut memory = rendered_memory.clone();
     let (mut rendered_reply, mut reply) = ([0xee; REPLY_ROOM], [0xee; REPLY_ROOM]);
     let (mut rendered_tally, mut tally) = (answers::Tally::default(), contacts::Tally::default());
-    let rendered = rendering::serve(&mut rendered_memory, CLOCK, &frame, &mut rendered_reply, &mut rendered_tally);
-    let served = contacts::serve(&mut memory, CLOCK, &frame, &mut reply, &mut tally).expect("the frame is whole");
+    let rendered = rendering::serve(&mut rendered_memory, clock, &frame, &mut rendered_reply, &mut rendered_tally);
+    let served = contacts::serve(&mut memory, clock, &frame, &mut reply, &mut tally).expect("the frame is whole");
 
     assert_eq!(served.status, case.request.status(), "{case:?}");
     let answer = answers::Served {

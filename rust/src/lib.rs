@@ -4,6 +4,12 @@
 //! [`purge`] are its owner's; [`read_request`] and [`write_request`] are for frames. The code behind these calls is
 //! proved: whatever the bytes, each call answers and changes exactly what it says, and a refused one changes nothing.
 //!
+//! A table keeps the latest clock that it has been given, its kept clock, and every call goes by the later of that and
+//! its own: a clock that goes back brings no contact back. [`serve`] and [`serve_run`] raise the kept clock by every
+//! frame that they serve, whatever its status, and [`purge`] does; [`read`] and refused calls leave it, and [`make`]
+//! alone lowers it, to 0. So a clock that is too late stays: after one of 2^32 - 1 every relative expiry is
+//! [`Status::Invalid`], until the table is made anew. Check the clock before the first call.
+//!
 //! `include/contacts.h` says what every command does, `docs/LAYOUT.md` how tables and frames are laid out.
 //!
 //! ```
@@ -49,6 +55,8 @@ pub const ROWS_MAX: usize = 256;
 pub const KEY_MAX: usize = 250;
 /// The longest value.
 pub const VALUE_MAX: usize = 1024;
+/// Where a table's memory has its kept clock: four bytes, big-endian.
+pub const TABLE_AT_KEPT: usize = 4;
 /// The header that opens a frame.
 pub const FRAME_HEADER: usize = 24;
 /// The longest body of a request: extras, key, value and extended meta.

@@ -27,10 +27,11 @@ pub struct Ran<'r> {
 }
 
 /// Serves the request at the start of the received bytes, writes its reply at the start of the reply area and counts it.
-/// The clock is in seconds since 1970. Bytes after the frame are left for the next call.
+/// The clock is in seconds since 1970; the later of the kept clock and this one decides, and the kept clock is raised to
+/// it, whatever the status. Bytes after the frame are left for the next call.
 ///
 /// The reply area has [`REPLY_ROOM`](crate::REPLY_ROOM) bytes or more; those past the reply are unchanged. A status other
-/// than [`Status::Success`] changes no byte of the table.
+/// than [`Status::Success`] changes no byte of the table but the kept clock's.
 ///
 /// # Errors
 ///

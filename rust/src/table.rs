@@ -48,7 +48,7 @@ impl Mode {
     }
 }
 
-/// A live document: one whose expiry is 0 or after the clock that was given.
+/// A live document: one whose expiry is 0 or after the later of the table's kept clock and the call's.
 #[derive(Clone, Copy, Debug, PartialEq, Eq, Hash)]
 pub struct Document<'t> {
     /// Flags, the client's own.
@@ -71,7 +71,8 @@ pub fn size(rows: usize) -> Option<usize> {
     }
 }
 
-/// Makes a fresh table for one vbucket: every row free, the mark 0. What stood in the memory doesn't matter.
+/// Makes a fresh table for one vbucket: every row free, the mark 0, the kept clock 0. What stood in the memory doesn't
+/// matter.
 ///
 /// # Errors
 ///
@@ -88,7 +89,8 @@ pub fn sound(table: &[u8]) -> bool {
     raw::sound(table)
 }
 
-/// Reads a key's live document at a clock of seconds since 1970, whatever the table's vbucket and state.
+/// Reads a key's live document at the later of the kept clock and this one, in seconds since 1970, whatever the table's
+/// vbucket and state. It leaves the kept clock, so that a read at an earlier clock may find what this one didn't.
 ///
 /// # Errors
 ///
@@ -110,8 +112,9 @@ pub fn read<'t>(table: &'t [u8], clock: u32, key: &[u8]) -> Result<Option<Docume
     }))
 }
 
-/// Frees exactly the tombstones and the documents expired at the clock whose CAS is at or below the bound, and says how
-/// many. All else of the table stays, the mark too.
+/// Frees exactly the tombstones and the documents expired at the later of the kept clock and this one whose CAS is at or
+/// below the bound, and says how many. The kept clock is raised to the later one, also where no row is freed. All else of
+/// the table stays, the mark too.
 ///
 /// A freed row is forgotten: an older copy of an erased or expired document that arrives later, as a with-meta write, is
 /// stored as new, and the contact comes back. Choose as bound a CAS up to which every copy has arrived.

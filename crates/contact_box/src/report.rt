@@ -17,13 +17,15 @@ fn put_count(line: &mut [u8], at: usize, name: &[u8], n: u64) -> usize
     start + k
 }
 
-pub(crate) fn tally(t: Tally) {
-    let mut line = [0u8; 100];
+// The tally, and the clock that the table keeps at the end.
+pub(crate) fn ended(t: Tally, kept: u32) {
+    let mut line = [0u8; 140];
     let served = put_count(&mut line, 0, b"contact_box: served ", t.served);
     let refused = put_count(&mut line, served, b", refused ", t.refused);
     let silent = put_count(&mut line, refused, b", silent ", t.silent);
-    octets::put_bytes(&mut line, silent, b"\n");
-    io::write_all(STDERR_FILENO, octets::part(&line, 0, silent + 1));
+    let clock = put_count(&mut line, silent, b", kept clock ", kept as u64);
+    octets::put_bytes(&mut line, clock, b"\n");
+    io::write_all(STDERR_FILENO, octets::part(&line, 0, clock + 1));
 }
 
 // What is wrong with the arguments.

@@ -29,6 +29,8 @@ fn expired() {
     shore::set(&mut boat, 1000000, first, b"wreck:north-bank", b"38 m");
     shore::get(&mut boat, 1000059, b"wreck:north-bank");
     shore::get(&mut boat, 1000060, b"wreck:north-bank");
+    tell::text(b"  The boat's clock goes back by a minute:\n");
+    shore::get(&mut boat, 1000000, b"wreck:north-bank");
     tell::text(b"  An older copy that never expires arrives late:\n");
     shore::set(&mut boat, 1000070, older, b"wreck:north-bank", b"40 m");
     shore::get(&mut boat, 1000070, b"wreck:north-bank");

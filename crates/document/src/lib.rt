@@ -1,6 +1,6 @@
 // What a store of documents is, apart from how memory holds it.
 ghost use mathlib.Core.Path.{_≡_};
-ghost use Rattle.document.specs.Head.{raised};
+ghost use Rattle.document.specs.Head.{raised, atClock};
 ghost use Rattle.document.specs.Stored.{alive, live, hasRow, numbersOf, accepted, gone};
 use numbers::Cas;
 use numbers::Mode;
@@ -14,7 +14,7 @@ pub struct Head {
     // 1 revision, 2 last-write-wins
     pub mode: u8,
     pub vbucket: u16,
-    // kept 0
+    // the kept clock: the latest that the table was given
     pub clock: u32,
     // the mark: no used row has a CAS above it
     pub mark: Cas,
@@ -42,6 +42,20 @@ pub fn raised(h: Head, cas: Cas) -> Head
         vbucket: h.vbucket,
         clock: h.clock,
         mark: mark.larger(cas),
+    }
+}
+
+// The head at a call's clock, which is kept where it is the later one.
+pub fn at_clock(h: Head, clock: u32) -> Head
+    ensures { λ r. ⌜ r ≡ atClock h clock ⌝ }
+{
+    let mark = h.mark;
+    Head {
+        state: h.state,
+        mode: h.mode,
+        vbucket: h.vbucket,
+        clock: numbers::later(h.clock, clock),
+        mark,
     }
 }
 

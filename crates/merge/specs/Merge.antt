@@ -8,13 +8,14 @@ use lib.Dec.{ltb}
 use Rattle.numbers.specs.declared.Mode.{Mode}
 use Rattle.numbers.specs.declared.Mode.the-variants.{LastWrite}
 use Rattle.numbers.specs.Order.{modeOf}
+use Rattle.numbers.specs.Expiry.{later}
 use Rattle.document.specs.declared.Head.{Head}
-use Rattle.document.specs.Head.{marked}
+use Rattle.document.specs.Head.{marked, clocked, atClock}
 use Rattle.document.specs.Documents.{Key, Doc, Entry}
 use Rattle.engine.specs.Engine.{Engine, Laws, isSome, storeRow}
 use Rattle.decision.specs.Decide.{Effect, decide}
 use Rattle.decision.specs.Merging.{RequestAt, MergingRequest, meta, writeOf}
-use Rattle.merge.specs.Writes.{_∈_, Greatest, optionList, for, isWritten, newKeys, largestCas, verdicts, applied}
+use Rattle.merge.specs.Writes.{_∈_, Greatest, optionList, for, isWritten, newKeys, latest, largestCas, verdicts, applied}
 
 pub record State (E : Engine) : Type 0 where
   pub head : Head
@@ -28,9 +29,10 @@ changed E t k x = record { head = x .head; rows = storeRow E (t .rows) k (x .sto
 abbrev pub docIn : (E : Engine) → State E → Key → Option Doc
 docIn E t k = E .find (t .rows) k
 
--- one call: decided from the head, the key's row and whether a row is free
+-- one call: decided from the head, the key's row and whether a row is free; order 2: at the later of the kept clock and the call's, which is kept
 unfoldable pub effectOn : (E : Engine) → State E → RequestAt → Effect
-effectOn E t c = decide (t .head) (docIn E t (c .request .key)) (ltb 0 (E .free (t .rows))) (c .clock) (c .request)
+effectOn E t c =
+    decide (atClock (t .head) (c .clock)) (docIn E t (c .request .key)) (ltb 0 (E .free (t .rows))) (later (t .head .clock) (c .clock)) (c .request)
 
 unfoldable pub tableOn : (E : Engine) → State E → RequestAt → State E
 unfolding effectOn
@@ -43,6 +45,9 @@ tableAfter E t (c ∷ cs) = tableAfter E (tableOn E t c) cs
 abbrev pub statusesOf : (E : Engine) → State E → List RequestAt → List ℕ
 statusesOf E t [] = []
 statusesOf E t (c ∷ cs) = effectOn E t c .status ∷ statusesOf E (tableOn E t c) cs
+
+abbrev pub clocksOf : List RequestAt → List ℕ
+clocksOf cs = map (λ c. c .clock) cs
 
 abbrev pub writesOf : List RequestAt → List Entry
 writesOf cs = map writeOf cs
@@ -79,8 +84,9 @@ pub record MergedState (E : Engine) (t : State E) (cs : List RequestAt) : Type 0
   -- "Every other document is as before, and no other key gains one."
   pub others : (k : Key) → isWritten k (writesOf cs) ≡ false → docIn E (tableAfter E t cs) k ≡ docIn E t k
   pub statuses : statusesOf E t cs ≡ verdicts (mode E t) (docIn E t) [] (writesOf cs)
-  -- "The mark ends as the largest of itself and the CAS numbers of the writes with status 0", and nothing else of the head changes
-  pub mark : tableAfter E t cs .head ≡ marked (t .head) (largestCas (t .head .mark .0) (applied (statusesOf E t cs) (writesOf cs)))
+  -- "The mark ends as the largest of itself and the CAS numbers of the writes with status 0"; order 2: "the kept clock ends as the greatest of itself and those given"; nothing else of the head changes
+  pub head : tableAfter E t cs .head
+      ≡ marked (clocked (t .head) (latest (t .head .clock) (clocksOf cs))) (largestCas (t .head .mark .0) (applied (statusesOf E t cs) (writesOf cs)))
   -- "in last-write-wins, of all the writes"
   pub mark-last : mode E t ≡ LastWrite → tableAfter E t cs .head .mark .0 ≡ largestCas (t .head .mark .0) (writesOf cs)
   pub sound : Sound E (tableAfter E t cs)

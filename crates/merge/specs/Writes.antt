@@ -46,6 +46,11 @@ abbrev pub newKeys : (Key → Bool) → List Entry → ℕ
 newKeys known [] = 0
 newKeys known (w ∷ ws) = cond (known (w .key)) (newKeys known ws) (suc (newKeys (λ k. same (w .key) k || known k) ws))
 
+-- the greatest of a clock and those given
+abbrev pub latest : ℕ → List ℕ → ℕ
+latest n [] = n
+latest n (c ∷ cs) = latest (max n c) cs
+
 -- the largest of a number and the writes' CAS numbers
 abbrev pub largestCas : ℕ → List Entry → ℕ
 largestCas n [] = n

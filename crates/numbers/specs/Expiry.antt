@@ -1,7 +1,11 @@
 -- Expiry. The clock is seconds since 1970 in 32 bits.
-use Prim.Native.Nat.{ℕ, _+_, min}
+use Prim.Native.Nat.{ℕ, _+_, min, max}
 use mathlib.Core.Bool.{Bool, not, _&&_, _||_, cond}
 use lib.Dec.{eqb, leb, ltb}
+
+-- order 2: "every served frame, read and purge uses the later of the two", the clock that the table keeps and the call's
+abbrev pub later : ℕ → ℕ → ℕ
+later kept clock = max kept clock
 
 -- "A document is *expired* when its expiry is not 0 and the clock is at or past it."
 unfoldable pub expired : ℕ → ℕ → Bool

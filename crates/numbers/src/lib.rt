@@ -2,7 +2,7 @@
 // number that can't be exchanged.
 ghost use mathlib.Core.Path.{_≡_};
 ghost use Rattle.numbers.specs.Order.{modeOf, above, lead, second, greater};
-ghost use Rattle.numbers.specs.Expiry.{expired, passes, absolute};
+ghost use Rattle.numbers.specs.Expiry.{later, expired, passes, absolute};
 ghost use Rattle.numbers.specs.Growth.{next, casAfter, largerCas, revisionAfter, incremented, decremented};
 
 pub struct Cas(pub u64);
@@ -66,6 +66,13 @@ pub fn greater(m: Mode, a: Numbers, b: Numbers) -> bool
         lead(m, b),
         above(second(m, a), second(m, b), rest),
     )
+}
+
+// The later of the clock that a table keeps and a call's.
+pub fn later(kept: u32, clock: u32) -> u32
+    ensures { λ r. ⌜ r ≡ later kept clock ⌝ }
+{
+    if kept < clock { clock } else { kept }
 }
 
 // The one place where expiry is decided: every command and the owner's calls go through it.

@@ -1,16 +1,19 @@
 -- What reading and purging answer, by whether the table is damaged and by what is found.
-use Prim.Native.Nat.{ℕ}
+use Prim.Native.Nat.{ℕ, _^_, _<_}
 use mathlib.Core.Path.{_≡_, refl, sym, ap, _∙_}
 use mathlib.Core.Bool.{Bool, true, false, cond}
 use mathlib.Core.List.{List}
 use mathlib.Core.Option.{Option, none, some}
 use lib.ListN.{length}
-use Rattle.octets.specs.Parts.{Bytes}
+use Rattle.octets.specs.Parts.{Bytes, written}
+use Rattle.octets.specs.BigEndian.{bytesOf}
+use Rattle.numbers.specs.Expiry.{later}
+use Rattle.document.specs.declared.Head.{Head}
 use Rattle.document.specs.Documents.{Key, Doc, docValue}
 use Rattle.document.specs.Stored.{metadataOf, storedOf, live, numbersOf, goneDoc}
 use Rattle.document.specs.declared.Stored.the-variants.{Used}
 use Rattle.rows.specs.Row.{Row}
-use Rattle.rows.specs.Table.{Table, tableOf, tableBytes}
+use Rattle.rows.specs.Table.{Table, headOf, tableOf, tableAt, clockAt, tableBytes}
 use Rattle.rows.specs.Find.{findRow, valuePlace}
 use Rattle.plain.specs.Damage.{sound}
 use Rattle.plain.specs.Plain.{plain}
@@ -20,7 +23,7 @@ use Rattle.plain.proofs.TableLaws.{sound-good}
 use Rattle.table.specs.declared.Lookup.{Lookup}
 use Rattle.table.specs.Calls.{lookupOf}
 use Rattle.table.proofs.Looking.{finds-sound}
-use Rattle.table.proofs.Keeping.{purges-good}
+use Rattle.table.proofs.Keeping.{clock-put, clock-good, purges-good}
 use Rattle.owner.specs.declared.Document.{Document}
 use Rattle.owner.specs.declared.Document.the-variants.{Damaged, Missing, Live}
 use Rattle.owner.specs.declared.Purged.the-variants.{Damaged as NotPurged, Freed}
@@ -44,37 +47,47 @@ unfolding live
 by-doc rows clock key none = refl
 by-doc rows clock key (some d) = refl
 
+-- the later of the head's clock and the call's
+pub later-at : (b : List ℕ) (clock : ℕ) (h : Head) (now : ℕ) → h ≡ headOf b → now ≡ later (h .clock) clock → now ≡ clockAt (tableOf b) clock
+unfolding tableOf
+later-at b clock h now e n = n ∙ ap (λ (x : Head). later (x .clock) clock) e
+
 module _ (b : List ℕ) (clock : ℕ) where
   module _ (key : Key) where
     pub read-damaged : sound b ≡ false → readOf b clock key ≡ Damaged
     unfolding readOf
     read-damaged e = rw e
 
-    pub read-sound : sound b ≡ true → readOf b clock key ≡ shown (tableOf b .rows) clock key (findRow (tableOf b .rows) key)
+    pub read-sound : sound b ≡ true → readOf b clock key ≡ shown (tableOf b .rows) (clockAt (tableOf b) clock) key (findRow (tableOf b .rows) key)
     unfolding readOf
     read-sound e = rw e
 
-    pub read-found : (l : Lookup) (d : Document) → Bytes b → sound b ≡ true → l ≡ lookupOf false b key → d ≡ shownBy clock l → d ≡ readOf b clock key
+    pub read-found : (now : ℕ) (l : Lookup) (d : Document) → Bytes b → sound b ≡ true → now ≡ clockAt (tableOf b) clock → l ≡ lookupOf false b key → d ≡ shownBy now l
+        → d ≡ readOf b clock key
     unfolding shownBy
-    read-found l d y s e f =
+    read-found now l d y s n e f =
+        let at = clockAt (tableOf b) clock in
         let g = finds-sound b key false y s in
         let o = findRow (tableOf b .rows) key in
-        f ∙ ap (shownBy clock) e
-        ∙ (λ i. cond (live (g .stored i) clock) (Live (numbersOf (g .stored i)) (g .stands i) (g .size i)) Missing)
-        ∙ by-doc (tableOf b .rows) clock key o ∙ sym (read-sound s)
+        f ∙ (λ i. shownBy (n i) (e i))
+        ∙ (λ i. cond (live (g .stored i) at) (Live (numbersOf (g .stored i)) (g .stands i) (g .size i)) Missing)
+        ∙ by-doc (tableOf b .rows) at key o ∙ sym (read-sound s)
 
   module _ (bound : ℕ) where
     pub purge-refused : sound b ≡ false → (NotPurged ≡ purgeOf b clock bound) × (b ≡ purgedBytes b clock bound)
     unfolding purgeOf purgedBytes
     purge-refused e = (rw e, rw e)
 
-    pub purge-done : (n : ℕ) (s : List ℕ) → Bytes b → sound b ≡ true → n ≡ freedRows (goneDoc clock bound) b → s ≡ purgedRows (goneDoc clock bound) b
+    -- the kept clock is written first, and the rows are purged by it
+    pub purge-done : (now n : ℕ) (a s : List ℕ) → Bytes b → clock < 2 ^ 32 → sound b ≡ true → now ≡ clockAt (tableOf b) clock → a ≡ written b 4 (bytesOf 4 now)
+        → n ≡ freedRows (goneDoc now bound) a → s ≡ purgedRows (goneDoc now bound) a
         → (Freed n ≡ purgeOf b clock bound) × (s ≡ purgedBytes b clock bound)
     unfolding purgeOf purgedBytes
-    purge-done n s y e c w =
-        let p = goneDoc clock bound in
+    purge-done now n a s y l e m f c w =
+        let t = tableOf b in
         let g = sound-good b y e in
-        let q = purges-good (tableOf b) clock bound (g .1) in (
-          ap Freed (c ∙ ap (freedRows p) (sym (g .0)) ∙ q .count) ∙ rw e,
-          w ∙ ap (purgedRows p) (sym (g .0)) ∙ q .bytes ∙ rw e,
+        let k : a ≡ tableBytes (tableAt t clock) = f ∙ (λ i. written (sym (g .0) i) 4 (bytesOf 4 (m i))) ∙ clock-put t clock in
+        let q = purges-good (tableAt t clock) (clockAt t clock) bound (clock-good t clock (g .1) l) in (
+          ap Freed (c ∙ (λ i. freedRows (goneDoc (m i) bound) (k i)) ∙ q .count) ∙ rw e,
+          w ∙ (λ i. purgedRows (goneDoc (m i) bound) (k i)) ∙ q .bytes ∙ rw e,
         )

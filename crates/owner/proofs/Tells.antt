@@ -13,13 +13,13 @@ use Rattle.numbers.specs.declared.Numbers.{Numbers}
 use Rattle.document.specs.Documents.{Doc, docValue}
 use Rattle.document.specs.Stored.{metadataOf, storedOf, live, goneDoc}
 use Rattle.document.specs.declared.Stored.the-variants.{Used}
-use Rattle.rows.specs.Table.{tableOf, fresh}
+use Rattle.rows.specs.Table.{tableOf, tableAt, clockAt, fresh}
 use Rattle.rows.specs.Find.{findRow, valuePlace}
 use Rattle.plain.specs.Damage.{sound}
 use Rattle.plain.proofs.TableLaws.{sound-good, good-sound, no-key}
 use Rattle.plain.proofs.ChangeLaws.{fresh-good}
 use Rattle.table.proofs.Looking.{finds-sound}
-use Rattle.table.proofs.Keeping.{purges-good}
+use Rattle.table.proofs.Keeping.{clock-good, purges-good}
 use Rattle.owner.specs.declared.Document.{Document}
 use Rattle.owner.specs.declared.Document.the-variants.{Missing, Live}
 use Rattle.owner.specs.Owner.{shown, purgedBytes, makeOk}
@@ -41,7 +41,8 @@ unfolding live
 kept-none clock = refl
 
 pub read-shows : ReadShows
-read-shows b clock key d y s e =
+read-shows b call key d y s e =
+    let clock = clockAt (tableOf b) call in
     let rows = tableOf b .rows in
     let f = finds-sound b key false y s in
     options (findRow rows key)
@@ -57,7 +58,7 @@ read-shows b clock key d y s e =
       at = l;
       len = length (x .value);
       answer =
-          read-sound b clock key s ∙ ap (shown rows clock key) o ∙ ap (λ (c : Bool). cond c (Live (x .numbers) l (length (x .value))) Missing) t
+          read-sound b call key s ∙ ap (shown rows clock key) o ∙ ap (λ (c : Bool). cond c (Live (x .numbers) l (length (x .value))) Missing) t
           ∙ ap (λ (w : Doc). Live (w .numbers) l (length (x .value))) q;
       inside = omega (arith, f .inside, at, size);
       value = (λ i. part b (sym at i) (sym size i)) ∙ f .value ∙ ap docValue o ∙ ap (λ (w : Doc). w .value) q;
@@ -65,9 +66,10 @@ read-shows b clock key d y s e =
     (λ t. none-some d (sym (ap (kept clock) o ∙ kept-over clock x t) ∙ e)))
 
 pub read-misses : ReadMisses
-read-misses b clock key y s e =
+read-misses b call key y s e =
+    let clock = clockAt (tableOf b) call in
     let rows = tableOf b .rows in
-    read-sound b clock key s
+    read-sound b call key s
     ∙ options (findRow rows key)
     (λ n. ap (shown rows clock key) n)
     (λ x o.
@@ -77,11 +79,13 @@ read-misses b clock key y s e =
 
 pub no-such-key : NoSuchKey
 no-such-key b clock key y s h =
-    read-misses b clock key y s (ap (kept clock) (no-key (tableOf b .head .mark .0) (tableOf b .rows) key (sound-good b y s .1 .rows) h) ∙ kept-none clock)
+    let now = clockAt (tableOf b) clock in
+    read-misses b clock key y s (ap (kept now) (no-key (tableOf b .head .mark .0) (tableOf b .rows) key (sound-good b y s .1 .rows) h) ∙ kept-none now)
 
 pub purge-sound : PurgeSound
 unfolding purgedBytes
-purge-sound b clock bound y s = rw s (good-sound _ (purges-good (tableOf b) clock bound (sound-good b y s .1) .good) .0)
+purge-sound b clock bound y l s =
+    rw s (good-sound _ (purges-good (tableAt (tableOf b) clock) (clockAt (tableOf b) clock) bound (clock-good (tableOf b) clock (sound-good b y s .1) l) .good) .0)
 
 pub make-sound : MakeSound
 make-sound b n state mode vbucket v e =

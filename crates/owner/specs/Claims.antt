@@ -1,5 +1,5 @@
 -- What the owner's calls mean on a sound table. Proved in proofs/Tells.antt.
-use Prim.Native.Nat.{ℕ, _+_, _≤_, _<_}
+use Prim.Native.Nat.{ℕ, _+_, _^_, _≤_, _<_}
 use mathlib.Core.Path.{_≡_}
 use mathlib.Core.List.{List}
 use mathlib.Core.Bool.{true, cond}
@@ -9,15 +9,15 @@ use lib.ListN.{length}
 use Rattle.octets.specs.Parts.{Bytes, part}
 use Rattle.document.specs.Documents.{Key, Doc}
 use Rattle.document.specs.Stored.{storedOf, live}
-use Rattle.rows.specs.Table.{tableOf}
+use Rattle.rows.specs.Table.{tableOf, clockAt}
 use Rattle.plain.specs.Damage.{sound}
 use Rattle.rows.specs.Find.{findRow}
 use Rattle.owner.specs.declared.Document.the-variants.{Missing, Live}
 use Rattle.owner.specs.Owner.{readOf, purgedBytes, made, makeOutcome}
 
--- the live document of a key
+-- the live document of a key, at the later of the kept clock and the call's
 abbrev pub liveDoc : List ℕ → ℕ → Key → Option Doc
-liveDoc b clock key = cond (live (storedOf (findRow (tableOf b .rows) key)) clock) (findRow (tableOf b .rows) key) none
+liveDoc b clock key = cond (live (storedOf (findRow (tableOf b .rows) key)) (clockAt (tableOf b) clock)) (findRow (tableOf b .rows) key) none
 
 -- reading shows a document: its numbers, and its value as a part of the table memory
 pub record Shows (b : List ℕ) (clock : ℕ) (key : Key) (d : Doc) : Type 0 where
@@ -39,7 +39,7 @@ NoSuchKey = (b : List ℕ) (clock : ℕ) (key : Key) → Bytes b → sound b ≡
 
 -- a purged table is sound, and so is one that was made
 abbrev pub PurgeSound : Type 0
-PurgeSound = (b : List ℕ) (clock bound : ℕ) → Bytes b → sound b ≡ true → sound (purgedBytes b clock bound) ≡ true
+PurgeSound = (b : List ℕ) (clock bound : ℕ) → Bytes b → clock < 2 ^ 32 → sound b ≡ true → sound (purgedBytes b clock bound) ≡ true
 
 abbrev pub MakeSound : Type 0
 MakeSound = (b : List ℕ) (n state mode vbucket : ℕ) → vbucket < 65536 → makeOutcome (length b) n state mode ≡ 0 → sound (made b n state mode vbucket) ≡ true

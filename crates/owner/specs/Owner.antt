@@ -9,7 +9,7 @@ use Rattle.document.specs.Documents.{Key, Doc}
 use Rattle.document.specs.Stored.{metadataOf, live, goneDoc}
 use Rattle.document.specs.declared.Stored.the-variants.{Used}
 use Rattle.rows.specs.Row.{Row}
-use Rattle.rows.specs.Table.{tableOf, tableBytes, fresh}
+use Rattle.rows.specs.Table.{Table, tableOf, tableAt, clockAt, tableBytes, fresh}
 use Rattle.rows.specs.RowRules.{sizeOk}
 use Rattle.rows.specs.Find.{findRow, valuePlace}
 use Rattle.engine.specs.declared.Checked.the-variants.{Damaged as NotSound}
@@ -62,12 +62,18 @@ abbrev pub shown : List Row → ℕ → Key → Option Doc → Document
 shown rows clock key none = Missing
 shown rows clock key (some d) = cond (live (Used (metadataOf d)) clock) (Live (d .numbers) (valuePlace rows key 16) (length (d .value))) Missing
 
+-- at the later of the two clocks; it takes the memory as it is, and so raises none
 unfoldable pub readOf : List ℕ → ℕ → Key → Document
-readOf b clock key = cond (sound b) (shown (tableOf b .rows) clock key (findRow (tableOf b .rows) key)) Damaged
+readOf b clock key = cond (sound b) (shown (tableOf b .rows) (clockAt (tableOf b) clock) key (findRow (tableOf b .rows) key)) Damaged
 
 -- "It frees exactly the tombstones and expired documents with CAS at or below the bound, reports how many, and leaves the mark."
 unfoldable pub purgeOf : List ℕ → ℕ → ℕ → Purged
-purgeOf b clock bound = cond (sound b) (Freed (goneCount (goneDoc clock bound) (tableOf b .rows))) NotPurged
+purgeOf b clock bound = cond (sound b) (Freed (goneCount (goneDoc (clockAt (tableOf b) clock) bound) (tableOf b .rows))) NotPurged
 
+-- a table after a purge by this test
+abbrev pub purgedTable : Table → (Doc → Bool) → Table
+purgedTable t p = record { head = t .head; rows = plain .purge (t .rows) p }
+
+-- order 2: "A purge, and serving a frame with any status, raise it"
 unfoldable pub purgedBytes : List ℕ → ℕ → ℕ → List ℕ
-purgedBytes b clock bound = cond (sound b) (tableBytes (record { head = tableOf b .head; rows = plain .purge (tableOf b .rows) (goneDoc clock bound) })) b
+purgedBytes b clock bound = cond (sound b) (tableBytes (purgedTable (tableAt (tableOf b) clock) (goneDoc (clockAt (tableOf b) clock) bound))) b

@@ -83,22 +83,30 @@ fn shown(l: Lookup, clock: u32) -> Document
     Document::Live(numbers, l.at, l.len)
 }
 
-// Reads a key's live document. Nothing changes.
+// Reads a key's live document, at the later of the kept clock and this one. Nothing changes.
 pub fn read(s: &[u8], clock: u32, key: &[u8]) -> Document
     ensures { λ r. ⌜ r ≡ readOf (now (s .entry)) clock (now (key .entry)) ⌝ }
 {
     match table::checked(s) {
         Checked::Damaged => Document::Damaged,
-        Checked::Sound(_) => shown(table::find(s, key, false), clock),
+        Checked::Sound(head) => shown(
+            table::find(s, key, false),
+            numbers::later(head.clock, clock),
+        ),
     }
 }
 
-// Frees the tombstones and expired documents with CAS at or below the bound, and says how many.
+// Frees the tombstones and expired documents with CAS at or below the bound, and says how many. The later of the kept clock and
+// this one decides, and is kept.
 pub fn purge(s: &mut [u8], clock: u32, bound: Cas) -> Purged
     ensures { λ r. ⌜ (r ≡ purgeOf (now (s .entry)) clock (bound .0)) × (now (s .exit) ≡ purgedBytes (now (s .entry)) clock (bound .0)) ⌝ }
 {
     match table::checked(s) {
         Checked::Damaged => Purged::Damaged,
-        Checked::Sound(_) => Purged::Freed(table::purge(s, clock, bound)),
+        Checked::Sound(head) => {
+            let now = numbers::later(head.clock, clock);
+            row_writer::put_clock(s, now);
+            Purged::Freed(table::purge(s, now, bound))
+        }
     }
 }

@@ -152,27 +152,24 @@ sound-parts b e =
 record HeadGood (h : Head) : Type 0 where
   state : (1 ≤ h .state) × (h .state ≤ 4)
   mode : (1 ≤ h .mode) × (h .mode ≤ 2)
-  clock : h .clock ≡ 0
 
 module _ (h : Head) where
   head-parts : headOk h ≡ true → HeadGood h
   unfolding headOk
   head-parts e =
-      let q = both (leb 1 (h .state) && leb (h .state) 4) ((leb 1 (h .mode) && leb (h .mode) 2) && eqb (h .clock) 0) e in
+      let q = both (leb 1 (h .state) && leb (h .state) 4) (leb 1 (h .mode) && leb (h .mode) 2) e in
       let s = both (leb 1 (h .state)) (leb (h .state) 4) (q .0) in
-      let p = both (leb 1 (h .mode) && leb (h .mode) 2) (eqb (h .clock) 0) (q .1) in
-      let m = both (leb 1 (h .mode)) (leb (h .mode) 2) (p .0) in
+      let m = both (leb 1 (h .mode)) (leb (h .mode) 2) (q .1) in
       record {
         state = (leb-true 1 (h .state) (s .0), leb-true (h .state) 4 (s .1));
         mode = (leb-true 1 (h .mode) (m .0), leb-true (h .mode) 2 (m .1));
-        clock = eqb-true (h .clock) 0 (p .1);
       }
 
   head-ok : HeadGood h → headOk h ≡ true
   unfolding headOk
   head-ok g = λ i.
       (le-leb 1 (h .state) (g .state .0) i && le-leb (h .state) 4 (g .state .1) i)
-      && ((le-leb 1 (h .mode) (g .mode .0) i && le-leb (h .mode) 2 (g .mode .1) i) && eq-eqb (h .clock) 0 (g .clock) i)
+      && (le-leb 1 (h .mode) (g .mode .0) i && le-leb (h .mode) 2 (g .mode .1) i)
 
 pub sound-good : SoundGood
 unfolding tableBytes tableOf headOf
@@ -189,7 +186,7 @@ sound-good b y e =
         state = h .state;
         mode = h .mode;
         vbucket = num-below b 2 2 y;
-        clock = h .clock;
+        clock = num-below b 4 4 y;
         mark = num-below b 8 8 y;
         rows = r .1;
         keys = distinct-keys (rowsOf (rowCount b) (drop 16 b)) (s .keys);
@@ -218,7 +215,7 @@ module _ (t : Table) (g : Good t) where
     state = be-bytes 1 (t .head .state) (omega (arith, g .state .1)) i;
     mode = be-bytes 1 (t .head .mode) (omega (arith, g .mode .1)) i;
     vbucket = be-bytes 2 (t .head .vbucket) (g .vbucket) i;
-    clock = be-bytes 4 (t .head .clock) (omega (arith, g .clock)) i;
+    clock = be-bytes 4 (t .head .clock) (g .clock) i;
     mark = record { 0 = be-bytes 8 (t .head .mark .0) (g .mark) i };
   }
 
@@ -247,7 +244,7 @@ good-sound t g =
           && (headOk (h i)
           && (allSound (h i .mark .0) (chunks (n i) (rows-after t i)) && distinct (rows-there t g i))))
           ∙ (λ i. (le-leb 1 k (g .least) i && (le-leb k 256 (g .most) i && eq-eqb (16 + k * 1312) (16 + k * 1312) refl i))
-          && (head-ok (t .head) (record { state = g .state; mode = g .mode; clock = g .clock }) i
+          && (head-ok (t .head) (record { state = g .state; mode = g .mode }) i
           && (rows-sound (t .head .mark .0) (g .mark) (t .rows) (g .rows) i && keys-distinct (t .rows) (g .keys) i))),
       (λ i. record { head = h i; rows = rows-there t g i }),
     )

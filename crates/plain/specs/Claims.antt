@@ -19,7 +19,7 @@ pub record Good (t : Table) : Type 0 where
   pub state : (1 ≤ t .head .state) × (t .head .state ≤ 4)
   pub mode : (1 ≤ t .head .mode) × (t .head .mode ≤ 2)
   pub vbucket : t .head .vbucket < 65536
-  pub clock : t .head .clock ≡ 0
+  pub clock : t .head .clock < 2 ^ 32
   pub mark : t .head .mark .0 < 2 ^ 64
   pub rows : AllGood (t .head .mark .0) (t .rows)
   pub keys : Distinct (t .rows)

@@ -1,4 +1,4 @@
--- All commands and the owner's read take the same documents for live, a with-meta write compares a row that isn't, and a Get changes nothing.
+-- All commands and the owner's read take the same documents for live, a with-meta write compares a row that isn't, and a Get changes nothing but the kept clock.
 use Prim.Native.Nat.{ℕ, _+_, _/_, _%_}
 use mathlib.Core.Path.{_≡_, refl, sym, ap, subst, _∙_}
 use mathlib.Core.Bool.{Bool, true, false, cond, not, _&&_, _||_}
@@ -16,7 +16,7 @@ use Rattle.document.specs.Stored.{storedOf, live, accepted}
 use Rattle.document.specs.declared.Stored.the-variants.{Nothing}
 use Rattle.header.specs.declared.Header.{Header}
 use Rattle.header.specs.Header.{headerOf}
-use Rattle.shape.specs.Shapes.{among}
+use Rattle.shape.specs.Shapes.{among, shapeOf}
 use Rattle.with_meta.specs.WithMeta.{withMeta}
 use Rattle.request.specs.declared.Gate.{Gate}
 use Rattle.request.specs.declared.Gate.the-variants.{Stop, Whole}
@@ -30,23 +30,26 @@ use Rattle.commands.specs.Rules.{ruleOf, testsOf, guard, firstFailure, statusBy
 use Rattle.effects.specs.declared.Done.{Done}
 use Rattle.effects.specs.Done.{doneOf}
 use Rattle.decision.specs.Decision.{decision}
-use Rattle.decision.specs.Decide.{docFrom, bytesFrom}
-use Rattle.decode.specs.Decode.{metaCommand, requestOf}
+use Rattle.decision.specs.Decide.{instructionOf}
+use Rattle.decode.specs.Decode.{metaCommand, commandOf, requestOf}
 use Rattle.rows.specs.Row.{Row}
-use Rattle.rows.specs.Table.{tableOf, tableBytes}
+use Rattle.rows.specs.Find.{findRow}
+use Rattle.rows.specs.Table.{Table, tableOf, tableAt, clockAt, tableBytes}
 use Rattle.plain.specs.Damage.{sound}
-use Rattle.plain.proofs.TableLaws.{sound-good}
 use Rattle.owner.specs.Owner.{shown, readOf}
-use Rattle.serving.specs.Serve.{reachesDecision, decisionOn, frameEffect, frameTable, gateAll, tableBy, servedTable}
+use Rattle.serving.specs.Serve.{reachesDecision, contextOn, decisionOn, frameEffect, frameTable, gateAll, answerBy, tableBy, served, servedTable}
 use Rattle.serving.specs.Statuses.{statuses}
 use Rattle.serving.proofs.Change.{unchanged}
 use Rattle.serving.proofs.Formed.{no, by-cond}
 use Rattle.serving.proofs.Gated.{was-open}
 use Rattle.promises.specs.Merge.{docAt, modeAt}
+use Rattle.promises.specs.Kept.{laterAt, keptBy}
 use Rattle.promises.specs.Expiry.{opcode, headerCas, extrasIn, keyIn, gets, adds, replaces, deletes, keyed, needsLive, toldLive, readLive}
 use Rattle.promises.specs.Expiry.{NotLive, Answers, Reaches, OneLiveness, LiveIsFound, DeadIsCompared, GetKeeps}
-use Rattle.promises.proofs.Asks.{at-opcode, reads, carries, added}
-use Rattle.promises.proofs.Liveness.{and-false, or-false, dead, alive, status, answers, avoids, answered, without}
+use Rattle.promises.specs.Clock.{readOnly}
+use Rattle.promises.proofs.Kept.{raised-bytes}
+use Rattle.promises.proofs.Asks.{Each, at-opcode, ask, reads, carries, added}
+use Rattle.promises.proofs.Liveness.{and-false, or-false, dead-at, alive-at, status, answers, avoids, answered, without}
 use Rattle.promises.proofs.Dead.{seen, command, rule, instruction, tests, sought, unguarded, not-missing, without-missing, without-conflict, is-missing, is-conflict}
 
 -- ---- what the owner's read tells
@@ -61,14 +64,14 @@ read-row : (rows : List Row) (clock : ℕ) (k : Key) (o : Option Doc) → readLi
 read-row rows clock k none = sym (shown-none clock)
 read-row rows clock k (some d) = shown-live rows clock k d
 
-read-live : (b : List ℕ) (clock : ℕ) (k : Key) → sound b ≡ true → readLive (readOf b clock k) ≡ live (storedOf (docAt b k)) clock
+read-live : (b : List ℕ) (clock : ℕ) (k : Key) → sound b ≡ true → readLive (readOf b clock k) ≡ live (storedOf (docAt b k)) (clockAt (tableOf b) clock)
 unfolding readOf
-read-live b clock k e = rw e (read-row (tableOf b .rows) clock k (docAt b k))
+read-live b clock k e = rw e (read-row (tableOf b .rows) (clockAt (tableOf b) clock) k (docAt b k))
 
 -- ---- what a frame's status tells
 module _ (b : List ℕ) (clock : ℕ) (s : List ℕ) where
   abbrev lives : Bool
-  lives = live (storedOf (docAt b (keyIn s))) clock
+  lives = live (storedOf (docAt b (keyIn s))) (clockAt (tableOf b) clock)
 
   found : lives ≡ true → tests b clock s .missing ≡ false
   unfolding testsOf
@@ -123,11 +126,11 @@ one-liveness b clock s room n r e (len, a) =
 
 pub live-is-found : LiveIsFound
 live-is-found b clock s room d r at l e =
-    let t : lives b clock s ≡ true = rw at (alive clock d l) in
+    let t : lives b clock s ≡ true = rw at (alive-at b clock d l) in
     (avoids b clock s room 0x01 (without-missing b clock s (found b clock s t)), read-live b clock (keyIn s) (r .undamaged) ∙ t)
 
 -- ---- with-meta
-module _ (b : List ℕ) (clock : ℕ) (s : List ℕ) (d : Doc) (at : docAt b (keyIn s) ≡ some d) (n : NotLive clock (some d)) (c : headerCas s ≡ 0)
+module _ (b : List ℕ) (clock : ℕ) (s : List ℕ) (d : Doc) (at : docAt b (keyIn s) ≡ some d) (n : NotLive (laterAt b clock) (some d)) (c : headerCas s ≡ 0)
     (k : MetaKind) (asks : command b clock s ≡ metaCommand k (withMeta (extrasIn s)))
     (unforced : eqb (withMeta (extrasIn s) .options % 2) 1 ≡ false) (unskipped : eqb (withMeta (extrasIn s) .options / 8 % 2) 1 ≡ false) where
   abbrev wins : Bool
@@ -142,7 +145,7 @@ module _ (b : List ℕ) (clock : ℕ) (s : List ℕ) (d : Doc) (at : docAt b (ke
   beaten = rw (asks, unforced, unskipped, at)
 
   unfound : lives b clock s ≡ false
-  unfound = rw at (dead clock (some d) n)
+  unfound = rw at (dead-at b clock (some d) n)
 
   compared : tests b clock s .conflict ≡ not wins
   unfolding testsOf
@@ -169,24 +172,47 @@ module _ (c : Context) where
       by-cond Kept (eqb (statusBy c i (ruleOf c (i .command))) 0) _ _
       (λ t. subst (λ (y : Command). Kept (doneOf c y)) (sym e) k) (λ t. (refl, refl))
 
-module _ (b : List ℕ) (clock : ℕ) (s : List ℕ) (x : Command) (asks : command b clock s ≡ x) (k : Kept (seen b clock s) (doneOf (seen b clock s) x)) where
-  frame-kept : (frameEffect (tableOf b) clock s (headerOf s) .store ≡ none) × (frameEffect (tableOf b) clock s (headerOf s) .head ≡ tableOf b .head)
+-- a frame that asks for one, on any table
+module _ (t : Table) (clock : ℕ) (s : List ℕ) where
+  abbrev sees : Context
+  sees = contextOn t clock (findRow (t .rows) (keyIn s))
+
+  frame-kept : (x : Command) → requestOf s (headerOf s) .command ≡ x → Kept sees (doneOf sees x)
+      → (frameEffect t clock s (headerOf s) .store ≡ none) × (frameEffect t clock s (headerOf s) .head ≡ t .head)
   unfolding frameEffect decisionOn
-  frame-kept =
-      let (none-stored, same-head) = kept (seen b clock s) (instruction b clock s) x asks k in
+  frame-kept x asks k =
+      let (none-stored, same-head) = kept sees (instructionOf (requestOf s (headerOf s))) x asks k in
       cases (reachesDecision (frameStatus s (headerOf s))) (λ t. rw t (rw none-stored refl, same-head)) (λ t. rw t (refl, refl))
 
-  kept-by : (room : ℕ) → Bytes b → (g : Gate) → gateAll b room s ≡ g → tableBy b clock s g ≡ b
+  -- so do a Get of any form, Noop, Version and Get Keys
+  abbrev Reads : ℕ → Type 0
+  Reads n = Kept sees (doneOf sees (ask sees (extrasIn s) n))
+
+  pub read-only-keeps : among (opcode s) readOnly ≡ true → frameEffect t clock s (headerOf s) .store ≡ none
+  unfolding shapeOf commandOf doneOf requestOf
+  read-only-keeps e =
+      let all : Each Reads readOnly =
+      ((refl, refl), ((refl, refl), ((refl, refl), ((refl, refl), ((refl, refl), ((refl, refl), ((refl, refl), tt))))))) in
+      frame-kept (ask sees (extrasIn s) (opcode s)) refl (at-opcode Reads (opcode s) readOnly all e) .0
+
+module _ (b : List ℕ) (clock : ℕ) (s : List ℕ) (x : Command) (asks : command b clock s ≡ x) (k : Kept (seen b clock s) (doneOf (seen b clock s) x)) where
+  abbrev t : Table
+  t = tableAt (tableOf b) clock
+
+  abbrev now : ℕ
+  now = clockAt (tableOf b) clock
+
+  kept-by : (room : ℕ) → Bytes b → (g : Gate) → gateAll b room s ≡ g → tableBy b clock s g ≡ keptBy (answerBy b clock s g) b clock
   unfolding frameTable
   kept-by room y (Stop n need) o = refl
   kept-by room y (Whole h) o =
       let w = was-open b s room h o in
-      let same = frame-kept in
+      let same = frame-kept t now s x asks k in
       ap (λ (x : Header). frameTable b clock s x) (sym (w .frame .header))
-      ∙ ap tableBytes (unchanged (tableOf b) clock s (headerOf s) (same .0) (same .1)) ∙ sound-good b y (w .undamaged) .0
+      ∙ ap tableBytes (unchanged t now s (headerOf s) (same .0) (same .1)) ∙ raised-bytes b clock y (w .undamaged)
 
-  pub keeps : (room : ℕ) → Bytes b → servedTable b clock s room ≡ b
-  unfolding servedTable
+  pub keeps : (room : ℕ) → Bytes b → servedTable b clock s room ≡ keptBy (served b clock s room) b clock
+  unfolding served servedTable
   keeps room y = kept-by room y (gateAll b room s) refl
 
 got : (c : Context) (k : Bool) → Kept c (doneOf c (Get k))

@@ -11,6 +11,8 @@ use Rattle.octets.proofs.Choices.{cases, neither}
 use Rattle.shape.specs.declared.Shape.{Shape}
 use Rattle.shape.specs.Shapes.{commands, unbuilt, among, shapeBy, lookUp, shapeOf, Command as Known}
 use Rattle.with_meta.specs.WithMeta.{withMeta}
+use Rattle.commands.specs.declared.Kind.{Kind}
+use Rattle.commands.specs.declared.Kind.the-variants.{Set, Add, Replace}
 use Rattle.commands.specs.declared.MetaKind.{MetaKind}
 use Rattle.commands.specs.declared.MetaKind.the-variants.{Set as SetMeta, Add as AddMeta, Delete as DeleteMeta}
 use Rattle.commands.specs.declared.Command.{Command}
@@ -115,6 +117,16 @@ module _ (c : Context) (extras : List ℕ) where
   pub writes : (n : ℕ) → among n (sets ++ adds) ≡ true → Writes n
   unfolding shapeOf commandOf ruleOf plainOf
   writes n e = at-opcode Writes n (sets ++ adds) ((refl, refl), ((refl, refl), ((refl, refl), ((refl, refl), tt)))) e
+
+  -- a Set, an Add or a Replace
+  abbrev Stores : ℕ → Type 0
+  Stores n = (k : Kind) × (ask n ≡ Write (record { kind = k; flags = num extras 0 4; expiry = num extras 4 4 }))
+
+  pub stores : (n : ℕ) → among n (sets ++ (adds ++ replaces)) ≡ true → Stores n
+  unfolding shapeOf commandOf plainOf
+  stores n e =
+      at-opcode Stores n (sets ++ (adds ++ replaces))
+      ((Set, refl), ((Set, refl), ((Add, refl), ((Add, refl), ((Replace, refl), ((Replace, refl), tt)))))) e
 
   -- an Add is refused on a live document
   abbrev Adds : ℕ → Type 0

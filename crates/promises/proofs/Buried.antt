@@ -1,5 +1,5 @@
 -- A frame for an expired document's key is answered, and leaves every other row, as on the undamaged table with the tombstone of its revision and CAS.
-use Prim.Native.Nat.{ℕ, _+_, _≤_, _<_}
+use Prim.Native.Nat.{ℕ, _+_, _^_, _≤_, _<_}
 use native.Mathlib.Omega.{arith}
 use mathlib.Core.Path.{_≡_, refl, sym, ap, subst, _∙_}
 use mathlib.Core.Bool.{Bool, true, false, cond, not}
@@ -28,7 +28,7 @@ use Rattle.decision.specs.Decide.{Effect, effectOf, contextOf, instructionOf}
 use Rattle.decode.specs.Decode.{requestOf}
 use Rattle.engine.specs.Engine.{Room, isSome, storeRow}
 use Rattle.rows.specs.Row.{Row}
-use Rattle.rows.specs.Table.{Table, tableOf, tableBytes}
+use Rattle.rows.specs.Table.{Table, tableOf, tableAt, clockAt, tableBytes}
 use Rattle.rows.specs.Find.{findRow, freeRows}
 use Rattle.rows.specs.Good.{EntryGood, AllGood}
 use Rattle.plain.specs.Plain.{plain, replace, putRow}
@@ -40,13 +40,16 @@ use Rattle.plain.proofs.TableLaws.{sound-good, good-sound}
 use Rattle.serving.specs.declared.Served.{Served}
 use Rattle.serving.specs.declared.Served.the-variants.{Done}
 use Rattle.serving.specs.Reply.{replyShows, replyBytes}
-use Rattle.serving.specs.Serve.{reachesDecision, decisionOn, frameEffect, tableChanged, frameChange, frameTable, frameReply, gateAll, answerBy, tableBy, replyBy, served, servedTable, servedReply}
+use Rattle.serving.specs.Serve.{reachesDecision, decisionOn, frameEffect, effectAt, tableChanged, frameChange, frameTable, frameReply}
+use Rattle.serving.specs.Serve.{gateAll, answerBy, tableBy, replyBy, served, servedTable, servedReply}
 use Rattle.serving.proofs.Change.{changing, unchanged}
 use Rattle.serving.proofs.Gated.{was-open}
 use Rattle.promises.specs.Merge.{docAt}
+use Rattle.promises.specs.Kept.{laterAt, clockRaised, keptBy}
 use Rattle.promises.specs.Expiry.{opcode, extrasIn, keyIn, withMetas, Expired, tombstoneOf, buried, AsBuried, ExpiredIsDead}
+use Rattle.promises.proofs.Kept.{raised-good, raised-bytes, good-later, kept-docs}
 use Rattle.promises.proofs.Asks.{plain-asked, IsPlain}
-use Rattle.promises.proofs.Liveness.{dead}
+use Rattle.promises.proofs.Liveness.{dead, dead-at}
 use Rattle.promises.proofs.Alike.{Blind, blind-reply, put-dead, same-decision}
 
 -- ---- rows
@@ -74,26 +77,40 @@ replaced-twice (some x ∷ ws) k a d =
 put-twice : (ws : List Row) (k : Key) (a d e : Doc) → findRow ws k ≡ some e → findRow (putRow ws k a) k ≡ some a → putRow (putRow ws k a) k d ≡ putRow ws k d
 put-twice ws k a d e f g = rw (g, f) (replaced-twice ws k a d)
 
-module _ (b : List ℕ) (clock : ℕ) (s : List ℕ) (d : Doc) (y : Bytes b) (z : Bytes s) (undamaged : sound b ≡ true) (there : docAt b (keyIn s) ≡ some d)
-    (past : Expired clock d) (plain-op : among (opcode s) withMetas ≡ false) where
+module _ (b : List ℕ) (clock : ℕ) (s : List ℕ) (d : Doc) (y : Bytes b) (z : Bytes s) (small : clock < 2 ^ 32) (undamaged : sound b ≡ true) (there : docAt b (keyIn s) ≡ some d)
+    (past : Expired (laterAt b clock) d) (plain-op : among (opcode s) withMetas ≡ false) where
   abbrev h : Header
   h = headerOf s
 
   abbrev k : Key
   k = keyIn s
 
-  abbrev t : Table
-  t = tableOf b
+  -- the table, and at the call's clock
+  abbrev t₀ : Table
+  t₀ = tableOf b
 
-  -- the table with the tombstone, and its memory
+  abbrev t : Table
+  t = tableAt t₀ clock
+
+  -- the later clock
+  abbrev c : ℕ
+  c = clockAt t₀ clock
+
+  -- the table with the tombstone, at the call's clock, and its memory
+  abbrev u₀ : Table
+  u₀ = record { head = t₀ .head; rows = putRow (t₀ .rows) k (tombstoneOf d) }
+
   abbrev u : Table
-  u = record { head = t .head; rows = putRow (t .rows) k (tombstoneOf d) }
+  u = tableAt u₀ clock
 
   abbrev grave : List ℕ
   grave = buried b k d
 
+  good₀ : Good t₀
+  good₀ = sound-good b y undamaged .1
+
   good : Good t
-  good = sound-good b y undamaged .1
+  good = good-later b clock y undamaged small
 
   room : Room plain (t .rows) k
   room e = none-some d (sym e ∙ there)
@@ -113,14 +130,14 @@ module _ (b : List ℕ) (clock : ℕ) (s : List ℕ) (d : Doc) (y : Bytes b) (z 
         cas-most = g .cas-most;
       }
 
-  good-grave : Good u
-  good-grave = put-good t k (tombstoneOf d) good entry room
+  good-grave : Good u₀
+  good-grave = put-good t₀ k (tombstoneOf d) good₀ entry room
 
   grave-sound : sound grave ≡ true
-  grave-sound = good-sound u good-grave .0
+  grave-sound = good-sound u₀ good-grave .0
 
-  grave-table : tableOf grave ≡ u
-  grave-table = good-sound u good-grave .1
+  grave-table : tableOf grave ≡ u₀
+  grave-table = good-sound u₀ good-grave .1
 
   grave-found : findRow (u .rows) k ≡ some (tombstoneOf d)
   grave-found = plain-laws .find-put (t .rows) k (tombstoneOf d) (good .keys) room k ∙ rw (same-refl k)
@@ -136,29 +153,29 @@ module _ (b : List ℕ) (clock : ℕ) (s : List ℕ) (d : Doc) (y : Bytes b) (z 
   unfolding requestOf
   plain-command = plain-asked (opcode s) (extrasIn s) plain-op
 
-  dead-row : live (storedOf (some d)) clock ≡ false
-  dead-row = dead clock (some d) (inr past)
+  dead-row : live (storedOf (some d)) c ≡ false
+  dead-row = dead-at b clock (some d) (inr past)
 
-  dead-grave : live (storedOf (some (tombstoneOf d))) clock ≡ false
-  dead-grave = dead clock (some (tombstoneOf d)) (inl refl)
+  dead-grave : live (storedOf (some (tombstoneOf d))) c ≡ false
+  dead-grave = dead c (some (tombstoneOf d)) (inl refl)
 
   -- the decision where the key has this document and so many rows are free
   abbrev with : Option Doc → ℕ → Decision
-  with o free = decision (contextOf (t .head) o (ltb 0 free) clock) (instructionOf (requestOf s h))
+  with o free = decision (contextOf (t .head) o (ltb 0 free) c) (instructionOf (requestOf s h))
 
   rows-alike : Same (with (findRow (t .rows) k) (freeRows (t .rows))) (with (findRow (u .rows) k) (freeRows (u .rows)))
   rows-alike =
-      let alike = same-decision (t .head) (ltb 0 (freeRows (t .rows))) clock (metadataOf d) (metadataOf (tombstoneOf d)) (numberOf (d .value)) (numberOf [])
+      let alike = same-decision (t .head) (ltb 0 (freeRows (t .rows))) c (metadataOf d) (metadataOf (tombstoneOf d)) (numberOf (d .value)) (numberOf [])
       dead-row dead-grave refl refl (instructionOf (requestOf s h)) plain-command in
       let e : with (findRow (t .rows) k) (freeRows (t .rows)) ≡ with (some d) (freeRows (t .rows)) = λ j. with (there j) (freeRows (t .rows)) in
       let f : with (findRow (u .rows) k) (freeRows (u .rows)) ≡ with (some (tombstoneOf d)) (freeRows (t .rows)) = λ j. with (grave-found j) (grave-free j) in
       (e ∙ alike .0 ∙ sym f, subst (λ (x : Decision). Blind (x .done .reply)) (sym e) (alike .1))
 
-  decided : Same (decisionOn t clock s h) (decisionOn u clock s h)
+  decided : Same (decisionOn t c s h) (decisionOn u c s h)
   unfolding decisionOn
   decided = cases (reachesDecision (frameStatus s h)) (λ r. rw r rows-alike) (λ r. rw r (refl, tt))
 
-  effects : frameEffect t clock s h ≡ frameEffect u clock s h
+  effects : frameEffect t c s h ≡ frameEffect u c s h
   unfolding frameEffect
   effects = ap (effectOf (requestOf s h)) (decided .0)
 
@@ -166,28 +183,33 @@ module _ (b : List ℕ) (clock : ℕ) (s : List ℕ) (d : Doc) (y : Bytes b) (z 
   replies : frameReply b clock s h ≡ frameReply grave clock s h
   unfolding frameReply
   replies =
-      let keys = put-dead clock (t .rows) k d (tombstoneOf d) there dead-row dead-grave in
-      let shown : List Row → Decision → List ℕ = λ rows x. replyBytes (h .opcode) (h .opaque) x k (replyShows (x .done .reply) rows clock k) in
-      blind-reply (t .rows) (u .rows) clock k keys (h .opcode) (h .opaque) (decisionOn t clock s h) (decided .1)
-      ∙ ap (shown (u .rows)) (decided .0)
-      ∙ ap (λ (x : Table). shown (x .rows) (decisionOn x clock s h)) (sym grave-table)
+      let keys = put-dead c (t .rows) k d (tombstoneOf d) there dead-row dead-grave in
+      let shown : Table → Decision → List ℕ = λ v x. replyBytes (h .opcode) (h .opaque) x k (replyShows (x .done .reply) (v .rows) (clockAt v clock) k) in
+      blind-reply (t .rows) (u .rows) c k keys (h .opcode) (h .opaque) (decisionOn t c s h) (decided .1)
+      ∙ ap (shown u₀) (decided .0)
+      ∙ ap (λ (v : Table). shown v (decisionOn (tableAt v clock) (clockAt v clock) s h)) (sym grave-table)
 
   module _ (inside : 24 + h .body ≤ length s) where
     abbrev Ends : Type 0
-    Ends = (frameTable b clock s h ≡ frameTable grave clock s h) ⊎ ((frameTable b clock s h ≡ b) × (frameTable grave clock s h ≡ grave))
+    Ends = (frameTable b clock s h ≡ frameTable grave clock s h)
+        ⊎ ((frameTable b clock s h ≡ clockRaised b clock) × (frameTable grave clock s h ≡ clockRaised grave clock))
+
+    -- a frame on the table with the tombstone
+    abbrev changed : Table → Table
+    changed v = frameChange (tableAt v clock) (clockAt v clock) s h
 
     abbrev effect : Effect
-    effect = frameEffect t clock s h
+    effect = frameEffect t c s h
 
-    -- nothing stored: both stay
+    -- nothing stored: both stay, but for the kept clock
     stay : effect .store ≡ none → Ends
     unfolding frameTable
     stay e =
-        let head = changing t clock s h good z inside .keeps e in
-        let kept = ap tableBytes (unchanged t clock s h e head) ∙ sound-good b y undamaged .0 in
+        let head = changing t c s h good z inside .keeps e in
+        let kept = ap tableBytes (unchanged t c s h e head) ∙ raised-bytes b clock y undamaged in
         let at = ap (λ (x : Effect). x .store) (sym effects) ∙ e in
         let top = ap (λ (x : Effect). x .head) (sym effects) ∙ head in
-        inr (kept, ap (λ (x : Table). tableBytes (frameChange x clock s h)) grave-table ∙ ap tableBytes (unchanged u clock s h at top))
+        inr (kept, ap (λ (v : Table). tableBytes (changed v)) grave-table ∙ ap tableBytes (unchanged u c s h at top) ∙ raised-good u₀ good-grave clock)
 
     -- the table with these rows and the new head
     abbrev withRows : List Row → Table
@@ -200,7 +222,7 @@ module _ (b : List ℕ) (clock : ℕ) (s : List ℕ) (d : Doc) (y : Bytes b) (z 
         let rows = put-twice (t .rows) k (tombstoneOf d) e d there grave-found in
         let mine = ap (λ (o : Option Doc). withRows (storeRow plain (t .rows) k o)) stores in
         let its = ap (λ (x : Effect). tableChanged u k x) (sym effects) ∙ ap (λ (o : Option Doc). withRows (storeRow plain (u .rows) k o)) stores in
-        inl (ap tableBytes (mine ∙ ap withRows (sym rows) ∙ sym its) ∙ ap (λ (x : Table). tableBytes (frameChange x clock s h)) (sym grave-table))
+        inl (ap tableBytes (mine ∙ ap withRows (sym rows) ∙ sym its) ∙ ap (λ (v : Table). tableBytes (changed v)) (sym grave-table))
 
     ends : Ends
     ends = options (effect .store) stay written-over
@@ -210,14 +232,18 @@ module _ (b : List ℕ) (clock : ℕ) (s : List ℕ) (d : Doc) (y : Bytes b) (z 
   unfolding gateAll
   gates n = rw (undamaged, grave-sound)
 
-  statuses-alike : frameEffect (tableOf b) clock s h .status ≡ frameEffect (tableOf grave) clock s h .status
-  statuses-alike = ap (λ (x : Effect). x .status) effects ∙ ap (λ (x : Table). frameEffect x clock s h .status) (sym grave-table)
+  statuses-alike : effectAt b clock s h .status ≡ effectAt grave clock s h .status
+  statuses-alike = ap (λ (x : Effect). x .status) effects ∙ ap (λ (v : Table). frameEffect (tableAt v clock) (clockAt v clock) s h .status) (sym grave-table)
 
   module _ (out : List ℕ) where
+    -- what an answer leaves where nothing is stored
+    abbrev Keeps : List ℕ → Gate → Type 0
+    Keeps m g = tableBy m clock s g ≡ keptBy (answerBy m clock s g) m clock
+
     abbrev By : Gate → Type 0
     By g = (answerBy b clock s g ≡ answerBy grave clock s g)
         × ((replyBy b clock s out g ≡ replyBy grave clock s out g)
-        × ((tableBy b clock s g ≡ tableBy grave clock s g) ⊎ ((tableBy b clock s g ≡ b) × (tableBy grave clock s g ≡ grave))))
+        × ((tableBy b clock s g ≡ tableBy grave clock s g) ⊎ (Keeps b g × Keeps grave g)))
 
     whole : 24 + h .body ≤ length s → By (Whole h)
     whole inside = (
@@ -238,22 +264,31 @@ module _ (b : List ℕ) (clock : ℕ) (s : List ℕ) (d : Doc) (y : Bytes b) (z 
     n = length out
 
     abbrev EndsServed : Type 0
-    EndsServed = (servedTable b clock s n ≡ servedTable grave clock s n) ⊎ ((servedTable b clock s n ≡ b) × (servedTable grave clock s n ≡ grave))
+    EndsServed = (servedTable b clock s n ≡ servedTable grave clock s n)
+        ⊎ ((servedTable b clock s n ≡ keptBy (served b clock s n) b clock) × (servedTable grave clock s n ≡ keptBy (served grave clock s n) grave clock))
 
     tables : EndsServed
-    unfolding servedTable
+    unfolding served servedTable
     tables =
         let gate = ap (tableBy grave clock s) (gates n) in
-        ⊎-elim (λ e. inl (e ∙ gate)) (λ e. inr (e .0, sym gate ∙ e .1)) (now .1 .1)
+        ⊎-elim (λ e. inl (e ∙ gate)) (λ e. inr (e .0, subst (Keeps grave) (gates n) (e .1))) (now .1 .1)
 
     -- another key has in both tables what it had
     apart : (j : Key) → same k j ≡ false → docAt b j ≡ docAt grave j
     apart j f =
         sym (ap (λ (x : Table). findRow (x .rows) j) grave-table ∙ plain-laws .find-put (t .rows) k (tombstoneOf d) (good .keys) room j ∙ rw f)
 
+    -- and the kept clock's bytes show none of it
+    kept-here : (a : Served) (j : Key) → docAt (keptBy a b clock) j ≡ docAt b j
+    kept-here a j =
+        let back = sound-good b y undamaged .0 in
+        subst (λ (m : List ℕ). docAt (keptBy a m clock) j ≡ docAt m j) back (kept-docs t₀ good₀ clock a small j)
+
     others-by : EndsServed → (j : Key) → same k j ≡ false → docAt (servedTable b clock s n) j ≡ docAt (servedTable grave clock s n) j
     others-by (inl e) j f = ap (λ (m : List ℕ). docAt m j) e
-    others-by (inr e) j f = ap (λ (m : List ℕ). docAt m j) (e .0) ∙ apart j f ∙ ap (λ (m : List ℕ). docAt m j) (sym (e .1))
+    others-by (inr e) j f =
+        ap (λ (m : List ℕ). docAt m j) (e .0) ∙ kept-here (served b clock s n) j ∙ apart j f
+        ∙ sym (kept-docs u₀ good-grave clock (served grave clock s n) small j) ∙ ap (λ (m : List ℕ). docAt m j) (sym (e .1))
 
     as-buried : AsBuried b grave clock s out
     unfolding served servedReply
@@ -266,4 +301,4 @@ module _ (b : List ℕ) (clock : ℕ) (s : List ℕ) (d : Doc) (y : Bytes b) (z 
     }
 
 pub expired-is-dead : ExpiredIsDead
-expired-is-dead b clock s out d y z undamaged there past plain-op = as-buried b clock s d y z undamaged there past plain-op out
+expired-is-dead b clock s out d y z small undamaged there past plain-op = as-buried b clock s d y z small undamaged there past plain-op out

@@ -1,58 +1,88 @@
--- A counter for a key without a live document begins at its initial number, and goes on with a live one.
-use Prim.Native.Nat.{ℕ}
-use mathlib.Core.Path.{_≡_, refl, sym, ap, _∙_}
+-- A counter for a key without a live document begins at its initial number, and goes on with a live one; what a plain write stores expires by the plain rule.
+use Prim.Native.Nat.{ℕ, _+_, _^_, _≤_, _<_}
+use mathlib.Core.Path.{_≡_, refl, sym, ap, subst, _∙_}
 use mathlib.Core.Bool.{Bool, true, false, cond}
 use mathlib.Core.List.{List}
 use mathlib.Core.Option.{Option, none, some}
 use native.Mathlib.Omega.{arith}
 use lib.Dec.{eqb}
-use borrow.Author.Tests.{eq-eqb, ne-eqb}
+use borrow.Author.Tests.{eq-eqb, ne-eqb, le-leb, ltb-false, le-ltb, lt-ltb}
 use Rattle.octets.specs.Parts.{Bytes}
 use Rattle.octets.specs.BigEndian.{num}
 use Rattle.octets.proofs.Choices.{cases}
 use Rattle.octets.proofs.Tests.{same-refl}
 use Rattle.digits.specs.Decimal.{digits}
-use Rattle.numbers.specs.Expiry.{absolute}
+use Rattle.numbers.specs.Expiry.{passes, absolute}
 use Rattle.document.specs.Documents.{Doc}
 use Rattle.document.specs.Stored.{live, numbersOf}
 use Rattle.header.specs.Header.{headerOf}
 use Rattle.request.specs.declared.Gate.the-variants.{Whole}
 use Rattle.request.specs.Reading.{frameStatus}
+use Rattle.commands.specs.declared.Kind.{Kind}
 use Rattle.commands.specs.declared.Counter.{Counter}
-use Rattle.commands.specs.declared.Command.the-variants.{Count}
-use Rattle.commands.specs.Rules.{ruleOf}
+use Rattle.commands.specs.declared.Command.the-variants.{Write, Count}
+use Rattle.commands.specs.Rules.{ruleOf, testsOf}
 use Rattle.effects.specs.Done.{doneOf, plainNumbers, sum}
 use Rattle.decision.specs.Decision.{decision}
 use Rattle.decision.specs.Decide.{docFrom, bytesFrom}
 use Rattle.decode.specs.Decode.{requestOf}
 use Rattle.engine.specs.Engine.{storeRow}
-use Rattle.rows.specs.Table.{Table, tableOf}
+use Rattle.rows.specs.Table.{Table, tableOf, tableAt, clockAt}
 use Rattle.rows.specs.Find.{findRow}
 use Rattle.plain.specs.Plain.{plain}
 use Rattle.plain.proofs.PlainLaws.{plain-laws}
-use Rattle.plain.proofs.TableLaws.{sound-good, good-sound}
+use Rattle.plain.proofs.TableLaws.{good-sound}
 use Rattle.serving.specs.Serve.{reachesDecision, decisionOn, frameEffect, frameChange, frameTable, gateAll, tableBy, servedTable}
 use Rattle.serving.proofs.Change.{changing, change-good}
 use Rattle.serving.proofs.Formed.{no}
 use Rattle.serving.proofs.Gated.{was-open}
 use Rattle.serving.proofs.Statuses.{statuses-in-order}
 use Rattle.promises.specs.Merge.{docAt}
-use Rattle.promises.specs.Expiry.{opcode, extrasIn, keyIn, initialIn, counterExpiry, NotLive, Live, BeginsAt, Answers, DeadCounts, LiveCounts}
-use Rattle.promises.proofs.Asks.{counts}
-use Rattle.promises.proofs.Liveness.{dead, alive, avoids, answered, was-whole}
-use Rattle.promises.proofs.Dead.{seen, command, count-needs, without-missing, without-conflict, without-number, not-missing, no-conflict, no-number}
+use Rattle.promises.specs.Kept.{laterAt}
+use Rattle.promises.specs.Expiry.{opcode, extrasIn, keyIn, initialIn, counterExpiry, NotLive, Live, PlainExpiry, BeginsAt, Answers, DeadCounts, LiveCounts, writtenExpiry, WritesUntil}
+use Rattle.promises.proofs.Kept.{good-later, later-clock}
+use Rattle.promises.proofs.Asks.{stores, counts}
+use Rattle.promises.proofs.Liveness.{all-pass, dead-at, alive-at, avoids, answered, was-whole}
+use Rattle.promises.proofs.Dead.{seen, command, rule, list, count-needs, without-missing, without-conflict, without-number, not-missing, no-conflict, no-number}
+
+-- ---- the plain rule
+plain-expiry : (given clock : ℕ) → passes given clock ≡ false → PlainExpiry given clock (absolute given clock)
+unfolding passes absolute
+plain-expiry given clock e =
+    record {
+      never = λ z. rw z;
+      added = λ l m.
+          let inside : given + clock ≤ 0xffffffff = ltb-false 0xffffffff (given + clock) (rw (le-leb 1 given l, le-leb given 2592000 m) at e) in
+          let nonzero : given ≡ 0 → ⊥ = λ z. omega arith in
+          (omega arith, rw (ne-eqb given 0 nonzero, le-ltb 2592000 given m) (omega arith));
+      absolute = λ g. let nonzero : given ≡ 0 → ⊥ = λ z. omega arith in rw (ne-eqb given 0 nonzero, lt-ltb 2592000 given g);
+    }
+
+-- at the later of the kept clock and a call's
+until-later : (b : List ℕ) (clock given : ℕ) → passes given (clockAt (tableOf b) clock) ≡ false
+    → PlainExpiry given (laterAt b clock) (absolute given (clockAt (tableOf b) clock))
+until-later b clock given e =
+    subst (λ (c : ℕ). PlainExpiry given c (absolute given (clockAt (tableOf b) clock))) (later-clock b clock) (plain-expiry given (clockAt (tableOf b) clock) e)
+
+-- a frame with status 0 breaks no rule that needs mode or clock
+faultless : (b : List ℕ) (clock : ℕ) (s : List ℕ) (room : ℕ) → Answers b clock s room 0 → rule b clock s .fault ≡ false
+unfolding testsOf
+faultless b clock s room (len, e) =
+    let p = all-pass (list b clock s) (refl, (refl, (refl, (refl, (refl, (refl, (refl, (refl, (refl, (refl, (refl, (refl, tt)))))))))))) (answered b clock s room 0 _ len e) in
+    p .1 .1 .1 .1 .0
 
 -- what a served frame stores is what its key has then
-pub stored-at : (b : List ℕ) (clock : ℕ) (s : List ℕ) (room : ℕ) (d : Doc) → Bytes b → Bytes s → gateAll b room s ≡ Whole (headerOf s)
-    → frameEffect (tableOf b) clock s (headerOf s) .store ≡ some d → docAt (servedTable b clock s room) (keyIn s) ≡ some d
+pub stored-at : (b : List ℕ) (clock : ℕ) (s : List ℕ) (room : ℕ) (d : Doc) → Bytes b → Bytes s → clock < 2 ^ 32 → gateAll b room s ≡ Whole (headerOf s)
+    → frameEffect (tableAt (tableOf b) clock) (clockAt (tableOf b) clock) s (headerOf s) .store ≡ some d → docAt (servedTable b clock s room) (keyIn s) ≡ some d
 unfolding servedTable frameTable
-stored-at b clock s room d y z o e =
-    let t = tableOf b in
+stored-at b clock s room d y z c o e =
+    let t = tableAt (tableOf b) clock in
+    let now = clockAt (tableOf b) clock in
     let h = headerOf s in
     let w = was-open b s room h o in
-    let g = sound-good b y (w .undamaged) .1 in
-    let after = good-sound (frameChange t clock s h) (change-good t clock s h g z (w .frame .inside)) .1 in
-    let storing = changing t clock s h g z (w .frame .inside) .stores d e in
+    let g = good-later b clock y (w .undamaged) c in
+    let after = good-sound (frameChange t now s h) (change-good t now s h g z (w .frame .inside)) .1 in
+    let storing = changing t now s h g z (w .frame .inside) .stores d e in
     ap (λ (m : List ℕ). docAt m (keyIn s)) (ap (tableBy b clock s) o)
     ∙ ap (λ (x : Table). findRow (x .rows) (keyIn s)) after
     ∙ ap (λ (x : Option Doc). findRow (storeRow plain (t .rows) (keyIn s) x) (keyIn s)) e
@@ -63,20 +93,20 @@ stored-at b clock s room d y z o e =
 module _ (b : List ℕ) (clock : ℕ) (s : List ℕ) (room : ℕ) (d : Doc)
     (does : docFrom (doneOf (seen b clock s) (command b clock s) .store)
     (bytesFrom (doneOf (seen b clock s) (command b clock s) .source) (requestOf s (headerOf s) .value)) ≡ some d) where
-  reached : reachesDecision (frameStatus s (headerOf s)) ≡ true → decisionOn (tableOf b) clock s (headerOf s) .status ≡ 0
-      → frameEffect (tableOf b) clock s (headerOf s) .store ≡ some d
+  reached : reachesDecision (frameStatus s (headerOf s)) ≡ true → decisionOn (tableAt (tableOf b) clock) (clockAt (tableOf b) clock) s (headerOf s) .status ≡ 0
+      → frameEffect (tableAt (tableOf b) clock) (clockAt (tableOf b) clock) s (headerOf s) .store ≡ some d
   unfolding frameEffect decisionOn decision
   reached r e = rw (r, eq-eqb _ 0 (rw r at e)) does
 
-  unreached : reachesDecision (frameStatus s (headerOf s)) ≡ false → decisionOn (tableOf b) clock s (headerOf s) .status ≡ 0 → ⊥
+  unreached : reachesDecision (frameStatus s (headerOf s)) ≡ false → decisionOn (tableAt (tableOf b) clock) (clockAt (tableOf b) clock) s (headerOf s) .status ≡ 0 → ⊥
   unfolding decisionOn
   unreached r e = no (sym r ∙ ap reachesDecision (rw r at e))
 
-  pub done-at : Bytes b → Bytes s → Answers b clock s room 0 → docAt (servedTable b clock s room) (keyIn s) ≡ some d
-  done-at y z (len, e) =
-      let zero = sym (statuses-in-order (tableOf b) clock s (headerOf s)) ∙ answered b clock s room 0 _ len e in
+  pub done-at : Bytes b → Bytes s → clock < 2 ^ 32 → Answers b clock s room 0 → docAt (servedTable b clock s room) (keyIn s) ≡ some d
+  done-at y z c (len, e) =
+      let zero = sym (statuses-in-order (tableAt (tableOf b) clock) (clockAt (tableOf b) clock) s (headerOf s)) ∙ answered b clock s room 0 _ len e in
       let stored = cases (reachesDecision (frameStatus s (headerOf s))) (λ r. reached r zero) (λ r. absurd (unreached r zero)) in
-      stored-at b clock s room d y z (was-whole b clock s room 0 _ len e) stored
+      stored-at b clock s room d y z c (was-whole b clock s room 0 _ len e) stored
 
 module _ (b : List ℕ) (clock : ℕ) (s : List ℕ) (room : ℕ) (up : Bool)
     (asks : command b clock s ≡ Count (record { up = up; delta = num (extrasIn s) 0 8; initial = initialIn s; expiry = counterExpiry s })) where
@@ -91,33 +121,61 @@ module _ (b : List ℕ) (clock : ℕ) (s : List ℕ) (room : ℕ) (up : Bool)
   does = docFrom (doneOf (seen b clock s) (command b clock s) .store)
       (bytesFrom (doneOf (seen b clock s) (command b clock s) .source) (requestOf s (headerOf s) .value))
 
-  begins : NotLive clock (docAt b (keyIn s)) → does ≡ some (counting (initialIn s) 0 (absolute (counterExpiry s) clock))
+  begins : NotLive (laterAt b clock) (docAt b (keyIn s)) → does ≡ some (counting (initialIn s) 0 (absolute (counterExpiry s) (clockAt (tableOf b) clock)))
   unfolding doneOf
-  begins n = rw (asks, dead clock (docAt b (keyIn s)) n)
+  begins n = rw (asks, dead-at b clock (docAt b (keyIn s)) n)
 
-  goes-on : (d : Doc) → docAt b (keyIn s) ≡ some d → Live clock d
+  goes-on : (d : Doc) → docAt b (keyIn s) ≡ some d → Live (laterAt b clock) d
       → does ≡ some (counting (sum (seen b clock s .number) counter) (numbersOf (seen b clock s .row) .flags) (numbersOf (seen b clock s .row) .expiry))
   unfolding doneOf
-  goes-on d at l = let t : live (seen b clock s .row) clock ≡ true = rw at (alive clock d l) in rw (asks, t)
+  goes-on d at l = let t : live (seen b clock s .row) (clockAt (tableOf b) clock) ≡ true = rw at (alive-at b clock d l) in rw (asks, t)
 
-  anew : NotLive clock (docAt b (keyIn s)) → Bytes b → Bytes s → Answers b clock s room 0
-      → (d : Doc) × ((docAt (servedTable b clock s room) (keyIn s) ≡ some d) × BeginsAt (initialIn s) d)
-  anew n y z a = (_, (done-at b clock s room _ (begins n) y z a, record { document = refl; value = refl; flags = refl }))
+  anew : NotLive (laterAt b clock) (docAt b (keyIn s)) → Bytes b → Bytes s → clock < 2 ^ 32 → Answers b clock s room 0
+      → (d : Doc) × ((docAt (servedTable b clock s room) (keyIn s) ≡ some d) × BeginsAt (initialIn s) (counterExpiry s) (laterAt b clock) d)
+  unfolding ruleOf
+  anew n y z c a =
+      let until = until-later b clock (counterExpiry s) (rw asks at (faultless b clock s room a)) in
+      (_, (done-at b clock s room _ (begins n) y z c a, record { document = refl; value = refl; flags = refl; expiry = until }))
 
 pub live-counts : LiveCounts
 unfolding requestOf
-live-counts b clock s room d y z at l e a =
+live-counts b clock s room d y z c at l e a =
     let (up, asks) = counts (seen b clock s) (extrasIn s) (opcode s) e in
-    (_, (done-at b clock s room _ (goes-on b clock s room up asks d at l) y z a, (rw at, rw at)))
+    (_, (done-at b clock s room _ (goes-on b clock s room up asks d at l) y z c a, (rw at, rw at)))
 
 pub dead-counts : DeadCounts
 unfolding requestOf ruleOf
-dead-counts b clock s room y z n e c x =
+dead-counts b clock s room y z small n e c x =
     let (up, asks) = counts (seen b clock s) (extrasIn s) (opcode s) e in
     let needless = count-needs b clock s e ∙ ne-eqb (counterExpiry s) 0xffffffff x in
     record {
       found = avoids b clock s room 0x01 (without-missing b clock s (not-missing b clock s needless c));
       free = avoids b clock s room 0x02 (without-conflict b clock s (no-conflict b clock s n (rw asks) c));
       number = avoids b clock s room 0x06 (without-number b clock s (no-number b clock s n));
-      stored = anew b clock s room up asks n y z;
+      stored = anew b clock s room up asks n y z small;
     }
+
+-- ---- a Set, an Add or a Replace
+module _ (b : List ℕ) (clock : ℕ) (s : List ℕ) (room : ℕ) (kind : Kind)
+    (asks : command b clock s ≡ Write (record { kind = kind; flags = num (extrasIn s) 0 4; expiry = writtenExpiry s })) where
+  abbrev document : Doc
+  document = record {
+    tomb = false;
+    value = requestOf s (headerOf s) .value;
+    numbers = plainNumbers (seen b clock s) (num (extrasIn s) 0 4) (absolute (writtenExpiry s) (clockAt (tableOf b) clock));
+  }
+
+  writes : docFrom (doneOf (seen b clock s) (command b clock s) .store)
+      (bytesFrom (doneOf (seen b clock s) (command b clock s) .source) (requestOf s (headerOf s) .value)) ≡ some document
+  unfolding doneOf
+  writes = rw asks
+
+  until : Answers b clock s room 0 → PlainExpiry (writtenExpiry s) (laterAt b clock) (document .numbers .expiry)
+  unfolding ruleOf
+  until a = until-later b clock (writtenExpiry s) (rw asks at (faultless b clock s room a))
+
+pub writes-until : WritesUntil
+unfolding requestOf
+writes-until b clock s room y z small e a =
+    let (kind, asks) = stores (seen b clock s) (extrasIn s) (opcode s) e in
+    (_, (done-at b clock s room _ (writes b clock s room kind asks) y z small a, until b clock s room kind asks a))

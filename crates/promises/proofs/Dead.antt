@@ -16,13 +16,14 @@ use Rattle.commands.specs.declared.Tests.{Tests}
 use Rattle.commands.specs.Rules.{Rule, Check, ruleOf, testsOf, guard, firstFailure}
 use Rattle.decision.specs.Decide.{instructionOf}
 use Rattle.decode.specs.Decode.{requestOf}
-use Rattle.rows.specs.Table.{tableOf}
+use Rattle.rows.specs.Table.{tableOf, tableAt, clockAt}
 use Rattle.serving.specs.Serve.{contextOn}
 use Rattle.serving.specs.Statuses.{testsOn, statuses}
 use Rattle.promises.specs.Merge.{docAt}
+use Rattle.promises.specs.Kept.{laterAt}
 use Rattle.promises.specs.Expiry.{opcode, headerCas, extrasIn, keyIn, gets, replaces, deletes, keyed, counters, counterExpiry, needsLive, NotLive, Reaches, DeadIsMissing, DeadIsWritten}
 use Rattle.promises.proofs.Asks.{ask, needs, guarded, writes, counts}
-use Rattle.promises.proofs.Liveness.{and-false, or-true, dead, later, Without, status, answers, avoids}
+use Rattle.promises.proofs.Liveness.{and-false, or-true, dead-at, later, Without, status, answers, avoids}
 use Rattle.promises.proofs.Keeps.{status-keeps}
 
 -- needed, or guarded by a header CAS
@@ -32,7 +33,7 @@ asked-for false n x e z = rw e
 
 module _ (b : List ℕ) (clock : ℕ) (s : List ℕ) where
   abbrev pub seen : Context
-  seen = contextOn (tableOf b) clock (docAt b (keyIn s))
+  seen = contextOn (tableAt (tableOf b) clock) (clockAt (tableOf b) clock) (docAt b (keyIn s))
 
   abbrev pub command : Command
   command = requestOf s (headerOf s) .command
@@ -44,7 +45,7 @@ module _ (b : List ℕ) (clock : ℕ) (s : List ℕ) where
   instruction = instructionOf (requestOf s (headerOf s))
 
   abbrev pub tests : Tests
-  tests = testsOn (tableOf b) clock s (headerOf s)
+  tests = testsOn (tableAt (tableOf b) clock) (clockAt (tableOf b) clock) s (headerOf s)
 
   pub command-asked : command ≡ ask seen (extrasIn s) (opcode s)
   unfolding requestOf
@@ -83,7 +84,7 @@ module _ (b : List ℕ) (clock : ℕ) (s : List ℕ) where
 
   -- where a test doesn't fail, its status isn't given
   abbrev pub list : List Check
-  list = statuses (tableOf b) clock s (headerOf s)
+  list = statuses (tableAt (tableOf b) clock) (clockAt (tableOf b) clock) s (headerOf s)
 
   pub without-missing : tests .missing ≡ false → Without 0x01 list
   without-missing m = (refl, (refl, (refl, (refl, (refl, (refl, (refl, (m, (refl, (refl, (refl, (refl, refl))))))))))))
@@ -104,18 +105,18 @@ module _ (b : List ℕ) (clock : ℕ) (s : List ℕ) where
   is-conflict room r m k = later 7 list (r .earlier) ∙ rw (m, k)
 
   -- the tests of 0x01, 0x02 and 0x06, where the row isn't live
-  module _ (n : NotLive clock (docAt b (keyIn s))) where
+  module _ (n : NotLive (laterAt b clock) (docAt b (keyIn s))) where
     pub missing : needsLive s ≡ true → tests .missing ≡ true
     unfolding testsOf
-    missing e = rw (sought e, dead clock (docAt b (keyIn s)) n)
+    missing e = rw (sought e, dead-at b clock (docAt b (keyIn s)) n)
 
     pub no-conflict : rule .beaten ≡ false → headerCas s ≡ 0 → tests .conflict ≡ false
     unfolding testsOf
-    no-conflict e z = rw (e, unguarded z, dead clock (docAt b (keyIn s)) n, and-false (rule .fresh))
+    no-conflict e z = rw (e, unguarded z, dead-at b clock (docAt b (keyIn s)) n, and-false (rule .fresh))
 
     pub no-number : tests .number ≡ false
     unfolding testsOf
-    no-number = rw (dead clock (docAt b (keyIn s)) n) (and-false (rule .counts))
+    no-number = rw (dead-at b clock (docAt b (keyIn s)) n) (and-false (rule .counts))
 
 pub dead-is-missing : DeadIsMissing
 dead-is-missing b clock s room r n e =

@@ -1,5 +1,5 @@
 -- Demand 3 on bytes, from the theorem on abstract tables.
-use Prim.Native.Nat.{ℕ, _≤_}
+use Prim.Native.Nat.{ℕ, _^_, _≤_, _<_}
 use mathlib.Core.Path.{_≡_, refl, sym, ap, _∙_, subst}
 use mathlib.Core.List.{List, [], _∷_, map}
 use mathlib.Core.Option.{none, some}
@@ -17,7 +17,7 @@ use Rattle.request.proofs.Gated.{whole-frame}
 use Rattle.decision.specs.Decide.{Effect, decide}
 use Rattle.decode.specs.Decode.{requestOf}
 use Rattle.rows.specs.Row.{Row}
-use Rattle.rows.specs.Table.{Table, tableOf, tableBytes}
+use Rattle.rows.specs.Table.{Table, tableOf, tableAt, clockAt, tableBytes}
 use Rattle.plain.specs.Claims.{Good}
 use Rattle.rows.specs.Good.{AllGood}
 use Rattle.plain.specs.Plain.{plain}
@@ -28,10 +28,11 @@ use Rattle.plain.proofs.TableLaws.{sound-good, good-sound}
 use Rattle.merge.specs.Merge.{All, changed, effectOn, tableOn, tableAfter, statusesOf}
 use Rattle.merge.specs.Merge as abstract
 use Rattle.merge.proofs.Demand3 as abstractly
+use Rattle.table.proofs.Keeping.{clock-good}
 use Rattle.serving.specs.Serve.{servedOutcome, servedStatus, served, servedTable, gateAll, decisionOn, frameEffect, frameChange, frameTable}
 use Rattle.serving.proofs.Change.{change-good}
 use Rattle.promises.specs.Calls.{Call, servedBy, tableServed, bytesAfter, callOutcomes, callStatuses}
-use Rattle.promises.specs.Merge.{MergingCall, modeAt, docAt, writes, Premises, Merged, Demand3}
+use Rattle.promises.specs.Merge.{MergingCall, modeAt, docAt, clocks, writes, Premises, Merged, Demand3}
 use Rattle.promises.proofs.MergingCall.{asked, all-asked}
 
 -- a table, as an engine's
@@ -41,23 +42,25 @@ viewed t = record { head = t .head; rows = t .rows }
 -- a call that is served, and whose frame keeps the reader's rules
 record Passes (c : Call) : Type 0 where
   bytes : Bytes (c .received)
+  clock : c .clock < 2 ^ 32
   room : 1302 ≤ length (c .reply)
   whole : gateOf (c .received) ≡ Whole (headerOf (c .received))
   form : frameStatus (c .received) (headerOf (c .received)) ≡ 0
 
 all-pass : (m : Mode) (v : ℕ) (cs : List Call) → All (MergingCall m v) cs → All Passes cs
 all-pass m v [] p = tt
-all-pass m v (c ∷ cs) p = (record { bytes = p .0 .bytes; room = p .0 .room; whole = p .0 .whole; form = p .0 .form }, all-pass m v cs (p .1))
+all-pass m v (c ∷ cs) p = (record { bytes = p .0 .bytes; clock = p .0 .clock; room = p .0 .room; whole = p .0 .whole; form = p .0 .form }, all-pass m v cs (p .1))
 
 -- ---- one call
 abbrev stepped : Table → Call → Table
-stepped t c = frameChange t (c .clock) (c .received) (headerOf (c .received))
+stepped t c = frameChange (tableAt t (c .clock)) (clockAt t (c .clock)) (c .received) (headerOf (c .received))
 
 abbrev steppedAll : Table → List Call → Table
 steppedAll t [] = t
 steppedAll t (c ∷ cs) = steppedAll (stepped t c) cs
 
-effect-same : (t : Table) (c : Call) → Passes c → frameEffect t (c .clock) (c .received) (headerOf (c .received)) ≡ effectOn plain (viewed t) (asked c)
+effect-same : (t : Table) (c : Call) → Passes c
+    → frameEffect (tableAt t (c .clock)) (clockAt t (c .clock)) (c .received) (headerOf (c .received)) ≡ effectOn plain (viewed t) (asked c)
 unfolding frameEffect decisionOn effectOn decide requestOf
 effect-same t c w = rw (w .form)
 
@@ -93,7 +96,7 @@ lifted : (t : Table) (cs : List Call) → Good t → All Passes cs → Lifted t 
 lifted t [] g w = record { good = g; bytes = refl; table = refl; served = tt; statuses = refl }
 lifted t (c ∷ cs) g w =
     let h = headerOf (c .received) in
-    let good = change-good t (c .clock) (c .received) h g (w .0 .bytes) (whole-frame (c .received) h (w .0 .whole) .inside) in
+    let good = change-good (tableAt t (c .clock)) (clockAt t (c .clock)) (c .received) h (clock-good t (c .clock) g (w .0 .clock)) (w .0 .bytes) (whole-frame (c .received) h (w .0 .whole) .inside) in
     let r = lifted (stepped t c) cs good (w .1) in
     let e = table-same t c g (w .0) in
     let v = step-same t c (w .0) in
@@ -113,6 +116,10 @@ lifted t (c ∷ cs) g w =
 writes-same : (cs : List Call) → abstract.writesOf (map asked cs) ≡ writes cs
 writes-same [] = refl
 writes-same (c ∷ cs) = rw (writes-same cs)
+
+clocks-same : (cs : List Call) → abstract.clocksOf (map asked cs) ≡ clocks cs
+clocks-same [] = refl
+clocks-same (c ∷ cs) = rw (clocks-same cs)
 
 found-below : (mark : ℕ) (rows : List Row) (k : Key) (d : Doc) → AllGood mark rows → findRow rows k ≡ some d → d .numbers .cas .0 ≤ mark
 found-below mark [] k d g e = none-some d e
@@ -164,7 +171,7 @@ module _ (b : List ℕ) (cs : List Call) (p : Premises b cs) where
     others = λ k w. docs k ∙ merged .others k (rw (writes-same cs) w);
     served = subst (λ (x : List ℕ). All (λ n. n ≡ 0) (callOutcomes x cs)) back (run .served);
     statuses = codes ∙ rw (writes-same cs) at (merged .statuses);
-    mark = ap (λ (x : abstract.State plain). x .head) after ∙ (rw (codes, ← writes-same cs) (merged .mark));
+    head = ap (λ (x : abstract.State plain). x .head) after ∙ (rw (codes, ← writes-same cs, ← clocks-same cs) (merged .head));
     mark-last = λ e. ap (λ (x : abstract.State plain). x .head .mark .0) after ∙ (rw (writes-same cs) at (merged .mark-last e));
     undamaged = rw ends (good-sound (steppedAll (tableOf b) cs) (run .good) .0);
   }

@@ -1,5 +1,6 @@
--- A call that is refused, or answers with another status than 0, changes no byte of the table.
+-- A call that is refused changes no byte of the table, and one that answers with another status than 0 none but the kept clock's.
 use Prim.Native.Nat.{ℕ}
+use native.Mathlib.Omega.{arith}
 use mathlib.Core.Path.{_≡_, refl, sym, ap, _∙_}
 use mathlib.Core.List.{List}
 use mathlib.Core.Option.{none}
@@ -13,20 +14,21 @@ use Rattle.request.specs.Reading.{frameStatus, bytesIn, keySpan}
 use Rattle.decision.specs.Decide.{decide}
 use Rattle.decision.proofs.Stores.{refused-keeps as decided-keeps}
 use Rattle.decode.specs.Decode.{requestOf}
-use Rattle.rows.specs.Table.{Table, tableOf, tableBytes}
-use Rattle.plain.proofs.TableLaws.{sound-good}
+use Rattle.rows.specs.Table.{Table, tableOf, tableAt, clockAt, tableBytes}
 use Rattle.rows.specs.Find.{findRow, freeRows}
 use Rattle.serving.specs.declared.Served.the-variants.{Done}
 use Rattle.serving.proofs.Gated.{was-open, refused-keeps as call-keeps}
 use Rattle.serving.proofs.Change.{unchanged}
 use Rattle.serving.specs.Serve.{reachesDecision, decisionOn, frameEffect, frameTable, answerBy, tableBy, served, servedTable, gateAll}
+use Rattle.promises.specs.Kept.{clockRaised}
 use Rattle.promises.specs.Table.{RefusedKeeps, StatusKeeps}
+use Rattle.promises.proofs.Kept.{raised-bytes}
 
 pub refused-keeps : RefusedKeeps
 refused-keeps = call-keeps
 
 -- ---- another status than 0: nothing is stored, and the head stays
-nothing-stored : (t : Table) (clock : ℕ) (s : List ℕ) (h : Header) → (frameEffect t clock s h .status ≡ 0 → ⊥)
+pub nothing-stored : (t : Table) (clock : ℕ) (s : List ℕ) (h : Header) → (frameEffect t clock s h .status ≡ 0 → ⊥)
     → (frameEffect t clock s h .store ≡ none) × (frameEffect t clock s h .head ≡ t .head)
 unfolding frameEffect decisionOn decide
 nothing-stored t clock s h n =
@@ -35,13 +37,15 @@ nothing-stored t clock s h n =
     (λ y. rw y (refl, refl))
 
 kept : (b : List ℕ) (clock : ℕ) (s : List ℕ) (room status used len : ℕ) (g : Gate) → Bytes b → gateAll b room s ≡ g → answerBy b clock s g ≡ Done status used len
-    → (status ≡ 0 → ⊥) → tableBy b clock s g ≡ b
+    → (status ≡ 0 → ⊥) → tableBy b clock s g ≡ clockRaised b clock
 unfolding frameTable
-kept b clock s room status used len (Stop m more) y o e n = refl
+kept b clock s room status used len (Stop m more) y o e n = absurd (let z : _≡_ {A = ℕ} 0 1 = cc in omega arith)
 kept b clock s room status used len (Whole h) y o e n =
-    let z : frameEffect (tableOf b) clock s h .status ≡ status = cc in
-    let p = nothing-stored (tableOf b) clock s h (λ y. n (sym z ∙ y)) in
-    ap tableBytes (unchanged (tableOf b) clock s h (p .0) (p .1)) ∙ sound-good b y (was-open b s room h o .undamaged) .0
+    let t = tableAt (tableOf b) clock in
+    let now = clockAt (tableOf b) clock in
+    let z : frameEffect t now s h .status ≡ status = cc in
+    let p = nothing-stored t now s h (λ y. n (sym z ∙ y)) in
+    ap tableBytes (unchanged t now s h (p .0) (p .1)) ∙ raised-bytes b clock y (was-open b s room h o .undamaged)
 
 pub status-keeps : StatusKeeps
 unfolding served servedTable

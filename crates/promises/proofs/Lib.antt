@@ -1,3 +1,4 @@
+pub mod Kept
 pub mod Sound
 pub mod MergingCall
 pub mod Demand3
@@ -7,6 +8,8 @@ pub mod Liveness
 pub mod Dead
 pub mod Counting
 pub mod Alive
+pub mod Steps
+pub mod Clock
 pub mod Alike
 pub mod Buried
 pub mod Judged

@@ -12,6 +12,7 @@ use Rattle.octets.proofs.Choices.{cases}
 use Rattle.document.specs.declared.Head.{Head}
 use Rattle.document.specs.Documents.{Key, Doc}
 use Rattle.engine.specs.Engine.{findEntry, DistinctKeys}
+use Rattle.listing.specs.Listing.{listing}
 use Rattle.listing.specs.Claims.{Lists}
 use Rattle.listing.proofs.Taken.{listing-short}
 use Rattle.listing.proofs.Exact.{lists-exactly, by-documents}
@@ -30,19 +31,22 @@ use Rattle.effects.specs.Done.{nothing, doneOf}
 use Rattle.decision.specs.declared.Decision.{Decision}
 use Rattle.decision.specs.Decision.{decision}
 use Rattle.decode.specs.Decode.{commandOf, requestOf}
-use Rattle.rows.specs.Table.{tableOf}
+use Rattle.rows.specs.Table.{Table, tableOf, tableAt, clockAt}
 use Rattle.plain.specs.Damage.{sound}
 use Rattle.plain.specs.Claims.{Good}
 use Rattle.plain.proofs.PlainLaws.{plain-laws}
 use Rattle.plain.proofs.TableLaws.{sound-good}
+use Rattle.serving.specs.declared.Served.{Served}
 use Rattle.serving.specs.declared.Served.the-variants.{Done}
 use Rattle.serving.specs.Reply.{replyShows, replyHeader, replyBytes}
 use Rattle.serving.specs.Serve.{reachesDecision, decisionOn, frameEffect, frameReply, answerBy, replyBy, served, servedReply}
 use Rattle.serving.proofs.Formed.{no}
 use Rattle.promises.specs.Merge.{docAt}
+use Rattle.promises.specs.Kept.{laterAt, keptBy}
 use Rattle.promises.specs.Expiry.{opcode, extrasIn, keyIn, Reaches}
 use Rattle.promises.specs.Listing.{countBy, countIn, docsIn, listingIn, listingHeader, listingReply, ListingServed, ListingKeeps}
 use Rattle.promises.specs.Listing.{LiveFrom, ListingLive, ListingByDocuments, ListingPages}
+use Rattle.promises.proofs.Kept.{later-clock}
 use Rattle.promises.proofs.Asks.{ask}
 use Rattle.promises.proofs.Liveness.{alive, live-said, later, status, listed, opened}
 use Rattle.promises.proofs.Dead.{seen, command, instruction, command-asked, list}
@@ -74,6 +78,12 @@ list-decision c i count asks loud zero =
     λ j. record { status = zero j; silent = silent j; done = done j }
 
 module _ (b : List ℕ) (clock : ℕ) (s : List ℕ) (o : opcode s ≡ 0xb8) where
+  abbrev t : Table
+  t = tableAt (tableOf b) clock
+
+  abbrev now : ℕ
+  now = clockAt (tableOf b) clock
+
   asks : command b clock s ≡ GetKeys (countIn s)
   asks = command-asked b clock s ∙ ap (ask (seen b clock s) (extrasIn s)) o ∙ lists-asked (seen b clock s) (extrasIn s)
 
@@ -87,7 +97,7 @@ module _ (b : List ℕ) (clock : ℕ) (s : List ℕ) (o : opcode s ≡ 0xb8) whe
   no-status room r = later 7 (list b clock s) (r .earlier) ∙ rw asks
 
   -- a frame with status 0 was decided
-  reached : decisionOn (tableOf b) clock s (headerOf s) .status ≡ 0 → decisionOn (tableOf b) clock s (headerOf s) ≡ decision (seen b clock s) (instruction b clock s)
+  reached : decisionOn t now s (headerOf s) .status ≡ 0 → decisionOn t now s (headerOf s) ≡ decision (seen b clock s) (instruction b clock s)
   unfolding decisionOn
   reached z =
       cases (reachesDecision (frameStatus s (headerOf s)))
@@ -95,10 +105,10 @@ module _ (b : List ℕ) (clock : ℕ) (s : List ℕ) (o : opcode s ≡ 0xb8) whe
       (λ f. let e : frameStatus s (headerOf s) ≡ 0 = rw f at z in no (sym f ∙ ap reachesDecision e))
 
   module _ (room : ℕ) (r : Reaches b clock s room) where
-    zero-status : decisionOn (tableOf b) clock s (headerOf s) .status ≡ 0
+    zero-status : decisionOn t now s (headerOf s) .status ≡ 0
     zero-status = listed b clock s room ∙ no-status room r
 
-    decides : decisionOn (tableOf b) clock s (headerOf s) ≡ listDecision (tableOf b .head) (countIn s)
+    decides : decisionOn t now s (headerOf s) ≡ listDecision (t .head) (countIn s)
     decides =
         let e = reached zero-status in
         e ∙ list-decision (seen b clock s) (instruction b clock s) (countIn s) asks loud (ap (λ (d : Decision). d .status) (sym e) ∙ zero-status)
@@ -107,9 +117,11 @@ module _ (b : List ℕ) (clock : ℕ) (s : List ℕ) (o : opcode s ≡ 0xb8) whe
     unfolding frameReply replyBytes replyHeader
     replies =
         let h = headerOf s in
-        let shown : Decision → List ℕ = λ d. replyShows (d .done .reply) (tableOf b .rows) clock (keyIn s) in
+        let replied : List ℕ → List ℕ = λ v. headerBytes (listingHeader (h .opaque) (length v)) ++ v in
+        let shown : Decision → List ℕ = λ d. replyShows (d .done .reply) (t .rows) now (keyIn s) in
         ap (λ (d : Decision). replyBytes (h .opcode) (h .opaque) d (keyIn s) (shown d)) decides
-        ∙ ap (λ (n : ℕ). replyBytes n (h .opaque) (listDecision (tableOf b .head) (countIn s)) (keyIn s) (listingIn b clock s)) o
+        ∙ ap (λ (n : ℕ). replyBytes n (h .opaque) (listDecision (t .head) (countIn s)) (keyIn s) (listing (docsIn b) now (keyIn s) (countIn s))) o
+        ∙ ap (λ (c : ℕ). replied (listing (docsIn b) c (keyIn s) (countIn s))) (later-clock b clock)
 
 pub listing-keeps : ListingKeeps
 unfolding doneOf
@@ -127,10 +139,12 @@ listing-served b clock s out r o =
     let e = replies b clock s o (length out) r in
     let z = zero-status b clock s o (length out) r in
     let size = ap length e ∙ n in
-    let fits : length (listingReply b clock s) ≤ length out = omega (arith, n, listing-short (docsIn b) clock (keyIn s) (countIn s), r .roomy) in
+    let fits : length (listingReply b clock s) ≤ length out = omega (arith, n, listing-short (docsIn b) (laterAt b clock) (keyIn s) (countIn s), r .roomy) in
+    let answer : served b clock s (length out) ≡ Done 0 (24 + headerOf s .body) (24 + length (listingIn b clock s)) =
+    ap (answerBy b clock s) (opened b clock s (length out) r) ∙ (λ i. Done (z i) (24 + headerOf s .body) (size i)) in
     record {
-      answer = ap (answerBy b clock s) (opened b clock s (length out) r) ∙ (λ i. Done (z i) (24 + headerOf s .body) (size i));
-      table = listing-keeps b clock s (length out) (r .bytes) o;
+      answer = answer;
+      table = listing-keeps b clock s (length out) (r .bytes) o ∙ ap (λ (x : Served). keptBy x b clock) answer;
       reply =
           ap (replyBy b clock s out) (opened b clock s (length out) r) ∙ ap (written out 0) e ∙ put out (listingReply b clock s) fits
           ∙ ap (λ (k : ℕ). listingReply b clock s ++ drop k out) n;

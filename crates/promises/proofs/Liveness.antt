@@ -19,7 +19,7 @@ use Rattle.request.specs.declared.Gate.{Gate}
 use Rattle.request.specs.declared.Gate.the-variants.{Stop, Whole}
 use Rattle.request.specs.Reading.{gateOf}
 use Rattle.commands.specs.Rules.{Check, firstFailure}
-use Rattle.rows.specs.Table.{tableOf}
+use Rattle.rows.specs.Table.{Table, tableOf, tableAt, clockAt}
 use Rattle.plain.specs.Damage.{sound}
 use Rattle.serving.specs.declared.Served.the-variants.{Refused, Done}
 use Rattle.serving.specs.Serve.{decisionOn, frameEffect, answerBy, tableBy, frameTable, frameReply, gateAll, served, servedTable}
@@ -27,7 +27,9 @@ use Rattle.serving.specs.Statuses.{statuses}
 use Rattle.serving.proofs.Formed.{no}
 use Rattle.serving.proofs.Gated.{was-open}
 use Rattle.serving.proofs.Statuses.{statuses-in-order}
+use Rattle.promises.specs.Kept.{laterAt}
 use Rattle.promises.specs.Expiry.{NotLive, Live, Passes, Reaches, Answers, Avoids}
+use Rattle.promises.proofs.Kept.{at-later}
 
 -- ---- liveness
 pub dead : (clock : ℕ) (row : Option Doc) → NotLive clock row → live (storedOf row) clock ≡ false
@@ -55,6 +57,13 @@ alive-by clock d e (inr l) = rw (e, lt-leb (d .numbers .expiry) clock l, and-fal
 
 pub alive : (clock : ℕ) (d : Doc) → Live clock d → live (storedOf (some d)) clock ≡ true
 alive clock d a = alive-by clock d (a .document) (a .unexpired)
+
+-- at the later of the kept clock and a call's
+pub dead-at : (b : List ℕ) (clock : ℕ) (row : Option Doc) → NotLive (laterAt b clock) row → live (storedOf row) (clockAt (tableOf b) clock) ≡ false
+dead-at b clock row n = dead (clockAt (tableOf b) clock) row (at-later (λ (c : ℕ). NotLive c row) b clock n)
+
+pub alive-at : (b : List ℕ) (clock : ℕ) (d : Doc) → Live (laterAt b clock) d → live (storedOf (some d)) (clockAt (tableOf b) clock) ≡ true
+alive-at b clock d a = alive (clockAt (tableOf b) clock) d (at-later (λ (c : ℕ). Live c d) b clock a)
 
 -- and the other way round: what the test takes for live is so by 01's words
 pub live-said : (clock : ℕ) (d : Doc) → live (storedOf (some d)) clock ≡ true → Live clock d
@@ -93,16 +102,36 @@ without n (c ∷ cs) p e =
     (λ t. let z : c .status ≡ n = rw t at e in no (sym (p .0) ∙ rw (eq-eqb (c .status) n z, t)))
     (λ t. without n cs (p .1) (rw t at e))
 
+-- where the status is 0 each of them passes
+abbrev pub Refusing : List Check → Type 0
+Refusing [] = Unit {0}
+Refusing (c ∷ cs) = (eqb (c .status) 0 ≡ false) × Refusing cs
+
+pub all-pass : (l : List Check) → Refusing l → firstFailure l ≡ 0 → Passes l
+unfolding firstFailure
+all-pass [] r e = tt
+all-pass (c ∷ cs) r e =
+    cases (c .fails)
+    (λ t. let z : c .status ≡ 0 = rw t at e in no (sym (r .0) ∙ eq-eqb (c .status) 0 z))
+    (λ t. (t, all-pass cs (r .1) (rw t at e)))
+
 -- ---- a frame that is served
 module _ (b : List ℕ) (clock : ℕ) (s : List ℕ) (room : ℕ) where
+  -- the table at the call's clock, and the later clock
+  abbrev t : Table
+  t = tableAt (tableOf b) clock
+
+  abbrev now : ℕ
+  now = clockAt (tableOf b) clock
+
   abbrev pub status : ℕ
-  status = firstFailure (statuses (tableOf b) clock s (headerOf s))
+  status = firstFailure (statuses t now s (headerOf s))
 
   abbrev decided : ℕ
-  decided = decisionOn (tableOf b) clock s (headerOf s) .status
+  decided = decisionOn t now s (headerOf s) .status
 
   pub listed : decided ≡ status
-  listed = sym (statuses-in-order (tableOf b) clock s (headerOf s))
+  listed = sym (statuses-in-order t now s (headerOf s))
 
   pub opened : Reaches b clock s room → gateAll b room s ≡ Whole (headerOf s)
   unfolding gateAll
@@ -123,15 +152,15 @@ module _ (b : List ℕ) (clock : ℕ) (s : List ℕ) (room : ℕ) where
   answered-by n used len (Stop m more) o e = absurd (let z : _≡_ {A = ℕ} 0 1 = cc in omega arith)
   answered-by n used len (Whole h) o e =
       let same = was-open b s room h o .frame .header in
-      let z : decisionOn (tableOf b) clock s h .status ≡ n = cc in
-      ap (λ (x : Header). decisionOn (tableOf b) clock s x .status) same ∙ z
+      let z : decisionOn t now s h .status ≡ n = cc in
+      ap (λ (x : Header). decisionOn t now s x .status) same ∙ z
 
   pub answered : (n used len : ℕ) → served b clock s room ≡ Done n used len → status ≡ n
   unfolding served
   answered n used len e = sym listed ∙ answered-by n used len (gateAll b room s) refl e
 
-  pub avoids : (n : ℕ) → Without n (statuses (tableOf b) clock s (headerOf s)) → Avoids b clock s room n
-  avoids n w used len e = without n (statuses (tableOf b) clock s (headerOf s)) w (answered n used len e)
+  pub avoids : (n : ℕ) → Without n (statuses t now s (headerOf s)) → Avoids b clock s room n
+  avoids n w used len e = without n (statuses t now s (headerOf s)) w (answered n used len e)
 
   opened-by : (n used len : ℕ) (g : Gate) → gateAll b room s ≡ g → answerBy b clock s g ≡ Done n used len → gateAll b room s ≡ Whole (headerOf s)
   opened-by n used len (Stop m more) o e = absurd (let z : _≡_ {A = ℕ} 0 1 = cc in omega arith)

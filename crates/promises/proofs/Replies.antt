@@ -33,7 +33,7 @@ use Rattle.effects.specs.Done.{nothing}
 use Rattle.decision.specs.Decision.{decision}
 use Rattle.decision.specs.Decide.{instructionOf}
 use Rattle.decode.specs.Decode.{plainOf, counterOf, metaCommand, commandOf, requestOf}
-use Rattle.rows.specs.Table.{Table, tableOf}
+use Rattle.rows.specs.Table.{Table, tableOf, tableAt, clockAt}
 use Rattle.rows.specs.Find.{findRow}
 use Rattle.serving.specs.declared.Served.the-variants.{Done}
 use Rattle.serving.specs.Reply.{replyShows, replyHeader, replyBytes}
@@ -161,24 +161,30 @@ alone-size st s y l =
     (λ f. let e = ap length (bare-header s st y l) in omega (arith, length-header (bareHeader (headerOf s .opcode) (headerOf s .opaque) st)))
 
 module _ (b : List ℕ) (clock : ℕ) (s : List ℕ) where
+  abbrev t : Table
+  t = tableAt (tableOf b) clock
+
+  abbrev now : ℕ
+  now = clockAt (tableOf b) clock
+
   abbrev StatusAlone : Header → Type 0
-  StatusAlone h = (frameEffect (tableOf b) clock s h .status ≡ 0 → ⊥) → frameReply b clock s h ≡ statusReply (frameEffect (tableOf b) clock s h .status) s
+  StatusAlone h = (frameEffect t now s h .status ≡ 0 → ⊥) → frameReply b clock s h ≡ statusReply (frameEffect t now s h .status) s
 
   frame-status : Bytes s → 24 ≤ length s → StatusAlone (headerOf s)
   unfolding frameReply frameEffect
   frame-status y l n =
       let h = headerOf s in
       let key = bytesIn s (keySpan h) in
-      let shown : Decision → List ℕ = λ d. replyShows (d .done .reply) (tableOf b .rows) clock key in
-      ap (λ (d : Decision). replyBytes (h .opcode) (h .opaque) d key (shown d)) (decides-alone (tableOf b) clock s h n)
-      ∙ alone-reply s (tableOf b .head) (decisionOn (tableOf b) clock s h .status) key (docValue (findRow (tableOf b .rows) key)) y l
+      let shown : Decision → List ℕ = λ d. replyShows (d .done .reply) (t .rows) now key in
+      ap (λ (d : Decision). replyBytes (h .opcode) (h .opaque) d key (shown d)) (decides-alone t now s h n)
+      ∙ alone-reply s (t .head) (decisionOn t now s h .status) key (docValue (findRow (t .rows) key)) y l
 
 status-by : (b : List ℕ) (clock : ℕ) (s out : List ℕ) (st used len : ℕ) (g : Gate) → gateAll b (length out) s ≡ g → Bytes s → answerBy b clock s g ≡ Done st used len → (st ≡ 0 → ⊥)
     → (len ≡ length (statusReply st s)) × (replyBy b clock s out g ≡ statusReply st s ++ drop len out)
 status-by b clock s out st used len (Stop n need) q y e z = absurd (let z : _≡_ {A = ℕ} 0 1 = cc in omega arith)
 status-by b clock s out st used len (Whole h) q y e z =
     let w = was-open b s (length out) h q in
-    let p : frameEffect (tableOf b) clock s h .status ≡ st = cc in
+    let p : frameEffect (tableAt (tableOf b) clock) (clockAt (tableOf b) clock) s h .status ≡ st = cc in
     let l : length (frameReply b clock s h) ≡ len = cc in
     let f = subst (StatusAlone b clock s) (w .frame .header) (frame-status b clock s y (w .frame .long)) (λ v. z (sym p ∙ v)) ∙ ap (λ (k : ℕ). statusReply k s) p in
     let m = alone-size st s y (w .frame .long) in

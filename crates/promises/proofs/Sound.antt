@@ -1,5 +1,5 @@
--- The table stays sound under serving, whatever the bytes, the clock and the room.
-use Prim.Native.Nat.{ℕ}
+-- The table stays sound under serving, whatever the bytes, the clock of 32 bits and the room.
+use Prim.Native.Nat.{ℕ, _^_, _<_}
 use mathlib.Core.Path.{_≡_, refl}
 use mathlib.Core.Bool.{true, cond, not}
 use mathlib.Core.List.{List}
@@ -10,21 +10,25 @@ use Rattle.request.specs.declared.Gate.{Gate}
 use Rattle.request.specs.declared.Gate.the-variants.{Stop, Whole}
 use Rattle.request.specs.Reading.{gateOf}
 use Rattle.request.proofs.Gated.{whole-frame}
-use Rattle.rows.specs.Table.{tableOf}
+use Rattle.rows.specs.Table.{tableOf, tableAt, clockAt}
 use Rattle.plain.specs.Damage.{sound}
-use Rattle.plain.proofs.TableLaws.{sound-good, good-sound}
+use Rattle.plain.proofs.TableLaws.{good-sound}
 use Rattle.serving.specs.Serve.{gateAll, frameChange, frameTable, tableBy, servedTable}
 use Rattle.promises.specs.Table.{StaysSound}
 use Rattle.serving.proofs.Formed.{by-cond}
 use Rattle.serving.proofs.Change.{change-good}
+use Rattle.promises.proofs.Kept.{good-later}
 
-module _ (b : List ℕ) (clock : ℕ) (s : List ℕ) (y : Bytes b) (z : Bytes s) (e : sound b ≡ true) where
+module _ (b : List ℕ) (clock : ℕ) (s : List ℕ) (y : Bytes b) (z : Bytes s) (c : clock < 2 ^ 32) (e : sound b ≡ true) where
   abbrev Stays : Gate → Type 0
   Stays g = sound (tableBy b clock s g) ≡ true
 
   whole : (h : Header) → gateOf s ≡ Whole h → sound (frameTable b clock s h) ≡ true
   unfolding frameTable
-  whole h w = good-sound (frameChange (tableOf b) clock s h) (change-good (tableOf b) clock s h (sound-good b y e .1) z (whole-frame s h w .inside)) .0
+  whole h w =
+      let t = tableAt (tableOf b) clock in
+      let now = clockAt (tableOf b) clock in
+      good-sound (frameChange t now s h) (change-good t now s h (good-later b clock y e c) z (whole-frame s h w .inside)) .0
 
   gated : (g : Gate) → gateOf s ≡ g → Stays g
   gated (Stop n need) w = e
@@ -32,6 +36,6 @@ module _ (b : List ℕ) (clock : ℕ) (s : List ℕ) (y : Bytes b) (z : Bytes s)
 
 pub stays-sound : StaysSound
 unfolding servedTable gateAll
-stays-sound b clock s room y z e =
-    by-cond (Stays b clock s y z e) (not (sound b)) (Stop 5 0) (cond (ltb room 1302) (Stop 4 0) (gateOf s)) (λ t. e)
-    (λ t. by-cond (Stays b clock s y z e) (ltb room 1302) (Stop 4 0) (gateOf s) (λ u. e) (λ u. gated b clock s y z e (gateOf s) refl))
+stays-sound b clock s room y z c e =
+    by-cond (Stays b clock s y z c e) (not (sound b)) (Stop 5 0) (cond (ltb room 1302) (Stop 4 0) (gateOf s)) (λ t. e)
+    (λ t. by-cond (Stays b clock s y z c e) (ltb room 1302) (Stop 4 0) (gateOf s) (λ u. e) (λ u. gated b clock s y z c e (gateOf s) refl))

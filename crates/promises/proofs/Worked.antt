@@ -1,5 +1,5 @@
 -- The worked list meets the premises and gives what specs/Worked.antt says.
-use Prim.Native.Nat.{ℕ}
+use Prim.Native.Nat.{ℕ, _^_}
 use mathlib.Core.Path.{_≡_, refl, sym, ap, _∙_}
 use mathlib.Core.Bool.{Bool, true, cond, _&&_, _||_}
 use mathlib.Core.List.{List, [], _∷_, map}
@@ -55,6 +55,7 @@ below-bytes (x ∷ xs) e = let p = both (ltb x 256) (below xs) e in bytes-cons x
 
 record Facts : Type 0 where
   bytes : Bool
+  clock : Bool
   room : Bool
   gate : Gate
   opcode : Bool
@@ -68,6 +69,7 @@ facts c =
     let h = headerOf (c .received) in
     record {
       bytes = below (c .received);
+      clock = ltb (c .clock) (2 ^ 32);
       room = leb 1302 (length (c .reply));
       gate = gateOf (c .received);
       opcode = among (h .opcode) (0xa2 ∷ 0xa3 ∷ 0xa8 ∷ 0xa9 ∷ []);
@@ -78,11 +80,12 @@ facts c =
     }
 
 abbrev right : Mode → ℕ → Call → Facts
-right m v c = record { bytes = true; room = true; gate = Whole (headerOf (c .received)); opcode = true; form = 0; options = optionsFor m; vbucket = v; cas = 0 }
+right m v c = record { bytes = true; clock = true; room = true; gate = Whole (headerOf (c .received)); opcode = true; form = 0; options = optionsFor m; vbucket = v; cas = 0 }
 
 right-merging : (m : Mode) (v : ℕ) (c : Call) → facts c ≡ right m v c → MergingCall m v c
 right-merging m v c e = record {
   bytes = below-bytes (c .received) (ap (λ (x : Facts). x .bytes) e);
+  clock = ltb-true (c .clock) (2 ^ 32) (ap (λ (x : Facts). x .clock) e);
   room = leb-true 1302 (length (c .reply)) (ap (λ (x : Facts). x .room) e);
   whole = ap (λ (x : Facts). x .gate) e;
   opcode = ap (λ (x : Facts). x .opcode) e;

@@ -1,5 +1,5 @@
--- "Expiry holds in every command", on bytes. When a document is live is said here in 01's words and numbers, and not by the definitions that decide it: a store that decides it otherwise, in one command or in all, doesn't meet these. Proved in proofs/Dead.antt, Counting.antt, Buried.antt and Alive.antt.
-use Prim.Native.Nat.{ℕ, _+_, _/_, _%_, _≤_, _<_}
+-- "Expiry holds in every command", on bytes. When a document is live is said here in 01's words and numbers, and not by the definitions that decide it: a store that decides it otherwise, in one command or in all, doesn't meet these. Order 2: the clock is the later of the kept one and the call's. Proved in proofs/Dead.antt, Counting.antt, Buried.antt and Alive.antt.
+use Prim.Native.Nat.{ℕ, _+_, _/_, _%_, _^_, _≤_, _<_}
 use mathlib.Core.Path.{_≡_}
 use mathlib.Core.Bool.{Bool, true, false, not, cond, _&&_, _||_}
 use mathlib.Core.List.{List, [], _∷_, _++_}
@@ -19,7 +19,7 @@ use Rattle.with_meta.specs.WithMeta.{withMeta}
 use Rattle.request.specs.declared.Gate.the-variants.{Whole}
 use Rattle.request.specs.Reading.{gateOf, bytesIn, extrasSpan, keySpan}
 use Rattle.commands.specs.Rules.{Check}
-use Rattle.rows.specs.Table.{tableOf, tableBytes}
+use Rattle.rows.specs.Table.{tableOf, tableAt, clockAt, tableBytes}
 use Rattle.plain.specs.Plain.{plain}
 use Rattle.plain.specs.Damage.{sound}
 use Rattle.owner.specs.declared.Document.{Document}
@@ -28,6 +28,7 @@ use Rattle.serving.specs.declared.Served.the-variants.{Done}
 use Rattle.serving.specs.Serve.{served, servedTable, servedReply}
 use Rattle.serving.specs.Statuses.{statuses}
 use Rattle.promises.specs.Merge.{docAt, modeAt}
+use Rattle.promises.specs.Kept.{laterAt, clockRaised, keptBy}
 
 -- "A document is *expired* when its expiry is not 0 and the clock is at or past it."
 pub record Expired (clock : ℕ) (d : Doc) : Type 0 where
@@ -108,7 +109,7 @@ pub record Reaches (b : List ℕ) (clock : ℕ) (s : List ℕ) (room : ℕ) : Ty
   pub undamaged : sound b ≡ true
   pub roomy : 1302 ≤ room
   pub whole : gateOf s ≡ Whole (headerOf s)
-  pub earlier : Passes (take 7 (statuses (tableOf b) clock s (headerOf s)))
+  pub earlier : Passes (take 7 (statuses (tableAt (tableOf b) clock) (clockAt (tableOf b) clock) s (headerOf s)))
 
 -- the frame is served with this status
 abbrev pub Answers : List ℕ → ℕ → List ℕ → ℕ → ℕ → Type 0
@@ -119,35 +120,53 @@ abbrev pub Avoids : List ℕ → ℕ → List ℕ → ℕ → ℕ → Type 0
 Avoids b clock s room status = (used len : ℕ) → served b clock s room ≡ Done status used len → ⊥
 
 -- ---- a key without a live document
--- what needs one is answered 0x01, and no table byte changes
+-- what needs one is answered 0x01, and no table byte changes but the kept clock's
 abbrev pub DeadIsMissing : Type 0
 DeadIsMissing =
-    (b : List ℕ) (clock : ℕ) (s : List ℕ) (room : ℕ) → Reaches b clock s room → NotLive clock (docAt b (keyIn s)) → needsLive s ≡ true
-    → Answers b clock s room 0x01 × (servedTable b clock s room ≡ b)
+    (b : List ℕ) (clock : ℕ) (s : List ℕ) (room : ℕ) → Reaches b clock s room → NotLive (laterAt b clock) (docAt b (keyIn s)) → needsLive s ≡ true
+    → Answers b clock s room 0x01 × (servedTable b clock s room ≡ clockRaised b clock)
 
 -- Set and Add without a header CAS are not refused with 0x01 or 0x02
 abbrev pub DeadIsWritten : Type 0
 DeadIsWritten =
-    (b : List ℕ) (clock : ℕ) (s : List ℕ) (room : ℕ) → NotLive clock (docAt b (keyIn s)) → among (opcode s) (sets ++ adds) ≡ true → headerCas s ≡ 0
+    (b : List ℕ) (clock : ℕ) (s : List ℕ) (room : ℕ) → NotLive (laterAt b clock) (docAt b (keyIn s)) → among (opcode s) (sets ++ adds) ≡ true → headerCas s ≡ 0
     → Avoids b clock s room 0x01 × Avoids b clock s room 0x02
 
--- a document that begins a count
-pub record BeginsAt (initial : ℕ) (d : Doc) : Type 0 where
+-- "Plain expiry: 0 never; 1 to 2,592,000 is added to the clock, 0x04 if that passes 2^32 - 1; above, absolute.": what is stored for an expiry that is given
+pub record PlainExpiry (given clock stored : ℕ) : Type 0 where
+  pub never : given ≡ 0 → stored ≡ 0
+  pub added : 1 ≤ given → given ≤ 2592000 → (given + clock < 2 ^ 32) × (stored ≡ given + clock)
+  pub absolute : 2592000 < given → stored ≡ given
+
+-- a document that begins a count: "the initial number is stored, flags 0, expiry by the plain rule"
+pub record BeginsAt (initial given clock : ℕ) (d : Doc) : Type 0 where
   pub document : d .tomb ≡ false
   pub value : d .value ≡ digits initial
   pub flags : d .numbers .flags ≡ 0
+  pub expiry : PlainExpiry given clock (d .numbers .expiry)
 
 -- a counter without a header CAS begins at its initial number, and isn't refused with 0x01, 0x02 or 0x06
 pub record CountsAnew (b : List ℕ) (clock : ℕ) (s : List ℕ) (room : ℕ) : Type 0 where
   pub found : Avoids b clock s room 0x01
   pub free : Avoids b clock s room 0x02
   pub number : Avoids b clock s room 0x06
-  pub stored : Answers b clock s room 0 → (d : Doc) × ((docAt (servedTable b clock s room) (keyIn s) ≡ some d) × BeginsAt (initialIn s) d)
+  pub stored : Answers b clock s room 0 → (d : Doc) × ((docAt (servedTable b clock s room) (keyIn s) ≡ some d) × BeginsAt (initialIn s) (counterExpiry s) (laterAt b clock) d)
 
 abbrev pub DeadCounts : Type 0
 DeadCounts =
-    (b : List ℕ) (clock : ℕ) (s : List ℕ) (room : ℕ) → Bytes b → Bytes s → NotLive clock (docAt b (keyIn s)) → among (opcode s) counters ≡ true
+    (b : List ℕ) (clock : ℕ) (s : List ℕ) (room : ℕ) → Bytes b → Bytes s → clock < 2 ^ 32 → NotLive (laterAt b clock) (docAt b (keyIn s)) → among (opcode s) counters ≡ true
     → headerCas s ≡ 0 → (counterExpiry s ≡ 0xffffffff → ⊥) → CountsAnew b clock s room
+
+-- ---- the expiry of a Set, an Add or a Replace: "8 extras (flags, expiry)"
+abbrev pub writtenExpiry : List ℕ → ℕ
+writtenExpiry s = num (extrasIn s) 4 4
+
+-- one with status 0 stores it by the plain rule, at the later of the kept clock and the call's
+abbrev pub WritesUntil : Type 0
+WritesUntil =
+    (b : List ℕ) (clock : ℕ) (s : List ℕ) (room : ℕ) → Bytes b → Bytes s → clock < 2 ^ 32 → among (opcode s) (sets ++ (adds ++ replaces)) ≡ true
+    → Answers b clock s room 0
+    → (d : Doc) × ((docAt (servedTable b clock s room) (keyIn s) ≡ some d) × PlainExpiry (writtenExpiry s) (laterAt b clock) (d .numbers .expiry))
 
 -- ---- an expired document
 -- the tombstone with its revision and CAS: "A tombstone has no value, flags 0, expiry 0."
@@ -162,21 +181,22 @@ pub record AsBuried (b grave : List ℕ) (clock : ℕ) (s out : List ℕ) : Type
   pub undamaged : sound grave ≡ true
   pub answer : served b clock s (length out) ≡ served grave clock s (length out)
   pub reply : servedReply b clock s out ≡ servedReply grave clock s out
-  -- both tables end with the same bytes, or neither changes
+  -- both tables end with the same bytes, or neither changes but for the kept clock
   pub table : (servedTable b clock s (length out) ≡ servedTable grave clock s (length out))
-      ⊎ ((servedTable b clock s (length out) ≡ b) × (servedTable grave clock s (length out) ≡ grave))
+      ⊎ ((servedTable b clock s (length out) ≡ keptBy (served b clock s (length out)) b clock)
+      × (servedTable grave clock s (length out) ≡ keptBy (served grave clock s (length out)) grave clock))
   pub others : (k : Key) → same (keyIn s) k ≡ false → docAt (servedTable b clock s (length out)) k ≡ docAt (servedTable grave clock s (length out)) k
 
 -- any frame but a with-meta one is answered, and leaves every other row, as on the undamaged table with the tombstone
 abbrev pub ExpiredIsDead : Type 0
 ExpiredIsDead =
-    (b : List ℕ) (clock : ℕ) (s out : List ℕ) (d : Doc) → Bytes b → Bytes s → sound b ≡ true → docAt b (keyIn s) ≡ some d → Expired clock d
+    (b : List ℕ) (clock : ℕ) (s out : List ℕ) (d : Doc) → Bytes b → Bytes s → clock < 2 ^ 32 → sound b ≡ true → docAt b (keyIn s) ≡ some d → Expired (laterAt b clock) d
     → among (opcode s) withMetas ≡ false → AsBuried b (buried b (keyIn s) d) clock s out
 
 -- with-meta writes without options 0x01 and 0x08 compare the row's own numbers: "a key with any row, expired or tombstone included, is compared; the write must be greater, else 0x02."
 abbrev pub DeadIsCompared : Type 0
 DeadIsCompared =
-    (b : List ℕ) (clock : ℕ) (s : List ℕ) (room : ℕ) (d : Doc) → Reaches b clock s room → docAt b (keyIn s) ≡ some d → NotLive clock (some d)
+    (b : List ℕ) (clock : ℕ) (s : List ℕ) (room : ℕ) (d : Doc) → Reaches b clock s room → docAt b (keyIn s) ≡ some d → NotLive (laterAt b clock) (some d)
     → among (opcode s) withMetas ≡ true → headerCas s ≡ 0 → eqb (withMeta (extrasIn s) .options % 2) 1 ≡ false
     → eqb (withMeta (extrasIn s) .options / 8 % 2) 1 ≡ false
     → (greater (modeAt b) (withMeta (extrasIn s) .numbers) (d .numbers) ≡ false → Answers b clock s room 0x02)
@@ -200,17 +220,19 @@ OneLiveness =
 -- and a live document is found: no such frame is answered 0x01, the owner's read shows its numbers
 abbrev pub LiveIsFound : Type 0
 LiveIsFound =
-    (b : List ℕ) (clock : ℕ) (s : List ℕ) (room : ℕ) (d : Doc) → Reaches b clock s room → docAt b (keyIn s) ≡ some d → Live clock d
+    (b : List ℕ) (clock : ℕ) (s : List ℕ) (room : ℕ) (d : Doc) → Reaches b clock s room → docAt b (keyIn s) ≡ some d → Live (laterAt b clock) d
     → (needsLive s || among (opcode s) adds) ≡ true → (Avoids b clock s room 0x01) × (readLive (readOf b clock (keyIn s)) ≡ true)
 
 -- a counter goes on counting: "flags and expiry stay"
 abbrev pub LiveCounts : Type 0
 LiveCounts =
-    (b : List ℕ) (clock : ℕ) (s : List ℕ) (room : ℕ) (d : Doc) → Bytes b → Bytes s → docAt b (keyIn s) ≡ some d → Live clock d
+    (b : List ℕ) (clock : ℕ) (s : List ℕ) (room : ℕ) (d : Doc) → Bytes b → Bytes s → clock < 2 ^ 32 → docAt b (keyIn s) ≡ some d → Live (laterAt b clock) d
     → among (opcode s) counters ≡ true → Answers b clock s room 0
     → (e : Doc) × ((docAt (servedTable b clock s room) (keyIn s) ≡ some e)
     × ((e .numbers .flags ≡ d .numbers .flags) × (e .numbers .expiry ≡ d .numbers .expiry)))
 
--- a Get of any form, hit or miss, changes no table byte, whatever the memory
+-- a Get of any form, hit or miss, changes no table byte but the kept clock's, and not that where it is refused, whatever the memory
 abbrev pub GetKeeps : Type 0
-GetKeeps = (b : List ℕ) (clock : ℕ) (s : List ℕ) (room : ℕ) → Bytes b → among (opcode s) gets ≡ true → servedTable b clock s room ≡ b
+GetKeeps =
+    (b : List ℕ) (clock : ℕ) (s : List ℕ) (room : ℕ) → Bytes b → among (opcode s) gets ≡ true
+    → servedTable b clock s room ≡ keptBy (served b clock s room) b clock

@@ -1,8 +1,10 @@
 pub mod Calls
 pub mod Merge
+pub mod Kept
 pub mod Table
 pub mod Expiry
 pub mod Listing
 pub mod Judged
+pub mod Clock
 pub mod Replies
 pub mod Worked

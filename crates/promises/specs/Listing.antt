@@ -19,6 +19,7 @@ use Rattle.plain.specs.Damage.{sound}
 use Rattle.serving.specs.declared.Served.the-variants.{Done}
 use Rattle.serving.specs.Serve.{served, servedTable, servedReply}
 use Rattle.promises.specs.Merge.{docAt}
+use Rattle.promises.specs.Kept.{laterAt, clockRaised, keptBy}
 use Rattle.promises.specs.Expiry.{Live, opcode, extrasIn, keyIn, Reaches}
 
 -- "optional 4-byte count, 1,000 if absent"
@@ -34,9 +35,9 @@ abbrev pub docsIn : List ℕ → List Entry
 docsIn b = plain .docs (tableOf b .rows)
 
 -- ---- the answer
--- the reply's value: the listing from the frame's key, as many keys as it asks for
+-- the reply's value: the listing from the frame's key, as many keys as it asks for, at the later of the kept clock and the call's
 abbrev pub listingIn : List ℕ → ℕ → List ℕ → List ℕ
-listingIn b clock s = listing (docsIn b) clock (keyIn s) (countIn s)
+listingIn b clock s = listing (docsIn b) (laterAt b clock) (keyIn s) (countIn s)
 
 -- document 000's header: status 0, opaque echoed, no key, no extras, "reply CAS 0"
 abbrev pub listingHeader : ℕ → ℕ → Header
@@ -57,16 +58,18 @@ listingReply b clock s = headerBytes (listingHeader (headerOf s .opaque) (length
 
 pub record ServesListing (b : List ℕ) (clock : ℕ) (s out : List ℕ) : Type 0 where
   pub answer : served b clock s (length out) ≡ Done 0 (24 + headerOf s .body) (24 + length (listingIn b clock s))
-  pub table : servedTable b clock s (length out) ≡ b
+  pub table : servedTable b clock s (length out) ≡ clockRaised b clock
   pub reply : servedReply b clock s out ≡ listingReply b clock s ++ drop (24 + length (listingIn b clock s)) out
 
 -- "Header CAS is ignored"; "None found is status 0": a whole frame to which none of the statuses up to 0x07 applies is answered the listing
 abbrev pub ListingServed : Type 0
 ListingServed = (b : List ℕ) (clock : ℕ) (s out : List ℕ) → Reaches b clock s (length out) → opcode s ≡ 0xb8 → ServesListing b clock s out
 
--- no such frame changes a table byte, whatever the memory and whatever its form
+-- no such frame changes a table byte but the kept clock's, whatever the memory and whatever its form
 abbrev pub ListingKeeps : Type 0
-ListingKeeps = (b : List ℕ) (clock : ℕ) (s : List ℕ) (room : ℕ) → Bytes b → opcode s ≡ 0xb8 → servedTable b clock s room ≡ b
+ListingKeeps =
+    (b : List ℕ) (clock : ℕ) (s : List ℕ) (room : ℕ) → Bytes b → opcode s ≡ 0xb8
+    → servedTable b clock s room ≡ keptBy (served b clock s room) b clock
 
 -- ---- the keys listed
 -- a key with a live document, at or after a start key

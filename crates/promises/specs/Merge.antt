@@ -1,5 +1,5 @@
 -- Demand 3 on bytes: a whole list of serving calls with opcodes a2, a3, a8 and a9, from any undamaged active table.
-use Prim.Native.Nat.{ℕ, _≤_}
+use Prim.Native.Nat.{ℕ, _^_, _≤_, _<_}
 use mathlib.Core.Path.{_≡_}
 use mathlib.Core.Bool.{true, false}
 use mathlib.Core.List.{List, [], _∷_, _++_, map}
@@ -11,7 +11,7 @@ use Rattle.numbers.specs.declared.Mode.the-variants.{ByRevision, LastWrite}
 use Rattle.numbers.specs.Order.{modeOf}
 use Rattle.document.specs.Documents.{Key, Doc, Entry}
 use Rattle.engine.specs.Engine.{isSome}
-use Rattle.document.specs.Head.{marked}
+use Rattle.document.specs.Head.{marked, clocked}
 use Rattle.shape.specs.Shapes.{among}
 use Rattle.header.specs.Header.{headerOf}
 use Rattle.with_meta.specs.WithMeta.{withMeta}
@@ -22,7 +22,7 @@ use Rattle.decode.specs.Decode.{requestOf}
 use Rattle.rows.specs.Table.{tableOf}
 use Rattle.plain.specs.Damage.{sound}
 use Rattle.rows.specs.Find.{findRow, freeRows}
-use Rattle.merge.specs.Writes.{_∈_, Greatest, optionList, for, isWritten, newKeys, largestCas, verdicts, applied}
+use Rattle.merge.specs.Writes.{_∈_, Greatest, optionList, for, isWritten, newKeys, latest, largestCas, verdicts, applied}
 use Rattle.merge.specs.Merge.{All}
 use Rattle.promises.specs.Calls.{Call, bytesAfter, callOutcomes, callStatuses}
 
@@ -45,6 +45,8 @@ optionsFor LastWrite = 2
 -- "set-with-meta and delete-with-meta writes for its vbucket that break no form, field or size rule of its mode, with header CAS 0 and none of options 0x01, 0x04, 0x08", each with outcome 0
 pub record MergingCall (m : Mode) (vbucket : ℕ) (c : Call) : Type 0 where
   pub bytes : Bytes (c .received)
+  -- "seconds since 1970 in 32 bits"
+  pub clock : c .clock < 2 ^ 32
   pub room : 1302 ≤ length (c .reply)
   pub whole : gateOf (c .received) ≡ Whole (headerOf (c .received))
   pub opcode : among (headerOf (c .received) .opcode) (0xa2 ∷ 0xa3 ∷ 0xa8 ∷ 0xa9 ∷ []) ≡ true
@@ -52,6 +54,9 @@ pub record MergingCall (m : Mode) (vbucket : ℕ) (c : Call) : Type 0 where
   pub options : withMeta (bytesIn (c .received) (extrasSpan (headerOf (c .received)))) .options ≡ optionsFor m
   pub here : headerOf (c .received) .vbucket ≡ vbucket
   pub header-cas : headerOf (c .received) .cas .0 ≡ 0
+
+abbrev pub clocks : List Call → List ℕ
+clocks cs = map (λ c. c .clock) cs
 
 abbrev pub writes : List Call → List Entry
 writes cs = map carriedBy cs
@@ -79,9 +84,10 @@ pub record Merged (b : List ℕ) (cs : List Call) : Type 0 where
   -- "each with outcome 0"
   pub served : All (λ n. n ≡ 0) (callOutcomes b cs)
   pub statuses : callStatuses b cs ≡ verdicts (modeAt b) (docAt b) [] (writes cs)
-  -- "The mark ends as the largest of itself and the CAS numbers of the writes with status 0", and nothing else of the head changes
-  pub mark : tableOf (bytesAfter b cs) .head
-      ≡ marked (tableOf b .head) (largestCas (tableOf b .head .mark .0) (applied (callStatuses b cs) (writes cs)))
+  -- "The mark ends as the largest of itself and the CAS numbers of the writes with status 0"; order 2: "the kept clock ends as the greatest of itself and those given"; nothing else of the head changes
+  pub head : tableOf (bytesAfter b cs) .head
+      ≡ marked (clocked (tableOf b .head) (latest (tableOf b .head .clock) (clocks cs)))
+      (largestCas (tableOf b .head .mark .0) (applied (callStatuses b cs) (writes cs)))
   -- "in last-write-wins, of all the writes"
   pub mark-last : modeAt b ≡ LastWrite → tableOf (bytesAfter b cs) .head .mark .0 ≡ largestCas (tableOf b .head .mark .0) (writes cs)
   pub undamaged : sound (bytesAfter b cs) ≡ true

@@ -2,7 +2,7 @@
 use Prim.Native.Nat.{ℕ, _+_}
 use mathlib.Core.Path.{_≡_}
 use mathlib.Core.Bool.{true, false, cond}
-use mathlib.Core.List.{List, [], _∷_, _++_, map}
+use mathlib.Core.List.{List, [], _∷_, _++_}
 use mathlib.Core.Option.{none, some}
 use lib.ListN.{length}
 use lib.Dec.{eqb}
@@ -28,16 +28,16 @@ tombstone revision cas = record { tomb = true; value = []; numbers = numbers 0 r
 abbrev row : Key → Doc → Row
 row k d = some (record { key = k; doc = d })
 
-abbrev head : ℕ → ℕ → Head
-head mode mark = record { state = 1; mode = mode; vbucket = 0; clock = 0; mark = record { 0 = mark } }
+abbrev head : ℕ → ℕ → ℕ → Head
+head mode clock mark = record { state = 1; mode = mode; vbucket = 0; clock = clock; mark = record { 0 = mark } }
 
 -- at the start: `Hello` is stored and long expired, and one row is free
 abbrev pub table : ℕ → List ℕ
-table mode = tableBytes (record { head = head mode 50; rows = row hello (doc 5 4 40) ∷ none ∷ [] })
+table mode = tableBytes (record { head = head mode 0 50; rows = row hello (doc 5 4 40) ∷ none ∷ [] })
 
--- at the end: `Hello` is as given, and `mykey` is a tombstone
+-- at the end: `Hello` is as given, `mykey` is a tombstone, and the latest clock is kept
 abbrev end : ℕ → Doc → List ℕ
-end mode d = tableBytes (record { head = head mode 61; rows = row hello d ∷ row mykey (tombstone 11 61) ∷ [] })
+end mode d = tableBytes (record { head = head mode 1000000 61; rows = row hello d ∷ row mykey (tombstone 11 61) ∷ [] })
 
 -- the option that last-write-wins asks for; in revision mode the extras end before the options
 abbrev options : ℕ → List ℕ

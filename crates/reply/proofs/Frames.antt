@@ -14,12 +14,13 @@ use Rattle.header.proofs.HeaderLaws.{length-header}
 use Rattle.rules.proofs.RuleLaws.{key-most}
 use Rattle.request.specs.Reading.{frameStatus, bytesIn, extrasSpan, keySpan, valueSpan}
 use Rattle.document.specs.declared.Head.{Head}
+use Rattle.document.specs.Head.{atClock}
 use Rattle.decision.specs.declared.Decision.{Decision}
-use Rattle.rows.specs.Table.{headOf, tableOf}
+use Rattle.rows.specs.Table.{headOf, tableOf, clockAt}
 use Rattle.plain.specs.Damage.{sound}
 use Rattle.plain.proofs.TableLaws.{sound-good}
 use Rattle.serving.specs.Reply.{bodyOf, replyHeader, replyBytes}
-use Rattle.serving.specs.Serve.{reachesDecision, refusal, decisionOn, frameReply}
+use Rattle.serving.specs.Serve.{reachesDecision, refusal, decisionOn, decisionAt, frameReply}
 use Rattle.reply.specs.Fitting.{bareHeader}
 use Rattle.reply.proofs.Replies.{shown-body-most}
 
@@ -32,16 +33,16 @@ refusal-length : (op opaque : ℕ) (hd : Head) (st : ℕ) → length (replyBytes
 refusal-length op opaque hd st = ap length (bare-reply op opaque hd st) ∙ length-header _
 
 module _ (b s : List ℕ) (clock : ℕ) (h : Header) (g : reachesDecision (frameStatus s h) ≡ false) where
-  pub refused-is : decisionOn (tableOf b) clock s h ≡ refusal (headOf b) (frameStatus s h)
+  pub refused-is : decisionAt b clock s h ≡ refusal (atClock (headOf b) clock) (frameStatus s h)
   unfolding decisionOn tableOf
   refused-is = rw g
 
-  pub refused-reply : replyBytes (h .opcode) (h .opaque) (refusal (headOf b) (frameStatus s h)) [] [] ≡ frameReply b clock s h
+  pub refused-reply : replyBytes (h .opcode) (h .opaque) (refusal (atClock (headOf b) clock) (frameStatus s h)) [] [] ≡ frameReply b clock s h
   unfolding frameReply replyBytes
   refused-reply = rw refused-is
 
   pub refused-length : length (frameReply b clock s h) ≡ 24
-  refused-length = rw (← refused-reply) (refusal-length (h .opcode) (h .opaque) (headOf b) (frameStatus s h))
+  refused-length = rw (← refused-reply) (refusal-length (h .opcode) (h .opaque) (atClock (headOf b) clock) (frameStatus s h))
 
 -- ---- a frame that goes on: key and stored value are short
 pub key-short : (s : List ℕ) (h : Header) → reachesDecision (frameStatus s h) ≡ true → length (bytesIn s (keySpan h)) ≤ 250
@@ -64,6 +65,6 @@ unfolding frameReply
 reply-most b clock s h y k =
     let key = bytesIn s (keySpan h) in
     cases (reachesDecision (frameStatus s h))
-    (λ t. bytes-most (h .opcode) (h .opaque) (decisionOn (tableOf b) clock s h) key _
-    (shown-body-most (decisionOn (tableOf b) clock s h .done .reply) (tableOf b .head .mark .0) (tableOf b .rows) clock key (key-short s h t) (sound-good b y k .1 .rows)))
+    (λ t. bytes-most (h .opcode) (h .opaque) (decisionAt b clock s h) key _
+    (shown-body-most (decisionAt b clock s h .done .reply) (tableOf b .head .mark .0) (tableOf b .rows) (clockAt (tableOf b) clock) key (key-short s h t) (sound-good b y k .1 .rows)))
     (λ f. omega (arith, refused-length b s clock h f))

@@ -4,6 +4,7 @@ ghost use Prim.Native.Nat.{_+_, _≤_};
 ghost use lib.ListN.{length};
 ghost use lib.Dec.{leb};
 ghost use Rattle.octets.specs.Parts.{written};
+ghost use Rattle.octets.specs.BigEndian.{bytesOf};
 ghost use Rattle.rows.specs.Row.{sizeBytes, shortBytes, longBytes, slotBytes, kindOf};
 ghost use Rattle.rows.specs.Table.{headBytes};
 ghost use Rattle.row_writer.specs.Over.{overBytes, overRow};
@@ -27,6 +28,13 @@ pub fn put_head(b: &mut [u8], h: Head)
     octets::put_be(b, 2, 2, h.vbucket as u64);
     octets::put_be(b, 4, 4, h.clock as u64);
     octets::put_be(b, 8, 8, h.mark.0);
+}
+
+// Writes the kept clock alone. Memory with no room for it is left unchanged.
+pub fn put_clock(b: &mut [u8], clock: u32)
+    ensures { λ _. ⌜ now (b .exit) ≡ written (now (b .entry)) 4 (bytesOf 4 clock) ⌝ }
+{
+    octets::put_be(b, 4, 4, clock as u64);
 }
 
 fn put_sizes(s: &mut [u8], at: usize, h: Slot)

@@ -13,9 +13,9 @@ use Rattle.rows.specs.Row.{slotOf}
 unfoldable pub sizeOk : ℕ → ℕ → Bool
 sizeOk len n = leb 1 n && (leb n 256 && eqb len (16 + n * 1312))
 
--- state 1 to 4, mode 1 or 2, any vbucket, the number kept 0, any mark
+-- state 1 to 4, mode 1 or 2; any vbucket, kept clock and mark
 unfoldable pub headOk : Head → Bool
-headOk h = (leb 1 (h .state) && leb (h .state) 4) && ((leb 1 (h .mode) && leb (h .mode) 2) && eqb (h .clock) 0)
+headOk h = (leb 1 (h .state) && leb (h .state) 4) && (leb 1 (h .mode) && leb (h .mode) 2)
 
 -- a document, or "A tombstone has no value, flags 0, expiry 0."
 abbrev pub kindOk : Slot → Bool

@@ -1,10 +1,12 @@
--- A table's bytes and what they mean: a header of 16 bytes, state 1, mode 1, vbucket 2, a number kept 0 (4), mark 8, and then the rows.
+-- A table's bytes and what they mean: a header of 16 bytes, state 1, mode 1, vbucket 2, the kept clock 4, mark 8, and then the rows.
 use Prim.Native.Nat.{ℕ, zero, suc, _-_, _/_}
 use mathlib.Core.List.{List, [], _∷_, _++_, map}
 use mathlib.Core.Option.{none}
 use lib.ListN.{length, take, drop, set, getD, replicate}
 use Rattle.octets.specs.BigEndian.{num, bytesOf}
+use Rattle.numbers.specs.Expiry.{later}
 use Rattle.document.specs.declared.Head.{Head}
+use Rattle.document.specs.Head.{atClock}
 use Rattle.rows.specs.Row.{Row, rowOf, rowBytes}
 
 pub record Table : Type 0 where
@@ -49,6 +51,14 @@ tableBytes t = headBytes (t .head) ++ rowsBytes (t .rows)
 abbrev pub withRow : Table → ℕ → Row → Table
 withRow t i w = record { head = t .head; rows = set (t .rows) i w }
 
--- "A fresh table is all free, mark 0."
+-- order 2: "the later of the two", the clock that a table keeps and a call's
+abbrev pub clockAt : Table → ℕ → ℕ
+clockAt t clock = later (t .head .clock) clock
+
+-- a table at a call's clock, which it keeps
+abbrev pub tableAt : Table → ℕ → Table
+tableAt t clock = record { head = atClock (t .head) clock; rows = t .rows }
+
+-- "A fresh table is all free, mark 0."; order 2, of the kept clock: "0 when fresh"
 abbrev pub fresh : ℕ → ℕ → ℕ → ℕ → Table
 fresh n state mode vbucket = record { head = record { state = state; mode = mode; vbucket = vbucket; clock = 0; mark = record { 0 = 0 } }; rows = replicate n none }

@@ -53,7 +53,7 @@ pub fn row_sound(r: &[u8], mark: u64) -> bool
 pub fn head_ok(h: Head) -> bool
     ensures { λ r. ⌜ r ≡ headOk h ⌝ }
 {
-    ((1 <= h.state) & (h.state <= 4)) & (((1 <= h.mode) & (h.mode <= 2)) & (h.clock == 0))
+    ((1 <= h.state) & (h.state <= 4)) & ((1 <= h.mode) & (h.mode <= 2))
 }
 
 // Whether memory of len bytes is a table of n rows.

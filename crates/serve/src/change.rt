@@ -30,7 +30,8 @@ fn store_from(b: &mut [u8], l: Lookup, key: &[u8], m: Metadata, source: Source, 
     }
 }
 
-// Stores what a decision says, where a lookup of the key said. value: the frame's.
+// Stores what a decision says, where a lookup of the key said. value: the frame's. The head is written once: where nothing is
+// stored, only its clock has changed.
 pub(crate) fn change(b: &mut [u8], l: Lookup, key: &[u8], d: Done, value: &[u8])
     ensures { λ _. ⌜ now (b .exit) ≡ storedWith (now (b .entry)) l (now (key .entry)) (docFrom (d .store) (bytesFrom (d .source) (now (value .entry)))) (d .head) ⌝ }
 {
@@ -42,6 +43,6 @@ pub(crate) fn change(b: &mut [u8], l: Lookup, key: &[u8], d: Done, value: &[u8])
             row_writer::put_head(b, head);
             store_from(b, l, key, m, source, value);
         }
-        Stored::Nothing => {}
+        Stored::Nothing => row_writer::put_clock(b, head.clock),
     }
 }

@@ -6,6 +6,8 @@ ghost use mathlib.Core.Bool.{true};
 ghost use Prim.Native.Nat.{_+_, _≤_};
 ghost use lib.ListN.{length};
 ghost use Rattle.octets.specs.Parts.{part, written};
+ghost use Rattle.octets.specs.BigEndian.{bytesOf};
+ghost use Rattle.numbers.specs.Expiry.{later};
 ghost use Rattle.shape.specs.Shapes.{shapeOf};
 ghost use Rattle.header.specs.Header.{headerBytes};
 ghost use Rattle.rules.specs.Rules.{formStatus};
@@ -123,20 +125,23 @@ fn serve_formed(
     let l = table::find(b, key, commands::writes(command));
     let size = ask.size;
     let old = octets::part(b, l.at, l.len);
-    let d = decided(head, clock, l, old, ask);
-    let n = put_answer(b, clock, h, d, key, old, out);
+    let now = document::at_clock(head, clock);
+    let d = decided(now, now.clock, l, old, ask);
+    let n = put_answer(b, now.clock, h, d, key, old, out);
     let done = d.done;
     change::change(b, l, key, done, octets::part(value, 0, size));
     let frame = header::layout_of(h);
     Served::Done(d.status, frame.end, n)
 }
 
-// Answers a frame whose status the reader gives: a bare header, and nothing stored.
-fn refused(out: &mut [u8], h: Header, status: u8) -> Served
+// Answers a frame whose status the reader gives: a bare header, and nothing stored but the clock.
+fn refused(b: &mut [u8], head: Head, clock: u32, h: Header, status: u8, out: &mut [u8]) -> Served
     ensures { λ r. ⌜ (r ≡ Served.Done status (24 + h .body) 24)
-        × (now (out .exit) ≡ written (now (out .entry)) 0 (headerBytes (bareHeader (h .opcode) (h .opaque) status))) ⌝ }
+        × ((now (b .exit) ≡ written (now (b .entry)) 4 (bytesOf 4 (later (head .clock) clock)))
+        × (now (out .exit) ≡ written (now (out .entry)) 0 (headerBytes (bareHeader (h .opcode) (h .opaque) status)))) ⌝ }
 {
     reply::put_bare(out, h.opcode, h.opaque, status);
+    row_writer::put_clock(b, numbers::later(head.clock, clock));
     let frame = header::layout_of(h);
     Served::Done(status, frame.end, 24)
 }
@@ -164,7 +169,7 @@ fn serve_parts(
     let key = &s[a..k];
     let value = &s[k..end];
     match decode::decoded_by(shape, h, extras, value) {
-        Decoded::Broken => refused(out, h, 0x04),
+        Decoded::Broken => refused(b, head, clock, h, 0x04, out),
         Decoded::Whole(ask) => serve_formed(b, head, clock, s, h, ask, key, value, out),
     }
 }
@@ -178,7 +183,7 @@ fn serve_whole(b: &mut [u8], head: Head, clock: u32, s: &[u8], h: Header, out: &
     if status == 0 {
         return serve_parts(b, head, clock, s, h, shape, out);
     }
-    refused(out, h, status)
+    refused(b, head, clock, h, status, out)
 }
 
 // On a table that is not damaged: the outcomes from 4 on, in the order tested.

@@ -3,3 +3,4 @@ pub mod Formed
 pub mod Kept
 pub mod Statuses
 pub mod Change
+pub mod Clock

@@ -1,4 +1,5 @@
 pub mod Reply
 pub mod Serve
 pub mod Serves
+pub mod Clock
 pub mod Statuses

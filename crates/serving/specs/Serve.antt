@@ -20,7 +20,7 @@ use Rattle.decision.specs.Decide.{Effect, contextOf, instructionOf, effectOf}
 use Rattle.document.specs.Documents.{Key, Doc}
 use Rattle.engine.specs.Engine.{storeRow}
 use Rattle.decode.specs.Decode.{requestOf}
-use Rattle.rows.specs.Table.{Table, tableOf, tableBytes}
+use Rattle.rows.specs.Table.{Table, tableOf, tableAt, clockAt, tableBytes}
 use Rattle.plain.specs.Plain.{plain}
 use Rattle.engine.specs.declared.Checked.the-variants.{Damaged}
 use Rattle.plain.specs.Damage.{sound, checkedOutcome}
@@ -89,21 +89,29 @@ tableChanged t key x = record { head = x .head; rows = storeRow plain (t .rows) 
 abbrev pub frameChange : Table → ℕ → List ℕ → Header → Table
 frameChange t clock s h = tableChanged t (bytesIn s (keySpan h)) (frameEffect t clock s h)
 
--- the table's memory after it
+-- ---- order 2, on a table's memory: "every served frame, read and purge uses the later of the two", and the table keeps it, whatever the status
+abbrev pub decisionAt : List ℕ → ℕ → List ℕ → Header → Decision
+decisionAt b clock s h = decisionOn (tableAt (tableOf b) clock) (clockAt (tableOf b) clock) s h
+
+abbrev pub effectAt : List ℕ → ℕ → List ℕ → Header → Effect
+effectAt b clock s h = frameEffect (tableAt (tableOf b) clock) (clockAt (tableOf b) clock) s h
+
+-- the memory after a whole frame
 unfoldable pub frameTable : List ℕ → ℕ → List ℕ → Header → List ℕ
 unfolding frameEffect
-frameTable b clock s h = tableBytes (frameChange (tableOf b) clock s h)
+frameTable b clock s h = tableBytes (frameChange (tableAt (tableOf b) clock) (clockAt (tableOf b) clock) s h)
 
 unfoldable pub frameReply : List ℕ → ℕ → List ℕ → Header → List ℕ
 unfolding decisionOn
 frameReply b clock s h =
-    let x = decisionOn (tableOf b) clock s h in
-    replyBytes (h .opcode) (h .opaque) x (bytesIn s (keySpan h)) (replyShows (x .done .reply) (tableOf b .rows) clock (bytesIn s (keySpan h)))
+    let x = decisionAt b clock s h in
+    let key = bytesIn s (keySpan h) in
+    replyBytes (h .opcode) (h .opaque) x key (replyShows (x .done .reply) (tableOf b .rows) (clockAt (tableOf b) clock) key)
 
 -- ---- serving: by the gate
 abbrev pub answerBy : List ℕ → ℕ → List ℕ → Gate → Served
 answerBy b clock s (Stop n need) = Refused n need
-answerBy b clock s (Whole h) = Done (frameEffect (tableOf b) clock s h .status) (24 + h .body) (length (frameReply b clock s h))
+answerBy b clock s (Whole h) = Done (effectAt b clock s h .status) (24 + h .body) (length (frameReply b clock s h))
 
 abbrev pub tableBy : List ℕ → ℕ → List ℕ → Gate → List ℕ
 tableBy b clock s (Stop n need) = b

@@ -8,11 +8,12 @@ use mathlib.Core.Option.{none, some}
 use lib.ListN.{length, take, drop, getD, length-append}
 use borrow.Author.Tests.{lt-ltb}
 use Rattle.octets.specs.Parts.{pasted}
+use Rattle.octets.specs.BigEndian.{bytesOf}
 use Rattle.octets.proofs.Lists.{written-fits, pasted-over}
 use Rattle.document.specs.Documents.{Key, Doc, Entry}
 use Rattle.document.specs.Stored.{goneDoc}
 use Rattle.rows.specs.Row.{Row, rowBytes}
-use Rattle.rows.specs.Table.{Table, rowCount, rowAt, headBytes, rowsBytes, tableBytes}
+use Rattle.rows.specs.Table.{Table, clockAt, rowCount, rowAt, headBytes, rowsBytes, tableBytes}
 use Rattle.rows.specs.Good.{EntryGood}
 use Rattle.row_writer.specs.Over.{overBytes}
 use Rattle.row_writer.proofs.Over.{over-used, over-free}
@@ -30,7 +31,7 @@ use Rattle.plain.proofs.ChangeLaws.{raise, row-put, put-good, purge-good}
 use Rattle.plain_writer.proofs.PurgeBytes.{purge-bytes}
 use Rattle.table.specs.declared.Lookup.{Lookup}
 use Rattle.table.specs.Calls.{lookupOf, storedBy}
-use Rattle.table.specs.Claims.{StoresGood, HeadPut, HeadGood, PurgesGood}
+use Rattle.table.specs.Claims.{StoresGood, HeadPut, HeadGood, ClockPut, ClockGood, PurgesGood}
 use Rattle.table.proofs.Looking.{absentAt, row-bytes, entry-good, entry-bytes, found-lookup, absent-lookup}
 
 free-there : (k i : ℕ) (ws : List Row) → freeIn k ws ≡ At i → (j : ℕ) × ((i ≡ k + j) × (getD ws j none ≡ none))
@@ -105,6 +106,25 @@ head-good t m g l s = record {
   clock = g .clock;
   mark = s;
   rows = raise (t .head .mark .0) m (t .rows) l (g .rows);
+  keys = g .keys;
+}
+
+pub clock-put : ClockPut
+unfolding tableBytes headBytes bytesOf pasted
+clock-put t clock =
+    let n : length (tableBytes t) ≡ length (headBytes (t .head)) + length (rowsBytes (t .rows)) = length-append (headBytes (t .head)) (rowsBytes (t .rows)) in
+    written-fits (tableBytes t) 4 (bytesOf 4 (clockAt t clock)) (omega (arith, n, head-length (t .head)))
+
+pub clock-good : ClockGood
+clock-good t clock g s = record {
+  least = g .least;
+  most = g .most;
+  state = g .state;
+  mode = g .mode;
+  vbucket = g .vbucket;
+  clock = omega (arith, g .clock, s);
+  mark = g .mark;
+  rows = g .rows;
   keys = g .keys;
 }
 

@@ -6,13 +6,14 @@ use mathlib.Core.List.{List}
 use lib.Dec.{ltb}
 use lib.ListN.{length}
 use Rattle.octets.specs.Parts.{Bytes, part, written}
+use Rattle.octets.specs.BigEndian.{bytesOf}
 use Rattle.document.specs.Documents.{Key, Doc, docValue}
 use Rattle.document.specs.Stored.{storedOf, hasRow, goneDoc}
 use Rattle.document.specs.declared.Head.{Head}
 use Rattle.document.specs.Head.{marked}
 use Rattle.engine.specs.Engine.{Room}
 use Rattle.rows.specs.Row.{Row}
-use Rattle.rows.specs.Table.{Table, tableOf, headBytes, tableBytes}
+use Rattle.rows.specs.Table.{Table, tableOf, tableAt, clockAt, headBytes, tableBytes}
 use Rattle.rows.specs.Good.{EntryGood}
 use Rattle.rows.specs.Find.{findRow, freeRows, valuePlace}
 use Rattle.plain.specs.Damage.{sound}
@@ -49,12 +50,19 @@ StoresGood =
     (t : Table) (key : Key) (d : Doc) → Good t → EntryGood (t .head .mark .0) (record { key = key; doc = d }) → Room plain (t .rows) key
     → Stores t key d
 
--- the head is written apart: it changes no row, a higher mark keeps a table good, and no lookup sees it
+-- the head is written apart: it changes no row, a higher mark and any clock keep a table good, and no lookup sees it
 abbrev pub HeadPut : Type 0
 HeadPut = (t : Table) (h : Head) → written (tableBytes t) 0 (headBytes h) ≡ tableBytes (record { head = h; rows = t .rows })
 
 abbrev pub HeadGood : Type 0
 HeadGood = (t : Table) (m : ℕ) → Good t → t .head .mark .0 ≤ m → m < 2 ^ 64 → Good (record { head = marked (t .head) m; rows = t .rows })
+
+-- order 2: the kept clock's four bytes, written alone
+abbrev pub ClockPut : Type 0
+ClockPut = (t : Table) (clock : ℕ) → written (tableBytes t) 4 (bytesOf 4 (clockAt t clock)) ≡ tableBytes (tableAt t clock)
+
+abbrev pub ClockGood : Type 0
+ClockGood = (t : Table) (clock : ℕ) → Good t → clock < 2 ^ 32 → Good (tableAt t clock)
 
 abbrev pub LookupHead : Type 0
 LookupHead =

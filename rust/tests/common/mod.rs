@@ -1,7 +1,7 @@
 //! Tables and frames for the tests.
 #![allow(dead_code)]
 
-use contacts::{opcode, Cas, Fields, Mode, Served, State, Status, Tally, FRAME_MAX, REPLY_ROOM};
+use contacts::{opcode, Cas, Fields, Mode, Served, State, Status, Tally, FRAME_MAX, REPLY_ROOM, TABLE_AT_KEPT};
 
 pub const VBUCKET: u16 = 3;
 pub const NOW: u32 = 1_000_000;
@@ -26,6 +26,16 @@ pub fn damaged() -> Vec<u8> {
     let mut table = table(2);
     table[ROW + 1] = 3;
     table
+}
+
+/// The clock that a table keeps.
+pub fn kept(table: &[u8]) -> u32 {
+    u32::from_be_bytes(*table[TABLE_AT_KEPT..].first_chunk().unwrap())
+}
+
+/// A table without the bytes of its kept clock.
+pub fn but_for_the_kept_clock(table: &[u8]) -> [&[u8]; 2] {
+    [&table[..TABLE_AT_KEPT], &table[MARK..]]
 }
 
 pub fn fields(opcode: u8) -> Fields {
@@ -59,8 +69,12 @@ pub fn meta(flags: u32, expiry: u32, revision: u64, cas: Cas) -> Vec<u8> {
 
 /// Serves a frame at `NOW` and gives its status.
 pub fn status(table: &mut [u8], frame: &[u8]) -> Status {
+    status_at(table, NOW, frame)
+}
+
+pub fn status_at(table: &mut [u8], clock: u32, frame: &[u8]) -> Status {
     let mut reply = [0; REPLY_ROOM];
-    contacts::serve(table, NOW, frame, &mut reply, &mut Tally::default()).unwrap().status
+    contacts::serve(table, clock, frame, &mut reply, &mut Tally::default()).unwrap().status
 }
 
 /// Serves a frame at `NOW` that has to succeed.

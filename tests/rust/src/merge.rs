@@ -7,7 +7,7 @@ use crate::rendering::numbers::{Cas, Mode, Numbers, Revision};
 use crate::rendering::request::MAX_GIVEN;
 use crate::rendering::serving::ROOM;
 use crate::rendering::status::Status;
-use crate::rendering::table::{write_head, write_row, Kind, Row, Table, ACTIVE, HEADER, ROW};
+use crate::rendering::table::{write_head, write_kept, write_row, Kind, Row, Table, ACTIVE, HEADER, ROW};
 use std::cmp::Ordering;
 use std::collections::BTreeMap;
 
@@ -80,17 +80,19 @@ impl Document {
 struct List {
     mode: u8,
     vbucket: u16,
+    kept: u32,
     mark: u64,
     rows: Vec<Option<Document>>,
     writes: Vec<Document>,
 }
 
-/// What a list comes to in one order: the statuses, the documents by key, and the mark.
+/// What a list comes to in one order: the statuses, the documents by key, the mark and the kept clock.
 #[derive(Debug, PartialEq, Eq)]
 struct End {
     statuses: Vec<u8>,
     documents: Vec<Document>,
     mark: u64,
+    kept: u32,
 }
 
 impl List {
@@ -121,7 +123,7 @@ impl List {
         let rows = stored_rows(random, keys, &writes, least);
         let largest = rows.iter().flatten().map(|document| document.numbers.cas.0).max().unwrap_or(0);
         let (vbucket, mark) = (random.u32() as u16, largest + random.below(4) as u64);
-        List { mode, vbucket, mark, rows, writes }
+        List { mode, vbucket, kept: any_clock(random), mark, rows, writes }
     }
 
     fn stored(&self) -> impl Iterator<Item = &Document> {
@@ -143,6 +145,7 @@ impl List {
     fn table(&self) -> Vec<u8> {
         let mut memory = vec![0; HEADER + self.rows.len() * ROW];
         write_head(&mut memory, ACTIVE, self.mode, self.vbucket, Cas(self.mark));
+        write_kept(&mut memory, self.kept);
         for (place, document) in self.rows.iter().enumerate() {
             if let Some(Document { key, kind, value, numbers }) = document {
                 write_row(&mut memory, place, &Row { kind: *kind, numbers: *numbers, key, value });
@@ -181,22 +184,19 @@ impl List {
     }
 
     /// "The mark ends as the largest of itself and the CAS numbers of the writes with status 0; in last-write-wins, of
-    /// all the writes."
-    fn end(&self) -> End {
+    /// all the writes." Order 2: "the kept clock ends as the greatest of itself and those given."
+    fn end(&self, calls: &[(u32, Vec<u8>)]) -> End {
         let statuses = self.statuses();
         let counts = |status: u8| status == 0 || self.mode == LAST_WRITE_WINS;
         let raising = self.writes.iter().zip(&statuses).filter(|(_, &status)| counts(status));
         let mark = raising.map(|(write, _)| write.numbers.cas.0).fold(self.mark, u64::max);
-        End { statuses, documents: self.greatest(), mark }
+        let kept = calls.iter().map(|(clock, _)| *clock).fold(self.kept, u32::max);
+        End { statuses, documents: self.greatest(), mark, kept }
     }
 
     /// The calls that bring the writes, each at any clock.
     fn calls(&self, random: &mut Random) -> Vec<(u32, Vec<u8>)> {
-        let call = |write: &Document| {
-            let any = random.u32();
-            (*random.pick(&[0, 4, 5, 999, 1_000, u32::MAX, any]), write.frame(self, random))
-        };
-        self.writes.iter().map(call).collect()
+        self.writes.iter().map(|write| (any_clock(random), write.frame(self, random))).collect()
     }
 
     /// The list with its writes in another order, some of them heard again.
@@ -229,6 +229,15 @@ impl List {
     }
 }
 
+/// Any clock, more often one around an expiry; the last one seldom, since it stays.
+fn any_clock(random: &mut Random) -> u32 {
+    match random.below(60) {
+        0 => u32::MAX,
+        1..=3 => random.u32(),
+        _ => *random.pick(&[0, 4, 5, 999, 1_000]),
+    }
+}
+
 /// Documents of some keys at any places, and free rows: for all new keys and maybe more, or for too few of them.
 fn stored_rows(random: &mut Random, keys: &[&'static [u8]], writes: &[Document], least: u64) -> Vec<Option<Document>> {
     let stored: Vec<&'static [u8]> = keys.iter().copied().filter(|_| random.percent(50)).collect();
@@ -255,20 +264,21 @@ fn served(store: &dyn Store, list: &List, calls: &[(u32, Vec<u8>)]) -> (Vec<u8>,
         let served = store.serve(&mut memory, *clock, frame, &mut reply, &mut tally);
         statuses.push(if served.outcome == 0 { served.status } else { u8::MAX });
     }
-    let (documents, mark) = documents_and_mark(&memory);
-    (memory, End { statuses, documents, mark })
+    let end = end_of(&memory, statuses);
+    (memory, end)
 }
 
-/// The documents in the order of [`KEYS`], and the mark.
-fn documents_and_mark(memory: &[u8]) -> (Vec<Document>, u64) {
+/// What a table holds after calls with these statuses, the documents in the order of [`KEYS`].
+fn end_of(memory: &[u8], statuses: Vec<u8>) -> End {
     let Ok(table) = Table::read(memory) else {
-        return (Vec::new(), 0);
+        return End { statuses, documents: Vec::new(), mark: 0, kept: 0 };
     };
     let stored = |key: &&'static [u8]| {
         let (_, row) = table.find(key)?;
         Some(Document { key, kind: row.kind, value: row.value.to_vec(), numbers: row.numbers })
     };
-    (KEYS.iter().filter_map(stored).collect(), table.head.mark.0)
+    let documents = KEYS.iter().filter_map(stored).collect();
+    End { statuses, documents, mark: table.head.mark.0, kept: table.head.kept }
 }
 
 /// What lists have met, each in both modes.
@@ -281,9 +291,12 @@ enum Met {
     TieOfDocumentAndTombstone,
     TombstoneWithSmallerFlags,
     Repeat,
+    KeptClockStays,
+    KeptClockRises,
+    LastClock,
 }
 
-const ALL_MET: [Met; 7] = [
+const ALL_MET: [Met; 10] = [
     Met::AllKeys,
     Met::MostWrites,
     Met::TableFilled,
@@ -291,6 +304,9 @@ const ALL_MET: [Met; 7] = [
     Met::TieOfDocumentAndTombstone,
     Met::TombstoneWithSmallerFlags,
     Met::Repeat,
+    Met::KeptClockStays,
+    Met::KeptClockRises,
+    Met::LastClock,
 ];
 
 /// How many orders of lists were tried, in how many calls, and what they met in each mode.
@@ -335,6 +351,9 @@ fn has_met(met: Met, list: &List, end: &End) -> bool {
             pair(&|one, other| one.kind == Kind::Tombstone && beside(one, other) && list.greater(one, other))
         }
         Met::Repeat => (1..list.writes.len()).any(|number| list.writes[..number].contains(&list.writes[number])),
+        Met::KeptClockStays => 0 < list.kept && end.kept == list.kept,
+        Met::KeptClockRises => end.kept > list.kept,
+        Met::LastClock => end.kept == u32::MAX,
     }
 }
 
@@ -364,7 +383,7 @@ fn try_order(boats: [&dyn Store; 2], list: &List, ordered: &List, random: &mut R
     same("the boats' tables", &memory, &other_memory)?;
     let (new_keys, free) = list.new_keys_and_free_rows();
     if new_keys <= free {
-        same("what demand 3 says and the boats' end", &ordered.end(), &second)?;
+        same("what demand 3 says and the boats' end", &ordered.end(&calls), &second)?;
         let agreed = list.agreed();
         let kept: Vec<Document> = second.documents.iter().filter(|kept| agreed.contains(kept)).cloned().collect();
         same("the greatest in any order and what the boats hold", &agreed, &kept)?;

@@ -2,10 +2,18 @@
 
 use crate::answers::{Document, Fields, Purged, Ran, Request, Served, Store, Tally, Written};
 use crate::frame::Frame;
+use crate::generate::GET_KEYS;
+use crate::rendering::table::KEPT_AT;
 use std::time::{Duration, Instant};
 
 /// What the reply area and the writer's output hold before each call.
 const FILLING: u8 = 0xc5;
+
+/// Get, GetQ, Noop, Version, GetK, GetKQ and Get Keys.
+const SHOWING: [u8; 7] = [0x00, 0x09, 0x0a, 0x0b, 0x0c, 0x0d, GET_KEYS];
+
+/// Where the kept clock's four bytes end.
+const KEPT_END: usize = KEPT_AT + 4;
 
 #[derive(Clone, Debug, PartialEq, Eq)]
 pub enum Call {
@@ -110,7 +118,7 @@ impl<'s> Pair<'s> {
         same("tally", &one.tally, &two.tally)?;
         same_bytes("reply or output", &one.out, &two.out)?;
         same_bytes("table", &one.table, &two.table)?;
-        changes_within_the_answer(&first, &self.before, one)?;
+        changes_within_the_answer(call, &first, &self.before, one)?;
         for store in self.stores {
             round_trip(store, call, &first, &one.out)?;
         }
@@ -157,10 +165,11 @@ fn same_bytes(what: &str, first: &[u8], second: &[u8]) -> Result<(), String> {
     Err(format!("{what} differs at byte {at}: {:#04x} and {:#04x}", first[at], second[at]))
 }
 
-/// "A refused call changes nothing", and what a reply or a frame doesn't fill stays as it was.
-fn changes_within_the_answer(answer: &Answer, before: &State, after: &State) -> Result<(), String> {
+/// A refused call changes nothing, another status than 0 and a Get nothing of the table but the kept clock, and what a
+/// reply or a frame doesn't fill stays as it was.
+fn changes_within_the_answer(call: &Call, answer: &Answer, before: &State, after: &State) -> Result<(), String> {
     let (may_store, may_count, filled) = match *answer {
-        Answer::Served(served) => (served.outcome == 0 && served.status == 0, served.outcome == 0, served.reply),
+        Answer::Served(served) => (served.status == 0 && !only_shows(call), served.outcome == 0, served.reply),
         Answer::Ran(ran) => (ran.used > 0, ran.used > 0, ran.reply),
         Answer::Purged(purged) => (purged.freed > 0, false, 0),
         Answer::Made(outcome) => (outcome == 0, false, 0),
@@ -168,13 +177,42 @@ fn changes_within_the_answer(answer: &Answer, before: &State, after: &State) -> 
         Answer::Document(_) | Answer::Sound(_) | Answer::Size(_) | Answer::Request(_) => (false, false, 0),
     };
     let kept = [
-        ("the table", may_store || before.table == after.table),
+        ("the table", may_store || but_for_the_kept_clock(&before.table) == but_for_the_kept_clock(&after.table)),
+        ("the kept clock", kept_clock_after(call, answer, &before.table) == kept_clock_of(&after.table)),
         ("the tally", may_count || before.tally == after.tally),
         ("the output past its end", after.out[filled..].iter().all(|&byte| byte == FILLING)),
     ];
     match kept.iter().find(|(_, kept)| !kept) {
         Some((what, _)) => Err(format!("{what} was changed by a call that may not: {answer:?}")),
         None => Ok(()),
+    }
+}
+
+/// Whether it is a frame of a command that stores nothing.
+fn only_shows(call: &Call) -> bool {
+    matches!(call, Call::Serve { received, .. } if received.get(1).is_some_and(|opcode| SHOWING.contains(opcode)))
+}
+
+/// The kept clock's bytes; of memory that is too short, what there is of them.
+fn kept_clock_of(table: &[u8]) -> &[u8] {
+    &table[KEPT_AT.min(table.len())..KEPT_END.min(table.len())]
+}
+
+fn but_for_the_kept_clock(table: &[u8]) -> [&[u8]; 2] {
+    [&table[..KEPT_AT.min(table.len())], &table[KEPT_END.min(table.len())..]]
+}
+
+/// "A purge, and serving a frame with any status, raise it; outcomes 1 to 5 and document reads don't." A fresh table's
+/// is 0.
+fn kept_clock_after(call: &Call, answer: &Answer, before: &[u8]) -> Vec<u8> {
+    let kept = kept_clock_of(before).to_vec();
+    let later = |clock: u32| kept.clone().max(clock.to_be_bytes().to_vec());
+    match (call, answer) {
+        (Call::Serve { clock, .. }, Answer::Served(Served { outcome: 0, .. })) => later(*clock),
+        (Call::Run { clock, .. }, Answer::Ran(ran)) if ran.used > 0 => later(*clock),
+        (Call::Purge { clock, .. }, Answer::Purged(Purged { outcome: 0, .. })) => later(*clock),
+        (_, Answer::Made(0)) => vec![0; 4],
+        _ => kept,
     }
 }
 

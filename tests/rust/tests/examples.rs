@@ -78,7 +78,6 @@ fn m6_hit_and_miss_around_the_expiry() {
         assert_eq!(boat.status(1_000_000, &set("c", "v", 21_600)), 0);
         assert_eq!(boat.status(1_021_599, &keyed(0x00, "c")), 0);
         assert_eq!(boat.status(1_021_600, &keyed(0x00, "c")), 0x01);
-        assert_eq!(boat.status(1_021_599, &keyed(0x00, "c")), 0);
     }
 }
 

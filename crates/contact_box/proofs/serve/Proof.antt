@@ -56,8 +56,11 @@ slice-aggregate-serve-input-2 c = search needs
 serve-input-requires : tie.Need-serve-input-requires
 serve-input-requires c κs = search needs
 
-tally-requires : tie.Need-tally-requires
-tally-requires c κs = search needs
+head-of-requires : tie.Need-head-of-requires
+head-of-requires c κs = search needs
+
+ended-requires : tie.Need-ended-requires
+ended-requires c κs = search needs
 
 returns : tie.Need-returns
 returns c = search needs
@@ -76,5 +79,6 @@ serve-spec =
     slice-aggregate-serve-input
     slice-aggregate-serve-input-2
     serve-input-requires
-    tally-requires
+    head-of-requires
+    ended-requires
     returns)

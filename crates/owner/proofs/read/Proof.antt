@@ -1,7 +1,7 @@
 use mathlib.Core.Path.{sym, _∙_}
 use Rattle.octets.specs.Parts.{Bytes}
 use Rattle.plain.proofs.Checks.{checked-damaged, checked-sound}
-use Rattle.owner.proofs.Reading.{read-damaged, read-found}
+use Rattle.owner.proofs.Reading.{later-at, read-damaged, read-found}
 use borrow.Author.Needs.{needs}
 use Rattle.owner.proofs.read.Statement.{statement}
 use Rattle.owner.proofs.read.Tie as tie
@@ -12,11 +12,14 @@ checked-requires c κs = search needs
 enum-told : tie.Need-enum-told
 enum-told c = search needs
 
-enum-told-2 : tie.Need-enum-told-2
-enum-told-2 c = search needs
+enum-known-head : tie.Need-enum-known-head
+enum-known-head c = search needs
 
 find-requires : tie.Need-find-requires
 find-requires c κs = search needs
+
+later-requires : tie.Need-later-requires
+later-requires c κs = search needs
 
 shown-requires : tie.Need-shown-requires
 shown-requires c κs = search needs
@@ -29,11 +32,12 @@ returns-2 : tie.Need-returns-2
 returns-2 c =
     let at4 = c .before .before .before .before in
     let at6 = at4 .before .before in
-    let at7 = at6 .before in
-    let a = (at7 .args) in
-    let y : Bytes (a .s .now) = λ k. at6 .shared-slice-known .given k .fits in
-    read-found (a .s .now) (a .clock) (a .key .now) ((c .before .find) .result) ((c .shown) .result) y
-    (checked-sound _ _ (sym (at4 .checked .ensures) ∙ (c .before .before .enum-told2) .given .1) .0) ((c .before .find) .ensures) ((c .shown) .ensures)
+    let at8 = at6 .before .before in
+    let a = (at8 .before .args) in
+    let y : Bytes (a .s .now) = λ k. at8 .shared-slice-known .given k .fits in
+    let whole = checked-sound _ _ (sym (at6 .checked .ensures) ∙ at4 .head .given .1) in
+    read-found (a .s .now) (a .clock) (a .key .now) _ _ _ y (whole .0) (later-at (a .s .now) (a .clock) _ _ (whole .1) (c .before .later .ensures))
+    (c .before .before .find .ensures) (c .shown .ensures)
 
 pub read-spec : {M : Type 1} → statement M
 read-spec =
@@ -41,8 +45,9 @@ read-spec =
     (tie.spec
     checked-requires
     enum-told
-    enum-told-2
+    enum-known-head
     find-requires
+    later-requires
     shown-requires
     returns
     returns-2)

@@ -20,8 +20,7 @@ returns c =
       head = a .head;
       row = a .l .stored;
       free = c .before .before .has-place .ensures i;
-      clock =
-          a .clock;
+      clock = a .clock;
       number = c .before .parse .ensures i;
     }) (a .ask))
 

@@ -105,27 +105,31 @@ serve-formed-requires c κs =
 same-length : tie.Need-same-length
 same-length c = search needs
 
+same-length-2 : tie.Need-same-length-2
+same-length-2 c = search needs
+
 returns : tie.Need-returns
 returns c =
-    let p = c .before .before .before .before .before .before .before .before .before .before .before .before .before .before in
+    let p = c .before .before .before .before .before .before .before .before .before .before .before .before .before .before .before .before .before in
     let s = now (p .args .s) in
     let h = p .args .h in
-    let l = c .before .before .before .before .before .before .before .before .before .before .layout-of in
+    let l = c .before .before .before .before .before .before .before .before .before .before .before .before .before .layout-of in
     let form = sym (ap (λ (x : Shape). formStatus x h) (p .pre .1 .0)) ∙ p .pre .1 .1 .0 in
     let whole = p .pre .1 .1 .1 in
     let extras = extras-cut s h (l .result) (l .ensures) in
     let value = value-cut s h (l .result) (l .ensures) in
-    let decoded = c .before .before .before .before .before .before .decoded-by .ensures in
-    let e = broken-status s h whole form _ _ _ _ (p .pre .1 .0) extras value decoded (c .before .before .before .before .enum-told .given .1) in
-    let r = c .before .before .refused .ensures in
-    let y : Bytes (now (p .args .b)) = λ i. c .before .before .before .before .before .before .before .before .before .before .before .before .before .slice-known .given i .fits in
-    refused-by (now (p .args .b)) s (p .args .clock) h (ap reachesDecision (sym e)) 0x04 _ _ _ y (p .pre .0 .0) e (r .0) (r .1)
-
-same-length-2 : tie.Need-same-length-2
-same-length-2 c = search needs
+    let decoded = c .before .before .before .before .before .before .before .before .before .decoded-by .ensures in
+    let e = broken-status s h whole form _ _ _ _ (p .pre .1 .0) extras value decoded (c .before .before .before .before .before .before .before .enum-told .given .1) in
+    let r = c .before .before .before .before .refused .ensures in
+    let at8 = c .before .before .before .before .before .before .before .before in
+    let y : Bytes (now (p .args .b)) = λ i. at8 .before .before .before .before .before .before .before .before .slice-known .given i .fits in
+    refused-by (now (p .args .b)) s (p .args .clock) h (ap reachesDecision (sym e)) 0x04 (p .args .head) _ _ _ _ y (p .pre .0 .0) e (p .pre .0 .1 .0) (r .0) (r .1 .0) (r .1 .1)
 
 same-length-3 : tie.Need-same-length-3
 same-length-3 c = search needs
+
+same-length-4 : tie.Need-same-length-4
+same-length-4 c = search needs
 
 returns-2 : tie.Need-returns-2
 returns-2 c = c .before .before .before .before .serve-formed .ensures
@@ -150,7 +154,8 @@ serve-parts-spec =
     enum-known-ask
     serve-formed-requires
     same-length
-    returns
     same-length-2
+    returns
     same-length-3
+    same-length-4
     returns-2)

@@ -37,17 +37,20 @@ refused-requires c κs = search needs
 same-length-3 : tie.Need-same-length-3
 same-length-3 c = search needs
 
+same-length-4 : tie.Need-same-length-4
+same-length-4 c = search needs
+
 returns-2 : tie.Need-returns-2
 returns-2 c =
-    let m = c .before .before .before .before in
+    let m = c .before .before .before .before .before .before .before in
     let f = m .before .before .before .before .before .before in
     let s = now (f .args .s) in
     let h = f .args .h in
-    let done = c .before .before .refused .ensures in
+    let done = c .before .before .before .before .refused .ensures in
     let e = m .before .form-status .ensures ∙ ap (λ (x : Shape). formStatus x h) (m .before .before .shape-of .ensures) in
     let z : formStatus (shapeOf (h .opcode)) h ≡ 0 → ⊥ = λ q. m .if1 .left (e ∙ q) in
     let y : Bytes (now (f .args .b)) = λ i. m .before .before .before .before .before .slice-known .given i .fits in
-    refused-by (now (f .args .b)) s (f .args .clock) h (other-stops s h z) _ _ _ _ y (f .pre .0) (e ∙ other-status s h z) (done .0) (done .1)
+    refused-by (now (f .args .b)) s (f .args .clock) h (other-stops s h z) _ (f .args .head) _ _ _ _ y (f .pre .0) (e ∙ other-status s h z) (f .pre .1 .0) (done .0) (done .1 .0) (done .1 .1)
 
 pub serve-whole-spec : {M : Type 1} → statement M
 serve-whole-spec =
@@ -61,4 +64,5 @@ serve-whole-spec =
     returns
     refused-requires
     same-length-3
+    same-length-4
     returns-2)

@@ -1,5 +1,6 @@
 //! What the compared calls have met, and what of it a run must meet, and how often.
 
+mod clocks;
 mod contests;
 mod listings;
 mod situations;
@@ -45,6 +46,7 @@ impl Coverage {
         self.damage = start.damage;
         *self.sizes.entry(situations::rows(&start.table)).or_default() += 1;
         self.meet(situations::of_start(&start.table, start.damage));
+        self.meet([Situation::Clock(clocks::of_start(&start.table))]);
     }
 
     /// Counts a call on a table as it was before.
@@ -55,14 +57,16 @@ impl Coverage {
             self.meet(situations::of_damage(before, damage, answer));
         }
         self.meet(listings::of_form(call, answer).map(Situation::GetKeys));
+        self.meet(clocks::of_call(before, call, answer).into_iter().map(Situation::Clock));
         let (Call::Serve { clock, received, .. }, Answer::Served(served)) = (call, answer) else {
             return;
         };
         if served.outcome == 0 {
             let frame = &received[..served.used];
+            let later = clocks::kept(before).max(*clock);
             *self.statuses.entry((frame[1], served.status)).or_default() += 1;
-            self.meet(situations::of_frame(before, *clock, frame, served));
-            if let Some(contest) = contests::of_frame(before, *clock, frame, served.status) {
+            self.meet(situations::of_frame(before, later, frame, served));
+            if let Some(contest) = contests::of_frame(before, later, frame, served.status) {
                 *self.contests.entry(contest).or_default() += 1;
             }
         }

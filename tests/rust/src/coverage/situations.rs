@@ -1,6 +1,6 @@
 //! Situations that a run must come to, told from the table, the frame and the answer, whatever was aimed at.
 
-use super::listings;
+use super::{clocks, listings};
 use crate::answers::Served;
 use crate::generate::keys::{bucket, fingerprint};
 use crate::generate::tables::Damage;
@@ -113,6 +113,7 @@ pub enum Situation {
         status: u8,
     },
     GetKeys(listings::Met),
+    Clock(clocks::Met),
 }
 
 impl Situation {
@@ -125,6 +126,7 @@ impl Situation {
             | Situation::KeyTwiceAmongShared(_)
             | Situation::DamagedAbove12Rows(_) => calls / 250_000,
             Situation::GetKeys(met) if met.is_rare() => calls / 250_000,
+            Situation::Clock(met) if met.is_rare() => calls / 250_000,
             _ => calls / 50_000,
         }
     }
@@ -144,6 +146,7 @@ pub fn expected() -> Vec<Situation> {
     expected.extend([0x02, 0x12].into_iter().flat_map(expected_add));
     expected.extend([0xa4, 0xa5].into_iter().flat_map(expected_add_with_meta));
     expected.extend(listings::expected().into_iter().map(Situation::GetKeys));
+    expected.extend(clocks::expected().into_iter().map(Situation::Clock));
     expected
 }
 
@@ -257,7 +260,7 @@ pub fn of_damage(memory: &[u8], damage: Damage, answer: &Answer) -> Vec<Situatio
     met
 }
 
-/// A served frame, on the table as it was before.
+/// A served frame, on the table as it was before, judged at this clock.
 pub fn of_frame(before: &[u8], clock: u32, frame: &[u8], served: &Served) -> Vec<Situation> {
     let opcode = frame[1];
     let mut met = Vec::new();

@@ -1,5 +1,6 @@
-//! Tables and calls at random, biased to the limits of document 01 and of order 1.
+//! Tables and calls at random, biased to the limits of document 01 and of orders 1 and 2.
 
+mod clocks;
 pub mod faults;
 pub mod keys;
 mod listings;
@@ -32,6 +33,7 @@ struct Sight<'t> {
     damaged: bool,
     mode: Mode,
     vbucket: u16,
+    kept: u32,
     mark: u64,
     rows: Vec<Row<'t>>,
 }
@@ -43,11 +45,19 @@ impl<'t> Sight<'t> {
                 damaged: false,
                 mode: head.mode,
                 vbucket: head.vbucket,
+                kept: head.kept,
                 mark: head.mark.0,
                 rows: rows.into_iter().flatten().collect(),
             },
-            Err(_) => Sight { damaged: true, mode: Mode::LastWriteWins, vbucket: 0, mark: 0, rows: Vec::new() },
+            Err(_) => {
+                Sight { damaged: true, mode: Mode::LastWriteWins, vbucket: 0, kept: 0, mark: 0, rows: Vec::new() }
+            }
         }
+    }
+
+    /// The clock by which a frame is judged that comes with this one.
+    fn later(&self, clock: u32) -> u32 {
+        self.kept.max(clock)
     }
 
     fn row(&self, key: &[u8]) -> Option<&Row<'t>> {
@@ -58,10 +68,11 @@ impl<'t> Sight<'t> {
 /// Deals sessions: a start, then calls that fit the table as it is by then.
 pub struct Generator {
     random: Random,
-    /// The session's keys and clock, and whether it is about listing them.
+    /// The session's keys and the boat's clock, whether it is about listing keys, and whether about the last clock.
     keys: Vec<Vec<u8>>,
     clock: u32,
     lists: bool,
+    ends: bool,
     /// How often each opcode met each fault.
     pub faults: BTreeMap<(u8, Fault), u64>,
 }
@@ -76,11 +87,13 @@ pub struct Start {
 
 impl Generator {
     pub fn new(seed: u64) -> Generator {
-        Generator { random: Random::new(seed), keys: Vec::new(), clock: 0, lists: false, faults: BTreeMap::new() }
+        let (random, keys, faults) = (Random::new(seed), Vec::new(), BTreeMap::new());
+        Generator { random, keys, clock: 0, lists: false, ends: false, faults }
     }
 
     pub fn start(&mut self) -> Start {
         self.lists = self.random.percent(6);
+        self.ends = self.random.percent(5);
         let rows = if self.lists { self.listed_row_count() } else { self.row_count() };
         self.clock = self.session_clock();
         self.keys = if self.lists { self.listed_keys(rows) } else { self.session_keys(rows) };
@@ -156,8 +169,9 @@ impl Generator {
 
     /// Frames one after another; some runs are cut, some hold a frame that is refused, some run out of room.
     fn run(&mut self, sight: &Sight) -> Call {
+        let clock = self.clock_near(sight);
         let frames = self.random.between(0, 6);
-        let mut received: Vec<u8> = (0..frames).flat_map(|_| self.run_frame(sight)).collect();
+        let mut received: Vec<u8> = (0..frames).flat_map(|_| self.run_frame(sight, clock)).collect();
         if self.random.percent(30) {
             received.truncate(self.random.below(received.len() + 1));
         }
@@ -168,14 +182,13 @@ impl Generator {
             1 => ROOM + replies,
             _ => (ROOM + replies).saturating_sub(self.random.below(3)),
         };
-        Call::Run { clock: self.clock_near(sight), room, received }
+        Call::Run { clock, room, received }
     }
 
-    fn run_frame(&mut self, sight: &Sight) -> Vec<u8> {
+    fn run_frame(&mut self, sight: &Sight, clock: u32) -> Vec<u8> {
         if self.random.percent(6) {
             self.received(sight).1
         } else {
-            let clock = self.clock;
             self.request(sight, clock).bytes()
         }
     }

@@ -1,11 +1,12 @@
-//! Clocks, expiries, numbers, values, and a request's key.
+//! Expiries, numbers, values, and a request's key.
 
+use super::clocks::DAY;
 use super::{Generator, Sight};
 use crate::rendering::request::MAX_GIVEN;
 use crate::rendering::table::Kind;
 
 /// The largest relative expiry.
-const MONTH: u32 = 2_592_000;
+pub(super) const MONTH: u32 = 2_592_000;
 
 /// Texts that are counters, or nearly.
 const DIGITS: [&[u8]; 26] = [
@@ -38,26 +39,7 @@ const DIGITS: [&[u8]; 26] = [
 ];
 
 impl Generator {
-    pub(super) fn session_clock(&mut self) -> u32 {
-        let late = u32::MAX;
-        let clocks = [1_000, 1_000_000, 1_700_000_000, 0, late, late - 5, late - MONTH, late - MONTH + 1];
-        *self.random.pick(&clocks)
-    }
-
-    /// The session's clock, or one around the expiries in the table, or one at a limit.
-    pub(super) fn clock_near(&mut self, sight: &Sight) -> u32 {
-        self.clock = self.clock.saturating_add(self.random.below(2) as u32);
-        match self.random.below(10) {
-            0..=4 => self.clock,
-            5..=7 if !sight.rows.is_empty() => {
-                let expiry = self.random.pick(&sight.rows).numbers.expiry;
-                expiry.wrapping_add(self.random.below(3) as u32).wrapping_sub(1)
-            }
-            8 => self.random.u32(),
-            _ => self.session_clock(),
-        }
-    }
-
+    /// An expiry for a frame that is judged at this clock.
     pub(super) fn plain_expiry(&mut self, clock: u32) -> u32 {
         let left = u32::MAX - clock;
         match self.random.below(12) {
@@ -73,11 +55,12 @@ impl Generator {
     }
 
     pub(super) fn absolute_expiry(&mut self, clock: u32) -> u32 {
-        match self.random.below(8) {
+        match self.random.below(10) {
             0 => u32::MAX,
             1 => self.random.u32(),
             2 => self.random.between(1, 20) as u32,
-            3 | 4 => clock.wrapping_add(self.random.below(3) as u32).wrapping_sub(1),
+            3..=5 => clock.wrapping_add(self.random.below(3) as u32).wrapping_sub(1),
+            6 => clock.saturating_sub(self.random.between(1, DAY as usize) as u32),
             _ => 0,
         }
     }

@@ -18,7 +18,9 @@ impl Generator {
         (clock, received)
     }
 
+    /// A request that comes with this clock.
     pub(super) fn request(&mut self, sight: &Sight, clock: u32) -> Frame {
+        let clock = sight.later(clock);
         let opcode = self.opcode();
         let key = self.key_near(sight);
         let cas = self.header_cas(sight, &key);

@@ -4,7 +4,7 @@ use super::Generator;
 use crate::random::Random;
 use crate::rendering::bytes::{put, u16_at, u32_at, u64_at};
 use crate::rendering::numbers::{Cas, Numbers, Revision};
-use crate::rendering::table::{row_at, write_head, write_row, Kind, Row, HEADER, KEY_AT, ROW};
+use crate::rendering::table::{row_at, write_head, write_kept, write_row, Kind, Row, HEADER, KEY_AT, ROW};
 
 /// One cause of damage.
 #[derive(Clone, Copy, Debug, PartialEq, Eq, PartialOrd, Ord)]
@@ -16,7 +16,6 @@ pub enum Damage {
     Rows257,
     State,
     Mode,
-    Kept,
     Kind,
     KindHighByte,
     NoKey,
@@ -36,7 +35,7 @@ pub enum Damage {
 }
 
 impl Damage {
-    pub const ALL: [Damage; 24] = [
+    pub const ALL: [Damage; 23] = [
         Damage::ByteShort,
         Damage::ByteLong,
         Damage::NoBytes,
@@ -44,7 +43,6 @@ impl Damage {
         Damage::Rows257,
         Damage::State,
         Damage::Mode,
-        Damage::Kept,
         Damage::Kind,
         Damage::KindHighByte,
         Damage::NoKey,
@@ -120,7 +118,8 @@ impl Generator {
         }
     }
 
-    /// A sound table; some are fresh, some full, and of a session that lists keys most have live documents alone.
+    /// A sound table with any kept clock; some have no used row, some are full, and of a session that lists keys most
+    /// have live documents alone.
     pub(super) fn table(&mut self, rows: usize) -> Vec<u8> {
         let mut memory = vec![0; HEADER + rows * ROW];
         let state = if self.random.percent(80) { 1 } else { self.random.between(2, 4) as u8 };
@@ -129,6 +128,7 @@ impl Generator {
         let free = if lives { 0 } else { *self.random.pick(&[0, 0, 20, 50, 100]) };
         let mark = if free == 100 { 0 } else { self.mark() };
         write_head(&mut memory, state, mode, self.vbucket(), Cas(mark));
+        write_kept(&mut memory, self.kept_clock());
         for place in 0..rows {
             if !self.random.percent(free) {
                 self.put_row(&mut memory, place, mark, lives);
@@ -193,7 +193,6 @@ impl Damage {
             Damage::Rows257 => memory.resize(HEADER + 257 * ROW, 0),
             Damage::State => memory[0] = *random.pick(&[0, 5, 0x81, 0xff]),
             Damage::Mode => memory[1] = *random.pick(&[0, 3, 0x81, 0xff]),
-            Damage::Kept => memory[4 + random.below(4)] = 1 << random.below(8),
             Damage::FreeRowByte => return in_free_row(memory, random),
             Damage::OneKeyTwice => return one_key_twice(memory, random),
             _ => return self.in_used_row(memory, random),

@@ -42,7 +42,7 @@ pub enum Content<'f> {
     Number(u64),
 }
 
-/// One request on a sound table: its effect, or its status.
+/// One request on a sound table: its effect, or its status. The clock is the later of the kept one and the call's.
 pub fn decide<'t, 'f>(table: &Table<'t>, clock: u32, request: &View<'f>) -> Result<Effect<'t, 'f>, Status> {
     mode_and_clock_rules(table.head.mode, clock, request)?;
     request.size_rule()?;

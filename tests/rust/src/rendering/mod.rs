@@ -1,4 +1,5 @@
-//! Document 01 with order 1 of document 02 in plain Rust, written from the papers alone, to be read with them beside.
+//! Document 01 with orders 1 and 2 of document 02 in plain Rust, written from the papers alone, to be read with them
+//! beside.
 //!
 //! | Section of 01 | Module |
 //! |---|---|
@@ -8,6 +9,7 @@
 //! | Commands, With-meta | [`shape`], [`commands`], [`numbers`] |
 //! | How strict the promises are: reader and writer | [`request`] |
 //! | Order 1 of 02, key listing | [`listing`], and its shape and rules in [`shape`], [`request`], [`commands`] |
+//! | Order 2 of 02, the kept clock | [`table`], and what uses and raises it in [`owner`] and [`serving`] |
 
 pub mod bytes;
 pub mod commands;

@@ -2,7 +2,7 @@
 
 use super::numbers::{Cas, Mode};
 use super::status::Status;
-use super::table::{free_row, row_at, write_head, Damaged, Row, Table, HEADER, KEY_AT, ROW, ROWS, STATES};
+use super::table::{free_row, row_at, write_head, write_kept, Damaged, Row, Table, HEADER, KEY_AT, ROW, ROWS, STATES};
 use crate::answers::{Document, Part, Purged};
 
 pub const DAMAGED: u8 = 5;
@@ -17,7 +17,8 @@ pub fn size(rows: usize) -> usize {
 }
 
 /// "A fresh table is all free, mark 0. Making one is refused with 5, lent memory unchanged, exactly if the row count,
-/// state or mode is out of range or the memory isn't exactly as large as that row count needs."
+/// state or mode is out of range or the memory isn't exactly as large as that row count needs." Order 2: the kept clock
+/// is "0 when fresh".
 pub fn make(memory: &mut [u8], rows: usize, state: u8, mode: u8, vbucket: u16) -> u8 {
     let in_range = ROWS.contains(&rows) && STATES.contains(&state) && Mode::read(mode).is_some();
     if !in_range || memory.len() != size(rows) {
@@ -33,13 +34,14 @@ pub fn sound(memory: &[u8]) -> bool {
 }
 
 /// "Reading a document takes a clock and a key: the live document's four numbers and where its value stands in the
-/// table memory, or status 0x01 exactly if there is none (so for a key of 0 or over 250 bytes too)."
+/// table memory, or status 0x01 exactly if there is none (so for a key of 0 or over 250 bytes too)." Order 2: it "uses
+/// the later of the two", and "document reads don't" raise the kept clock.
 pub fn read(memory: &[u8], clock: u32, key: &[u8]) -> Document {
     let Ok(table) = Table::read(memory) else {
         return Document { outcome: DAMAGED, ..Document::default() };
     };
     match table.find(key) {
-        Some((place, row)) if row.live(clock) => shown(place, &row),
+        Some((place, row)) if row.live(table.head.later(clock)) => shown(place, &row),
         _ => Document { status: Status::NotFound as u8, ..Document::default() },
     }
 }
@@ -57,12 +59,17 @@ fn shown(place: usize, row: &Row) -> Document {
 }
 
 /// "Purge takes a clock and a CAS bound. It frees exactly the tombstones and expired documents with CAS at or below
-/// the bound, reports how many, and leaves the mark."
+/// the bound, reports how many, and leaves the mark." On a damaged table it answers 5 and changes nothing. Order 2: "A
+/// purge [...] raise it", and one that frees no row is a purge too.
 pub fn purge(memory: &mut [u8], clock: u32, bound: u64) -> Purged {
-    let places = match Table::read(memory) {
-        Ok(table) => purged(&table, clock, Cas(bound)),
+    let (later, places) = match Table::read(memory) {
+        Ok(table) => {
+            let later = table.head.later(clock);
+            (later, purged(&table, later, Cas(bound)))
+        }
         Err(Damaged) => return Purged { outcome: DAMAGED, freed: 0 },
     };
+    write_kept(memory, later);
     for &place in &places {
         free_row(memory, place);
     }

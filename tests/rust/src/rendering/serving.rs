@@ -7,7 +7,7 @@ use super::owner::DAMAGED;
 use super::request::{first_frame, view, Refusal, HEADER};
 use super::shape::shape;
 use super::status::Status;
-use super::table::{write_mark, write_row, Damaged, Row, Table};
+use super::table::{write_kept, write_mark, write_row, Damaged, Row, Table};
 use super::tally::count;
 use crate::answers::{Ran, Served, Tally};
 
@@ -31,20 +31,23 @@ pub fn serve(memory: &mut [u8], clock: u32, received: &[u8], reply: &mut [u8], t
     }
 }
 
-/// The "outcomes of serving, in the order tested".
+/// The "outcomes of serving, in the order tested". Order 2: "serving a frame with any status" raises the kept clock, and
+/// "outcomes 1 to 5" don't.
 fn serve_frame(memory: &mut [u8], clock: u32, received: &[u8], reply: &mut [u8]) -> Result<Served, Refusal> {
     let table = Table::read(memory).map_err(|Damaged| Refusal { outcome: DAMAGED, needed: 0 })?;
     if reply.len() < ROOM {
         return Err(Refusal { outcome: NO_ROOM, needed: 0 });
     }
     let frame = first_frame(received)?;
-    let decision = view(frame).and_then(|request| decide(&table, clock, &request));
+    let later = table.head.later(clock);
+    let decision = view(frame).and_then(|request| decide(&table, later, &request));
     let status = decision.as_ref().map_or_else(|&status| status as u8, |_| 0);
     let sent = if is_silent(frame[1], status) { 0 } else { answer(&decision, frame, reply) };
     if let Ok(Effect::Store(write)) = decision {
         let mark = table.head.mark;
         store(memory, mark, &write);
     }
+    write_kept(memory, later);
     Ok(Served { outcome: 0, status, used: frame.len(), reply: sent, needed: 0 })
 }
 

@@ -8,6 +8,9 @@ use std::ops::RangeInclusive;
 pub const HEADER: usize = 16;
 pub const ROW: usize = 1_312;
 
+/// Order 2: "The table shall keep the latest clock it has been given", here.
+pub const KEPT_AT: usize = 4;
+
 /// Where a row's key stands; its value follows.
 pub const KEY_AT: usize = 32;
 
@@ -42,7 +45,16 @@ pub struct Head {
     pub state: u8,
     pub mode: Mode,
     pub vbucket: u16,
+    /// The kept clock.
+    pub kept: u32,
     pub mark: Cas,
+}
+
+impl Head {
+    /// Order 2: "every served frame, read and purge uses the later of the two".
+    pub fn later(&self, clock: u32) -> u32 {
+        self.kept.max(clock)
+    }
 }
 
 #[derive(Clone, Copy, Debug, PartialEq, Eq)]
@@ -100,9 +112,8 @@ fn read_head(memory: &[u8]) -> Result<Head, Damaged> {
     require(ROWS.contains(&rows) && memory.len() == HEADER + rows * ROW)?;
     require(STATES.contains(&memory[0]))?;
     let mode = Mode::read(memory[1]).ok_or(Damaged)?;
-    // The four kept bytes are 0.
-    require(u32_at(memory, 4) == 0)?;
-    Ok(Head { state: memory[0], mode, vbucket: u16_at(memory, 2), mark: Cas(u64_at(memory, 8)) })
+    let (vbucket, kept, mark) = (u16_at(memory, 2), u32_at(memory, KEPT_AT), Cas(u64_at(memory, 8)));
+    Ok(Head { state: memory[0], mode, vbucket, kept, mark })
 }
 
 /// "A row is free, a document, or a tombstone. [...] A tombstone has no value, flags 0, expiry 0. [...] Unused bytes
@@ -141,11 +152,16 @@ pub fn row_at(place: usize) -> usize {
     HEADER + place * ROW
 }
 
+/// A header whose kept clock is 0.
 pub fn write_head(memory: &mut [u8], state: u8, mode: u8, vbucket: u16, mark: Cas) {
     memory[..HEADER].fill(0);
     put(memory, 0, &[state, mode]);
     put(memory, 2, &vbucket.to_be_bytes());
     write_mark(memory, mark);
+}
+
+pub fn write_kept(memory: &mut [u8], clock: u32) {
+    put(memory, KEPT_AT, &clock.to_be_bytes());
 }
 
 pub fn write_mark(memory: &mut [u8], mark: Cas) {

@@ -1,7 +1,7 @@
 //! A table on its store, with what a boat's software lends it.
 #![allow(dead_code)]
 
-use contact_tests::answers::{Document, Served, Store, Tally};
+use contact_tests::answers::{Document, Purged, Served, Store, Tally};
 use contact_tests::frame::{counter_extras, plain_extras, Frame};
 use contact_tests::rendering::Rendering;
 use contact_tests::Library;
@@ -44,6 +44,20 @@ impl Boat {
         self.reply[..served.reply].to_vec()
     }
 
+    /// The kept clock, as the table's memory has it.
+    pub fn kept(&self) -> u32 {
+        let [.., a, b, c, d] = self.table[..8] else { unreachable!() };
+        u32::from_be_bytes([a, b, c, d])
+    }
+
+    pub fn keep(&mut self, clock: u32) {
+        self.table[4..8].copy_from_slice(&clock.to_be_bytes());
+    }
+
+    pub fn purge(&mut self, clock: u32, bound: u64) -> Purged {
+        self.store.purge(&mut self.table, clock, bound)
+    }
+
     pub fn document(&self, clock: u32, key: &str) -> Document {
         self.store.read(&self.table, clock, key.as_bytes())
     }
@@ -52,6 +66,11 @@ impl Boat {
         let document = self.document(clock, key);
         String::from_utf8_lossy(document.value.of(&self.table)).into_owned()
     }
+}
+
+/// A table without the four bytes of its kept clock.
+pub fn but_for_the_kept_clock(table: &[u8]) -> [&[u8]; 2] {
+    [&table[..4], &table[8..]]
 }
 
 pub fn keyed(opcode: u8, key: &str) -> Frame {

@@ -19,6 +19,9 @@ store-from-requires c κs = search needs
 enum-told : tie.Need-enum-told
 enum-told c = search needs
 
+put-clock-requires : tie.Need-put-clock-requires
+put-clock-requires c κs = search needs
+
 same-length : tie.Need-same-length
 same-length c = search needs
 
@@ -30,8 +33,11 @@ returns c =
     let head = ap (λ (x : List ℕ). storing x (a .l) (a .key .now) (m .0) (bytesFrom (a .d .source) (a .value .now))) (w .put-head .ensures) in
     rw (c .before .before .before .before .before .before .before .before .before .store .given .1) (c .before .before .store-from .ensures ∙ head)
 
+same-length-2 : tie.Need-same-length-2
+same-length-2 c = search needs
+
 returns-2 : tie.Need-returns-2
-returns-2 c = rw (c .enum-told .given .1)
+returns-2 c = rw (c .before .before .before .before .enum-told .given .1) (c .before .before .put-clock .ensures)
 
 pub change-spec : {M : Type 1} → statement M
 change-spec =
@@ -41,6 +47,8 @@ change-spec =
     put-head-requires
     store-from-requires
     enum-told
+    put-clock-requires
     same-length
     returns
+    same-length-2
     returns-2)

@@ -1,0 +1,165 @@
+-- Order 2, the failure at sea: "A GPS fault set a boat's clock back a day and yesterday's contacts came alive." Over any list of serving calls, purges and reads, with any clocks, each on the table as the one before left it. Proved in proofs/Clock.antt.
+use Prim.Native.Nat.{ℕ, _^_, _≤_, _<_, max}
+use mathlib.Core.Path.{_≡_}
+use mathlib.Core.Bool.{Bool, true, false, not, cond, _&&_}
+use mathlib.Core.List.{List, [], _∷_, _++_}
+use mathlib.Core.Logic.{_⊎_}
+use mathlib.Core.Option.{none, some}
+use lib.Dec.{eqb}
+use lib.ListN.{replicate}
+use Rattle.octets.specs.Parts.{Bytes}
+use Rattle.octets.specs.Compare.{same}
+use Rattle.numbers.specs.declared.Numbers.{Numbers}
+use Rattle.document.specs.Documents.{Key, Doc}
+use Rattle.shape.specs.Shapes.{among}
+use Rattle.rows.specs.Table.{tableBytes}
+use Rattle.owner.specs.declared.Document.the-variants.{Missing, Live}
+use Rattle.owner.specs.Owner.{readOf, readOutcome, purgeOf, purgeOutcome, purgedBytes}
+use Rattle.serving.specs.Serve.{servedOutcome, servedStatus}
+use Rattle.promises.specs.Calls.{Call, servedBy, tableServed}
+use Rattle.promises.specs.Merge.{docAt}
+use Rattle.promises.specs.Judged.{at}
+use Rattle.promises.specs.Kept.{keptAt, laterAt}
+use Rattle.promises.specs.Expiry.{Expired, opcode, keyIn, gets, needsLive, Reaches, Answers}
+
+-- a call on a table: serving, a purge with its clock and bound, a read with its clock and key
+pub data TableCall : Type 0 where
+  Serve : Call → TableCall
+  Purge : ℕ → ℕ → TableCall
+  Read : ℕ → Key → TableCall
+
+abbrev pub clockOf : TableCall → ℕ
+clockOf (Serve c) = c .clock
+clockOf (Purge clock bound) = clock
+clockOf (Read clock k) = clock
+
+-- 01's outcome of it
+abbrev pub outcomeOf : List ℕ → TableCall → ℕ
+outcomeOf b (Serve c) = servedOutcome (servedBy b c)
+outcomeOf b (Purge clock bound) = purgeOutcome (purgeOf b clock bound)
+outcomeOf b (Read clock k) = readOutcome (readOf b clock k)
+
+-- the table's memory after it; a read is lent what it can't change
+abbrev pub tableCalled : List ℕ → TableCall → List ℕ
+tableCalled b (Serve c) = tableServed b c
+tableCalled b (Purge clock bound) = purgedBytes b clock bound
+tableCalled b (Read clock k) = b
+
+abbrev pub memoryAfter : List ℕ → List TableCall → List ℕ
+memoryAfter b [] = b
+memoryAfter b (x ∷ xs) = memoryAfter (tableCalled b x) xs
+
+-- the calls that "raise it": "A purge, and serving a frame with any status"; "outcomes 1 to 5 and document reads don't"
+abbrev pub raises : List ℕ → TableCall → Bool
+raises b (Serve c) = eqb (outcomeOf b (Serve c)) 0
+raises b (Purge clock bound) = eqb (outcomeOf b (Purge clock bound)) 0
+raises b (Read clock k) = false
+
+-- bytes and a clock of 32 bits, as every call has them
+abbrev pub Given : TableCall → Type 0
+Given (Serve c) = Bytes (c .received) × (c .clock < 2 ^ 32)
+Given (Purge clock bound) = clock < 2 ^ 32
+Given (Read clock k) = clock < 2 ^ 32
+
+abbrev pub AllGiven : List TableCall → Type 0
+AllGiven [] = Unit {0}
+AllGiven (x ∷ xs) = Given x × AllGiven xs
+
+-- ---- the kept clock
+-- the greatest of itself and those that raise it
+abbrev pub clockAfter : ℕ → List ℕ → List TableCall → ℕ
+clockAfter n b [] = n
+clockAfter n b (x ∷ xs) = clockAfter (cond (raises b x) (max n (clockOf x)) n) (tableCalled b x) xs
+
+-- "Nothing lowers it", and nothing else raises it: on any memory
+abbrev pub KeepsLatest : Type 0
+KeepsLatest = (b : List ℕ) (xs : List TableCall) → Bytes b → AllGiven xs → keptAt (memoryAfter b xs) ≡ clockAfter (keptAt b) b xs
+
+-- ---- an expired document stays expired
+-- the opcodes that store nothing: any Get, Noop, Version, Get Keys
+abbrev pub readOnly : List ℕ
+readOnly = gets ++ (0x0a ∷ 0x0b ∷ 0xb8 ∷ [])
+
+-- the key is written: a frame for it that isn't one of those is served with status 0
+abbrev pub writesKey : List ℕ → TableCall → Key → Bool
+writesKey b (Serve c) k =
+    eqb (servedOutcome (servedBy b c)) 0 && (eqb (servedStatus (servedBy b c)) 0 && (not (among (opcode (c .received)) readOnly) && same (keyIn (c .received)) k))
+writesKey b (Purge clock bound) k = false
+writesKey b (Read clock j) k = false
+
+abbrev pub Unwritten : List ℕ → List TableCall → Key → Type 0
+Unwritten b [] k = Unit {0}
+Unwritten b (x ∷ xs) k = (writesKey b x k ≡ false) × Unwritten (tableCalled b x) xs k
+
+-- "a document that was expired to a served frame or to a purge"
+pub record ExpiredTo (b : List ℕ) (x : TableCall) (k : Key) (d : Doc) : Type 0 where
+  pub bytes : Bytes b
+  pub raised : raises b x ≡ true
+  pub there : docAt b k ≡ some d
+  pub expired : Expired (laterAt b (clockOf x)) d
+
+-- a document that is expired to every call on a table, whatever its clock: "no clock brings it back"
+pub record ExpiredForGood (b : List ℕ) (k : Key) (d : Doc) : Type 0 where
+  -- its row is as it was, or a purge freed it
+  pub left : (docAt b k ≡ some d) ⊎ (docAt b k ≡ none)
+  pub expired : (clock : ℕ) → Expired (laterAt b clock) d
+  -- a read doesn't show it
+  pub read : (clock : ℕ) → readOf b clock k ≡ Missing
+  -- a frame that needs a live document doesn't find it
+  pub frame : (clock : ℕ) (s : List ℕ) (room : ℕ) → Reaches b clock s room → keyIn s ≡ k → needsLive s ≡ true → Answers b clock s room 0x01
+  -- a purge up to its CAS frees it
+  pub purge : (clock bound : ℕ) → clock < 2 ^ 32 → d .numbers .cas .0 ≤ bound → docAt (purgedBytes b clock bound) k ≡ none
+
+-- "a document that was expired to a served frame or to a purge is expired to every later call, reads included, until its key is written again"
+abbrev pub StaysExpired : Type 0
+StaysExpired =
+    (b : List ℕ) (x : TableCall) (xs : List TableCall) (k : Key) (d : Doc) → AllGiven (x ∷ xs) → ExpiredTo b x k d → Unwritten b (x ∷ xs) k
+    → ExpiredForGood (memoryAfter b (x ∷ xs)) k d
+
+-- ---- "A read raises nothing, so an earlier read by itself promises nothing of a later one"
+abbrev pub key : Key
+key = 0x63 ∷ []
+
+abbrev numbers : Numbers
+numbers = record { flags = 0; expiry = 50; revision = record { 0 = 1 }; cas = record { 0 = 1 } }
+
+-- a contact of one byte that expires at 50, in a table that has seen no clock
+abbrev pub shortLived : List ℕ
+shortLived =
+    tableBytes (record {
+      head = record { state = 1; mode = 1; vbucket = 0; clock = 0; mark = record { 0 = 1 } };
+      rows = some (record { key = key; doc = record { tomb = false; value = 0x31 ∷ []; numbers = numbers } }) ∷ [];
+    })
+
+-- a Noop frame
+abbrev noop : List ℕ
+noop = 0x80 ∷ 0x0a ∷ replicate 22 0
+
+pub record ReadsAlone : Type 0 where
+  pub missed : readOf shortLived 50 key ≡ Missing
+  -- a second earlier it is there again
+  pub shown-again : readOf (memoryAfter shortLived (Read 50 key ∷ [])) 49 key ≡ Live numbers 49 1
+  -- but not once a frame was served at 50, be it a Noop, or a purge answered, be it one that frees no row
+  pub after-frame : readOf (memoryAfter shortLived (Serve (at 50 noop) ∷ [])) 49 key ≡ Missing
+  pub after-purge : readOf (memoryAfter shortLived (Purge 50 0 ∷ [])) 49 key ≡ Missing
+
+-- ---- the plain expiry sum: "A Set of 10 s given clock 50 on a table that kept 110 stores 120."
+-- a table of one free row that keeps a clock
+abbrev keeping : ℕ → List ℕ
+keeping kept = tableBytes (record { head = record { state = 1; mode = 1; vbucket = 0; clock = kept; mark = record { 0 = 0 } }; rows = none ∷ [] })
+
+-- a Set of that contact, with an expiry under 256
+abbrev setFor : ℕ → List ℕ
+setFor expiry =
+    0x80 ∷ 0x01 ∷ 0 ∷ 1 ∷ 8 ∷ 0 ∷ 0 ∷ 0 ∷ 0 ∷ 0 ∷ 0 ∷ 10 ∷ replicate 12 0
+    ++ (0 ∷ 0 ∷ 0 ∷ 0 ∷ 0 ∷ 0 ∷ 0 ∷ expiry ∷ 0x63 ∷ 0x31 ∷ [])
+
+abbrev storedUntil : ℕ → Doc
+storedUntil expiry = record { tomb = false; value = 0x31 ∷ []; numbers = record { flags = 0; expiry = expiry; revision = record { 0 = 1 }; cas = record { 0 = 1 } } }
+
+pub record SumsLater : Type 0 where
+  pub stored : docAt (tableServed (keeping 110) (at 50 (setFor 10))) key ≡ some (storedUntil 120)
+  pub kept : keptAt (tableServed (keeping 110) (at 50 (setFor 10))) ≡ 110
+  -- a clock of 2^32 - 1 given once stays: a second is 0x04 from then on, "never" isn't
+  pub spent : servedStatus (servedBy (keeping 0xffffffff) (at 50 (setFor 1))) ≡ 0x04
+  pub never : servedStatus (servedBy (keeping 0xffffffff) (at 50 (setFor 0))) ≡ 0
