@@ -18,7 +18,7 @@ pub fn calling(case: &Case, rounds: usize) -> Times {
 fn reading(case: &Case, rounds: usize) -> Times {
     let (clock, key, memory) = (case.clock(), case.key(), case.table.memory());
     let rendered = rendering::read(&memory, clock, &key);
-    assert_eq!((rendered.outcome, rendered.status), (0, case.request.status().number() as u8), "{case:?}");
+    assert_eq!((rendered.outcome, rendered.status), (0, case.request.status().number()), "{case:?}");
     let read = contacts::read(&memory, clock, &key).expect("the table is sound");
     let shown = read.map(|document| (document.cas.0, document.value));
     let rendered_shown = (rendered.status == 0).then(|| (rendered.cas, rendered.value.of(&memory)));
