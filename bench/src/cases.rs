@@ -10,6 +10,8 @@ const CLOCK: u32 = 1_000_000;
 const DAY: u32 = 86_400;
 
 const ROWS: [usize; 3] = [1, 32, 256];
+/// The rows of a table whose keys differ in one byte alone.
+const ALIKE: usize = 200;
 const SHORT: usize = 8;
 const LONG: usize = 250;
 const VALUE: [u8; 512] = [b'v'; 512];
@@ -21,6 +23,10 @@ pub enum Fill {
     Rising,
     /// Every row a document, the keys in no order.
     Scattered,
+    /// Every row a document, the keys alike but for their last byte.
+    LastByte,
+    /// Every row a document, the keys alike but for their first byte.
+    FirstByte,
 }
 
 /// A table of revision mode, filled with keys of one length.
@@ -72,8 +78,8 @@ impl Table {
 
     fn key_at(&self, place: usize) -> Vec<u8> {
         match self.fill {
-            Fill::Free | Fill::Rising => self.key_numbered(place),
             Fill::Scattered => self.key_numbered(place * 167 % self.rows),
+            _ => self.key_numbered(place),
         }
     }
 
@@ -81,10 +87,14 @@ impl Table {
         self.key_numbered(self.rows)
     }
 
-    /// Keys differ in their last two bytes alone.
+    /// Keys differ in their last two bytes alone, or in the one byte that the fill names.
     fn key_numbered(&self, number: usize) -> Vec<u8> {
         let mut key = vec![b'k'; self.key];
-        key[self.key - 2..].copy_from_slice(&(number as u16).to_be_bytes());
+        match self.fill {
+            Fill::LastByte => key[self.key - 1] = number as u8,
+            Fill::FirstByte => key[0] = number as u8,
+            _ => key[self.key - 2..].copy_from_slice(&(number as u16).to_be_bytes()),
+        }
         key
     }
 }
@@ -102,10 +112,13 @@ pub enum Request {
     /// With an earlier clock than the kept one.
     GetHitEarlier,
     SetEarlier,
+    /// The owner's call.
+    ReadHit,
+    ReadMiss,
 }
 
 impl Request {
-    const ALL: [Request; 9] = [
+    const ALL: [Request; 11] = [
         Request::GetHit,
         Request::GetMiss,
         Request::Set,
@@ -115,6 +128,8 @@ impl Request {
         Request::GetKeys,
         Request::GetHitEarlier,
         Request::SetEarlier,
+        Request::ReadHit,
+        Request::ReadMiss,
     ];
 
     pub fn name(self) -> &'static str {
@@ -128,21 +143,31 @@ impl Request {
             Request::GetKeys => "Get Keys",
             Request::GetHitEarlier => "Get, hit, earlier clock",
             Request::SetEarlier => "Set, earlier clock",
+            Request::ReadHit => "Read, hit",
+            Request::ReadMiss => "Read, miss",
         }
     }
 
     pub fn status(self) -> Status {
         match self {
-            Request::GetMiss => Status::NotFound,
+            Request::GetMiss | Request::ReadMiss => Status::NotFound,
             Request::SetWithMetaRefused => Status::Exists,
             _ => Status::Success,
         }
     }
 
+    pub fn is_read(self) -> bool {
+        matches!(self, Request::ReadHit | Request::ReadMiss)
+    }
+
     /// A free table has nothing to hit or to lose against, and Noop and Get Keys have no key. An earlier clock is timed on
-    /// one table.
+    /// one table, the search for a key where keys are alike.
     fn suits(self, table: &Table) -> bool {
+        if table.rows == ALIKE {
+            return self.is_read() || matches!(self, Request::GetHit | Request::GetMiss);
+        }
         match self {
+            Request::ReadHit | Request::ReadMiss => false,
             Request::GetHit | Request::SetWithMetaRefused => !table.is_free(),
             Request::Noop | Request::GetKeys => !table.is_free() || table.key == SHORT,
             Request::GetMiss | Request::Set | Request::SetWithMeta => true,
@@ -159,15 +184,17 @@ pub struct Case {
 
 impl Case {
     pub fn all() -> Vec<Case> {
-        let mut cases = Vec::new();
+        let mut tables = Vec::new();
         for rows in ROWS {
             for fill in [Fill::Free, Fill::Rising] {
-                for key in [SHORT, LONG] {
-                    let table = Table { rows, fill, key };
-                    let suited = Request::ALL.into_iter().filter(|request| request.suits(&table));
-                    cases.extend(suited.map(|request| Case { table, request }));
-                }
+                tables.extend([SHORT, LONG].map(|key| Table { rows, fill, key }));
             }
+        }
+        tables.extend([Fill::LastByte, Fill::FirstByte].map(|fill| Table { rows: ALIKE, fill, key: LONG }));
+        let mut cases = Vec::new();
+        for table in tables {
+            let suited = Request::ALL.into_iter().filter(|request| request.suits(&table));
+            cases.extend(suited.map(|request| Case { table, request }));
         }
         // The order of the rows counts where keys are sorted.
         for key in [SHORT, LONG] {
@@ -185,15 +212,24 @@ impl Case {
         }
     }
 
-    /// The request's frame; a key that is to be found is the last row's.
-    pub fn frame(&self) -> Vec<u8> {
-        let last = self.table.key_at(self.table.rows - 1);
+    /// The key that is looked for; one that is to be found is the last row's.
+    pub fn key(&self) -> Vec<u8> {
         match self.request {
-            Request::GetHit | Request::GetHitEarlier => frame(opcode::GET, vec![], last, &[]),
-            Request::GetMiss => frame(opcode::GET, vec![], self.table.absent_key(), &[]),
-            Request::Set | Request::SetEarlier => frame(opcode::SET, plain_extras(0, 0), last, &VALUE),
-            Request::SetWithMeta => set_with_meta(last, 2),
-            Request::SetWithMetaRefused => set_with_meta(last, 0),
+            Request::GetMiss | Request::ReadMiss => self.table.absent_key(),
+            _ => self.table.key_at(self.table.rows - 1),
+        }
+    }
+
+    /// The request's frame. A read has none; here it is the Get of its key.
+    pub fn frame(&self) -> Vec<u8> {
+        let key = self.key();
+        match self.request {
+            Request::GetHit | Request::GetHitEarlier | Request::GetMiss | Request::ReadHit | Request::ReadMiss => {
+                frame(opcode::GET, vec![], key, &[])
+            }
+            Request::Set | Request::SetEarlier => frame(opcode::SET, plain_extras(0, 0), key, &VALUE),
+            Request::SetWithMeta => set_with_meta(key, 2),
+            Request::SetWithMetaRefused => set_with_meta(key, 0),
             Request::Noop => frame(opcode::NOOP, vec![], vec![], &[]),
             Request::GetKeys => frame(opcode::GET_KEYS, vec![], vec![], &[]),
         }

@@ -33,7 +33,7 @@ fn main() -> Result<(), Box<dyn Error>> {
 }
 
 fn measure(rounds: usize) -> Figures {
-    let serving = Case::all().into_iter().map(|case| (case, sides::serving(&case, rounds)));
+    let serving = Case::all().into_iter().map(|case| (case, sides::calling(&case, rounds)));
     let damage = Table::damage_tests().into_iter().map(|table| (table, sides::damage_test(&table, rounds)));
     Figures { serving: serving.collect(), damage: damage.collect() }
 }

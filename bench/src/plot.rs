@@ -76,6 +76,8 @@ fn heading(table: &Table) -> String {
         Fill::Free => "free",
         Fill::Rising => "full",
         Fill::Scattered => "full, keys scattered",
+        Fill::LastByte => "full, keys apart by the last byte",
+        Fill::FirstByte => "full, keys apart by the first byte",
     };
     format!("{rows}, {fill}")
 }

@@ -64,7 +64,12 @@ impl Figures {
 
 fn serving_line(Case { table, request }: &Case, times: &Times) -> String {
     let (name, rows, used, key) = (request.name(), table.rows, table.used(), table.key);
-    let order = if table.fill == Fill::Scattered { ", scattered" } else { "" };
+    let order = match table.fill {
+        Fill::Scattered => ", scattered",
+        Fill::LastByte => ", apart by the last byte",
+        Fill::FirstByte => ", apart by the first byte",
+        Fill::Free | Fill::Rising => "",
+    };
     format!("| {name} | {rows} | {used}{order} | {key} | {} |\n", cells(times))
 }
 
@@ -74,6 +79,8 @@ fn damage_line(table: &Table, times: &Times) -> String {
         Fill::Free => "none".to_string(),
         Fill::Rising => format!("{rows} of {key} bytes, rising"),
         Fill::Scattered => format!("{rows} of {key} bytes, scattered"),
+        Fill::LastByte => format!("{rows} of {key} bytes, apart by the last one"),
+        Fill::FirstByte => format!("{rows} of {key} bytes, apart by the first one"),
     };
     let speed = table.memory().len() as f64 / times.floor;
     format!("| {rows} | {keys} | {speed:.0} | {} |\n", cells(times))

@@ -6,7 +6,36 @@ use contact_tests::{answers, rendering};
 use contacts::REPLY_ROOM;
 use std::hint::black_box;
 
-pub fn serving(case: &Case, rounds: usize) -> Times {
+/// The owner's read, or the frame served.
+pub fn calling(case: &Case, rounds: usize) -> Times {
+    if case.request.is_read() {
+        reading(case, rounds)
+    } else {
+        serving(case, rounds)
+    }
+}
+
+fn reading(case: &Case, rounds: usize) -> Times {
+    let (clock, key, memory) = (case.clock(), case.key(), case.table.memory());
+    let rendered = rendering::read(&memory, clock, &key);
+    assert_eq!((rendered.outcome, rendered.status), (0, case.request.status().number()), "{case:?}");
+    let read = contacts::read(&memory, clock, &key).expect("the table is sound");
+    let shown = read.map(|document| (document.cas.0, document.value));
+    let rendered_shown = (rendered.status == 0).then(|| (rendered.cas, rendered.value.of(&memory)));
+    assert_eq!(shown, rendered_shown, "{case:?}");
+    race(
+        &case.table,
+        rounds,
+        |memory| {
+            black_box(rendering::read(memory, clock, black_box(&key)));
+        },
+        |memory| {
+            let _ = black_box(contacts::read(memory, clock, black_box(&key)));
+        },
+    )
+}
+
+fn serving(case: &Case, rounds: usize) -> Times {
     hold_to_one_answer(case);
     let (clock, frame) = (case.clock(), case.frame());
     let (mut rendered, mut reply) = ([0; REPLY_ROOM], [0; REPLY_ROOM]);

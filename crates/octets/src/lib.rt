@@ -266,16 +266,26 @@ fn same_run(s: &[u8], t: &[u8]) -> bool
     all_same(&s[..whole], &t[..whole]) & all_same(&s[last..], &t[last..])
 }
 
-// Whether two slices hold the same bytes: the last eight first, since keys that begin alike differ at their end.
+// Whether two slices hold the same bytes: the one test for equal keys. Lengths come first, then the last byte, then the rest, of
+// which the first byte and the last eight are looked at before all others, since that is where most keys differ.
 pub fn same(s: &[u8], t: &[u8]) -> bool
     ensures { λ r. ⌜ r ≡ same (now (s .entry)) (now (t .entry)) ⌝ }
 {
     if s.len() != t.len() {
         return false;
     }
+    if 0 < s.len() {
+        let last = s.len() - 1;
+        if s[last] != t[last] {
+            return false;
+        }
+        if s[0] != t[0] {
+            return false;
+        }
+    }
     if 8 <= s.len() {
-        let last = s.len() - 8;
-        if word(s, last) != word(t, last) {
+        let end = s.len() - 8;
+        if word(s, end) != word(t, end) {
             return false;
         }
     }

@@ -3,6 +3,7 @@
 mod clocks;
 mod contests;
 mod listings;
+mod searches;
 mod situations;
 
 use crate::generate::faults::Fault;
@@ -58,6 +59,7 @@ impl Coverage {
         }
         self.meet(listings::of_form(call, answer).map(Situation::GetKeys));
         self.meet(clocks::of_call(before, call, answer).into_iter().map(Situation::Clock));
+        self.meet(searches::of_call(before, call, answer).into_iter().map(Situation::Search));
         let (Call::Serve { clock, received, .. }, Answer::Served(served)) = (call, answer) else {
             return;
         };

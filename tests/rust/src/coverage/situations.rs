@@ -1,6 +1,6 @@
 //! Situations that a run must come to, told from the table, the frame and the answer, whatever was aimed at.
 
-use super::{clocks, listings};
+use super::{clocks, listings, searches};
 use crate::answers::Served;
 use crate::generate::keys::{bucket, fingerprint};
 use crate::generate::tables::Damage;
@@ -114,6 +114,7 @@ pub enum Situation {
     },
     GetKeys(listings::Met),
     Clock(clocks::Met),
+    Search(searches::Met),
 }
 
 impl Situation {
@@ -124,7 +125,8 @@ impl Situation {
             | Situation::SharedFingerprint(_)
             | Situation::SharedBucket(_)
             | Situation::KeyTwiceAmongShared(_)
-            | Situation::DamagedAbove12Rows(_) => calls / 250_000,
+            | Situation::DamagedAbove12Rows(_)
+            | Situation::Search(_) => calls / 250_000,
             Situation::GetKeys(met) if met.is_rare() => calls / 250_000,
             Situation::Clock(met) if met.is_rare() => calls / 250_000,
             _ => calls / 50_000,
@@ -147,6 +149,7 @@ pub fn expected() -> Vec<Situation> {
     expected.extend([0xa4, 0xa5].into_iter().flat_map(expected_add_with_meta));
     expected.extend(listings::expected().into_iter().map(Situation::GetKeys));
     expected.extend(clocks::expected().into_iter().map(Situation::Clock));
+    expected.extend(searches::expected().into_iter().map(Situation::Search));
     expected
 }
 
@@ -228,7 +231,7 @@ fn size(memory: &[u8]) -> Size {
     }
 }
 
-fn keys(memory: &[u8]) -> Vec<&[u8]> {
+pub fn keys(memory: &[u8]) -> Vec<&[u8]> {
     let used = memory[HEADER..].chunks_exact(ROW).filter(|row| u16_at(row, 0) != 0);
     used.map(|row| &row[KEY_AT..][..usize::from(u16_at(row, 2))]).collect()
 }

@@ -1,4 +1,4 @@
-//! A session's keys: short ones, numbered ones, long ones, and ones that share a fingerprint.
+//! A session's keys: short ones, numbered ones, long ones, ones that share a fingerprint, and ones that are alike.
 //!
 //! The damage test compares two keys in full only where their fingerprints agree. Document 01 knows nothing of it:
 //! `crates/fingerprint/specs/Fingerprint.antt` is rendered here to aim at keys that take that way.
@@ -39,7 +39,12 @@ enum Style {
     Sharing,
     /// 64 to 250 bytes with one fingerprint, which differ in the first word of each of the first three steps.
     SharingLong,
+    /// 1 to 8, 249 or 250 bytes that differ in the last, the first or the middle one, or by a byte of length.
+    Alike,
 }
+
+/// The lengths of keys that are alike.
+pub const ALIKE: [usize; 10] = [1, 2, 3, 4, 5, 6, 7, 8, 249, 250];
 
 impl Generator {
     /// At least one key more than the rows can hold, all different.
@@ -63,11 +68,17 @@ impl Generator {
                 let first = self.random.bytes(length);
                 self.different(count, |random| sharing_long(&first, random))
             }
+            Style::Alike => {
+                let length = *self.random.pick(&ALIKE);
+                let first = self.random.bytes(*KEY.end());
+                self.different(count, |random| alike(&first, length, random))
+            }
         }
     }
 
     fn style(&mut self, count: usize) -> Style {
-        match self.random.below(20) {
+        match self.random.below(24) {
+            20..=23 => Style::Alike,
             0..=9 if count <= SHORT.len() => Style::Short,
             0..=2 => Style::Numbered,
             3 | 4 | 10 => Style::Any,
@@ -126,6 +137,18 @@ fn sharing_long(key: &[u8], random: &mut Random) -> Vec<u8> {
         other[at..at + 8].copy_from_slice(&word(key, at).wrapping_add(added).to_le_bytes());
     }
     other
+}
+
+/// A key of this length, or of one byte more or less, that begins as the first one does but for one byte, or in all bytes.
+fn alike(first: &[u8], length: usize, random: &mut Random) -> Vec<u8> {
+    let lengths = [length - 1, length + 1, length, length, length, length];
+    let length = (*random.pick(&lengths)).clamp(*KEY.start(), *KEY.end());
+    let mut key = first[..length].to_vec();
+    let at = *random.pick(&[0, length / 2, length - 1]);
+    if random.percent(75) {
+        key[at] = random.byte();
+    }
+    key
 }
 
 /// `fingerprint`.
