@@ -23,13 +23,18 @@ use Rattle.effects.specs.Done.{doneOf}
 use Rattle.decision.specs.Decision.{decision}
 use Rattle.decode.specs.Decode.{commandOf, bareValue, requestOf}
 use Rattle.engine.specs.Engine.{afterPurge}
+use Rattle.listing.specs.Listing.{listedKeys}
+use Rattle.listing.specs.Claims.{OneOf}
+use Rattle.listing.proofs.Exact.{lists-exactly}
 use Rattle.rows.specs.Row.{Row, slotOf, sizeBytes, shortBytes, longBytes, slotBytes, docOf, keyOf, rowOf, slotFor, usedBytes, rowBytes}
 use Rattle.rows.specs.Table.{Table, headOf, tableOf, clockAt, headBytes, tableBytes}
 use Rattle.rows.specs.Find.{findRow}
 use Rattle.rows.specs.RowRules.{sizeOk, headOk, usedOk, rowSound}
 use Rattle.plain.specs.Damage.{sound}
+use Rattle.plain.specs.Plain.{Distinct}
 use Rattle.plain.specs.Claims.{Good}
 use Rattle.plain.proofs.TableLaws.{sound-good, good-sound}
+use Rattle.plain.proofs.PlainLaws.{plain-laws}
 use Rattle.owner.specs.declared.Document.the-variants.{Missing}
 use Rattle.owner.specs.Owner.{shown, readOf, purgeOf, purgedBytes}
 use Rattle.serving.specs.Serve.{gateAll, decisionOn, frameEffect, frameTable, served, servedTable}
@@ -37,10 +42,11 @@ use Rattle.serving.proofs.Formed.{no}
 use Rattle.promises.specs.Merge.{docAt}
 use Rattle.promises.specs.Kept.{keptAt, laterAt}
 use Rattle.promises.specs.Expiry.{Expired, NotLive}
+use Rattle.promises.specs.Listing.{docsIn}
 use Rattle.promises.specs.Clock.{TableCall, Serve, Purge, Read, clockOf, tableCalled, memoryAfter, raises, AllGiven, clockAfter, writesKey, Unwritten}
 use Rattle.promises.specs.Clock.{KeepsLatest, ExpiredForGood, StaysExpired, ReadsAlone, SumsLater}
 use Rattle.promises.proofs.Kept.{kept-clock, kept-good}
-use Rattle.promises.proofs.Liveness.{dead-at}
+use Rattle.promises.proofs.Liveness.{dead, dead-at}
 use Rattle.promises.proofs.Dead.{dead-is-missing}
 use Rattle.promises.proofs.Steps.{Left, Steps, purged-doc, purged-bytes, purged-good, step}
 
@@ -148,6 +154,13 @@ module _ (t : Table) (k : Key) (d : Doc) (o : Over t k d) where
   unfolding readOf
   unread clock = rw (good-sound t (o .good) .0) (shown-over (tableOf b .rows) (clockAt (tableOf b) clock) (docAt b k) (dead-at b clock (docAt b k) (not-live clock)))
 
+  unlisted : (clock : ℕ) (start : Key) (count : ℕ) → OneOf k (listedKeys (docsIn b) (laterAt b clock) start count) → ⊥
+  unlisted clock start count m =
+      let keys : Distinct (tableOf b .rows) = subst (λ (x : Table). Distinct (x .rows)) (sym (good-sound t (o .good) .1)) (o .good .keys) in
+      let l = lists-exactly (docsIn b) (laterAt b clock) start count (plain-laws .distinct-docs (tableOf b .rows) keys) .only k m in
+      let there : docAt b k ≡ some (l .doc) = plain-laws .find-docs (tableOf b .rows) keys k ∙ l .found in
+      no (sym (dead (laterAt b clock) (docAt b k) (not-live clock)) ∙ ap (λ (x : Option Doc). live (storedOf x) (laterAt b clock)) there ∙ l .live)
+
   goes : (clock bound : ℕ) → d .numbers .cas .0 ≤ bound → goneDoc (clockAt t clock) bound d ≡ true
   unfolding goneDoc gone expired
   goes clock bound l =
@@ -170,6 +183,7 @@ module _ (t : Table) (k : Key) (d : Doc) (o : Over t k d) where
     left = left;
     expired = past;
     read = unread;
+    listed = unlisted;
     frame = λ clock s room r e n. dead-is-missing b clock s room r (subst (λ (j : Key). NotLive (laterAt b clock) (docAt b j)) (sym e) (not-live clock)) n .0;
     purge = freed;
   }

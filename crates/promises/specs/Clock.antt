@@ -11,6 +11,8 @@ use Rattle.octets.specs.Parts.{Bytes}
 use Rattle.octets.specs.Compare.{same}
 use Rattle.numbers.specs.declared.Numbers.{Numbers}
 use Rattle.document.specs.Documents.{Key, Doc}
+use Rattle.listing.specs.Listing.{listedKeys}
+use Rattle.listing.specs.Claims.{OneOf}
 use Rattle.shape.specs.Shapes.{among}
 use Rattle.rows.specs.Table.{tableBytes}
 use Rattle.owner.specs.declared.Document.the-variants.{Missing, Live}
@@ -18,6 +20,7 @@ use Rattle.owner.specs.Owner.{readOf, readOutcome, purgeOf, purgeOutcome, purge
 use Rattle.serving.specs.Serve.{servedOutcome, servedStatus}
 use Rattle.promises.specs.Calls.{Call, servedBy, tableServed}
 use Rattle.promises.specs.Merge.{docAt}
+use Rattle.promises.specs.Listing.{docsIn}
 use Rattle.promises.specs.Judged.{at}
 use Rattle.promises.specs.Kept.{keptAt, laterAt}
 use Rattle.promises.specs.Expiry.{Expired, opcode, keyIn, gets, needsLive, Reaches, Answers}
@@ -105,6 +108,8 @@ pub record ExpiredForGood (b : List ℕ) (k : Key) (d : Doc) : Type 0 where
   pub expired : (clock : ℕ) → Expired (laterAt b clock) d
   -- a read doesn't show it
   pub read : (clock : ℕ) → readOf b clock k ≡ Missing
+  -- a listing doesn't show its key
+  pub listed : (clock : ℕ) (start : Key) (count : ℕ) → OneOf k (listedKeys (docsIn b) (laterAt b clock) start count) → ⊥
   -- a frame that needs a live document doesn't find it
   pub frame : (clock : ℕ) (s : List ℕ) (room : ℕ) → Reaches b clock s room → keyIn s ≡ k → needsLive s ≡ true → Answers b clock s room 0x01
   -- a purge up to its CAS frees it
