@@ -205,18 +205,19 @@ stays-expired b x xs k d p e w =
     ap (λ (m : List ℕ). memoryAfter m (x ∷ xs)) (sym back) ∙ ap (λ (m : List ℕ). memoryAfter m xs) (s .bytes) ∙ after in
     subst (λ (m : List ℕ). ExpiredForGood m k d) (sym all) (for-good u k d over)
 
--- ---- reads alone, computed
-pub reads-alone : ReadsAlone
+-- ---- what is computed: reads alone, and the plain expiry sum
+computed : ReadsAlone × SumsLater
 unfolding pasted written beFrom be bytesOf zeros same expired live gone goneDoc commands unbuilt lookUp among shapeOf headerOf formOk fieldRulesOk metaSize
     judged status gateOf extrasSpan keySpan valueSpan frameStatus ruleOf testsOf firstStatus firstFailure decision doneOf commandOf bareValue requestOf
     slotOf sizeBytes shortBytes longBytes slotBytes docOf keyOf rowOf slotFor usedBytes rowBytes headOf tableOf headBytes tableBytes sizeOk headOk
-    usedOk rowSound sound readOf purgedBytes gateAll decisionOn frameEffect frameTable servedTable
-reads-alone = record { missed = refl; shown-again = refl; after-frame = refl; after-purge = refl }
+    usedOk rowSound sound readOf purgedBytes gateAll decisionOn frameEffect frameTable served servedTable absolute passes
+computed = (
+  record { missed = refl; shown-again = refl; after-frame = refl; after-purge = refl },
+  record { stored = refl; kept = refl; spent = refl; never = refl },
+)
 
--- ---- the plain expiry sum, computed
+pub reads-alone : ReadsAlone
+reads-alone = computed .0
+
 pub sums-later : SumsLater
-unfolding pasted written beFrom be bytesOf zeros same expired live gone goneDoc commands unbuilt lookUp among shapeOf headerOf formOk fieldRulesOk metaSize
-    judged status gateOf extrasSpan keySpan valueSpan frameStatus ruleOf testsOf firstStatus firstFailure decision doneOf commandOf bareValue requestOf
-    slotOf sizeBytes shortBytes longBytes slotBytes docOf keyOf rowOf slotFor usedBytes rowBytes headOf tableOf headBytes tableBytes sizeOk headOk
-    usedOk rowSound sound gateAll decisionOn frameEffect frameTable served servedTable absolute passes
-sums-later = record { stored = refl; kept = refl; spent = refl; never = refl }
+sums-later = computed .1

@@ -32,7 +32,7 @@ use Rattle.rows.specs.Find.{findRow}
 use Rattle.plain.specs.Plain.{plain}
 use Rattle.plain.proofs.PlainLaws.{plain-laws}
 use Rattle.plain.proofs.TableLaws.{good-sound}
-use Rattle.serving.specs.Serve.{reachesDecision, decisionOn, frameEffect, frameChange, frameTable, gateAll, tableBy, servedTable}
+use Rattle.serving.specs.Serve.{reachesDecision, decisionOn, decisionAt, frameEffect, effectAt, frameChange, frameTable, gateAll, tableBy, servedTable}
 use Rattle.serving.proofs.Change.{changing, change-good}
 use Rattle.serving.proofs.Formed.{no}
 use Rattle.serving.proofs.Gated.{was-open}
@@ -73,7 +73,7 @@ faultless b clock s room (len, e) =
 
 -- what a served frame stores is what its key has then
 pub stored-at : (b : List ℕ) (clock : ℕ) (s : List ℕ) (room : ℕ) (d : Doc) → Bytes b → Bytes s → clock < 2 ^ 32 → gateAll b room s ≡ Whole (headerOf s)
-    → frameEffect (tableAt (tableOf b) clock) (clockAt (tableOf b) clock) s (headerOf s) .store ≡ some d → docAt (servedTable b clock s room) (keyIn s) ≡ some d
+    → effectAt b clock s (headerOf s) .store ≡ some d → docAt (servedTable b clock s room) (keyIn s) ≡ some d
 unfolding servedTable frameTable
 stored-at b clock s room d y z c o e =
     let t = tableAt (tableOf b) clock in
@@ -93,12 +93,12 @@ stored-at b clock s room d y z c o e =
 module _ (b : List ℕ) (clock : ℕ) (s : List ℕ) (room : ℕ) (d : Doc)
     (does : docFrom (doneOf (seen b clock s) (command b clock s) .store)
     (bytesFrom (doneOf (seen b clock s) (command b clock s) .source) (requestOf s (headerOf s) .value)) ≡ some d) where
-  reached : reachesDecision (frameStatus s (headerOf s)) ≡ true → decisionOn (tableAt (tableOf b) clock) (clockAt (tableOf b) clock) s (headerOf s) .status ≡ 0
-      → frameEffect (tableAt (tableOf b) clock) (clockAt (tableOf b) clock) s (headerOf s) .store ≡ some d
+  reached : reachesDecision (frameStatus s (headerOf s)) ≡ true → decisionAt b clock s (headerOf s) .status ≡ 0
+      → effectAt b clock s (headerOf s) .store ≡ some d
   unfolding frameEffect decisionOn decision
   reached r e = rw (r, eq-eqb _ 0 (rw r at e)) does
 
-  unreached : reachesDecision (frameStatus s (headerOf s)) ≡ false → decisionOn (tableAt (tableOf b) clock) (clockAt (tableOf b) clock) s (headerOf s) .status ≡ 0 → ⊥
+  unreached : reachesDecision (frameStatus s (headerOf s)) ≡ false → decisionAt b clock s (headerOf s) .status ≡ 0 → ⊥
   unfolding decisionOn
   unreached r e = no (sym r ∙ ap reachesDecision (rw r at e))
 
