@@ -15,7 +15,7 @@ use Rattle.document.specs.declared.Side.the-variants.{Front, Back}
 use Rattle.document.specs.Documents.{Key, joined}
 use Rattle.document.specs.Stored.{entryOf}
 use Rattle.rows.specs.Row.{slotBytes, slotFor}
-use Rattle.row_writer.specs.Over.{joinedBytes, joinedRow}
+use Rattle.row_writer.specs.Over.{overBytes, joinedBytes, joinedRow}
 use Rattle.row_writer.proofs.Writes.{slotSized, length-front, row-over, length-over}
 
 module _ (r : List ℕ) (key : Key) (m : Metadata) (value : List ℕ) (old : ℕ) where
@@ -69,6 +69,10 @@ module _ (r : List ℕ) (key : Key) (m : Metadata) (value : List ℕ) (old : ℕ
     length-joined =
         let e = entryOf key m (joined side there value) in
         cases (leb (length key + (old + length value)) 1280) (λ t. rw t (length-over r e old)) (λ f. rw f)
+
+    pub joined-there : (w : List ℕ) → there ≡ w → length key + (old + length value) ≤ 1280 → joinedBytes r key m side value old ≡ overBytes r (entryOf key m (joined side w value)) old
+    unfolding joinedBytes
+    joined-there w e room = rw (le-leb (length key + (old + length value)) 1280 room, e)
 
     -- by the row's length, and by whether the two fit
     pub join-other : (length r ≡ 1312 → ⊥) → r ≡ joinedRow r key m side value old
