@@ -17,7 +17,7 @@ use situations::Situation;
 use std::collections::BTreeMap;
 use std::fmt::{Debug, Write};
 
-const STATUSES: [u8; 11] = [0x00, 0x01, 0x02, 0x03, 0x04, 0x06, 0x07, 0x81, 0x82, 0x83, 0x84];
+const STATUSES: [u8; 12] = [0x00, 0x01, 0x02, 0x03, 0x04, 0x05, 0x06, 0x07, 0x81, 0x82, 0x83, 0x84];
 
 /// The table sizes between the small ones and the largest: some half of them are due at first, then each.
 const SIZES: std::ops::RangeInclusive<usize> = 13..=255;
@@ -204,7 +204,7 @@ fn expected_answers() -> impl Iterator<Item = &'static str> {
     .into_iter()
 }
 
-/// Every status that document 01 allows an opcode.
+/// Every status that document 01, with the orders, allows an opcode.
 fn expected_statuses() -> impl Iterator<Item = (u8, u8)> {
     (0..=255).flat_map(|opcode| statuses_of(opcode).iter().map(move |&status| (opcode, status)))
 }
@@ -219,6 +219,8 @@ fn statuses_of(opcode: u8) -> &'static [u8] {
         Ok(Command::Delete) => &[0x00, 0x01, 0x02, 0x04, 0x07, 0x84],
         Ok(Command::Replace) => &[0x00, 0x01, 0x02, 0x03, 0x04, 0x07, 0x84],
         Ok(Command::Increment | Command::Decrement) => &[0x00, 0x01, 0x02, 0x04, 0x06, 0x07, 0x82, 0x84],
+        Ok(Command::Append | Command::Prepend) => &[0x00, 0x02, 0x03, 0x04, 0x05, 0x07, 0x84],
+        Ok(Command::Touch | Command::GetAndTouch) => &[0x00, 0x01, 0x04, 0x07, 0x84],
         Ok(Command::DeleteWithMeta) => &[0x00, 0x01, 0x02, 0x04, 0x07, 0x82, 0x84],
         Ok(Command::Set | Command::Add | Command::SetWithMeta | Command::AddWithMeta) => {
             &[0x00, 0x01, 0x02, 0x03, 0x04, 0x07, 0x82, 0x84]
