@@ -2,6 +2,8 @@
 
 mod clocks;
 mod contests;
+mod forms;
+mod joins;
 mod listings;
 mod searches;
 mod situations;
@@ -34,6 +36,8 @@ pub struct Coverage {
     sizes: BTreeMap<usize, u64>,
     /// What is wrong with the session's table.
     damage: Option<Damage>,
+    /// The append or prepend that the call before was, with its key.
+    joined: Option<(u8, Vec<u8>)>,
 }
 
 impl Coverage {
@@ -45,6 +49,7 @@ impl Coverage {
     /// Counts the table that a session starts with.
     pub fn start(&mut self, start: &Start) {
         self.damage = start.damage;
+        self.joined = None;
         *self.sizes.entry(situations::rows(&start.table)).or_default() += 1;
         self.meet(situations::of_start(&start.table, start.damage));
         self.meet([Situation::Clock(clocks::of_start(&start.table))]);
@@ -60,6 +65,8 @@ impl Coverage {
         self.meet(listings::of_form(call, answer).map(Situation::GetKeys));
         self.meet(clocks::of_call(before, call, answer).into_iter().map(Situation::Clock));
         self.meet(searches::of_call(before, call, answer).into_iter().map(Situation::Search));
+        self.meet(joins::of_form(call, answer).map(Situation::Join));
+        let joined = self.joined.take();
         let (Call::Serve { clock, received, .. }, Answer::Served(served)) = (call, answer) else {
             return;
         };
@@ -68,6 +75,9 @@ impl Coverage {
             let later = clocks::kept(before).max(*clock);
             *self.statuses.entry((frame[1], served.status)).or_default() += 1;
             self.meet(situations::of_frame(before, later, frame, served));
+            let counted = joined.and_then(|after| joins::counted(&after, before, later, frame, served.status));
+            self.meet(counted.map(Situation::Join));
+            self.joined = joins::joined(frame, served.status);
             if let Some(contest) = contests::of_frame(before, later, frame, served.status) {
                 *self.contests.entry(contest).or_default() += 1;
             }
