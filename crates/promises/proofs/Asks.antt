@@ -62,6 +62,7 @@ module _ (c : Context) (extras : List ℕ) where
   unfolding shapeOf commandOf ruleOf plainOf counterOf touchOf metaCommand
   guarded n e = tested (λ x. ruleOf c (ask x) .guarded || ruleOf c (ask x) .needs) n keyed refl e
 
+  -- none of them joins
   pub joinless : (n : ℕ) → among n keyed ≡ true → not (ruleOf c (ask n) .joins) ≡ true
   unfolding shapeOf commandOf ruleOf plainOf counterOf touchOf metaCommand
   joinless n e = tested (λ x. not (ruleOf c (ask x) .joins)) n keyed refl e
@@ -120,31 +121,32 @@ module _ (c : Context) (extras : List ℕ) where
       ((SetMeta, refl), ((SetMeta, refl), ((AddMeta, refl), ((AddMeta, refl), ((DeleteMeta, refl), ((DeleteMeta, refl), tt)))))) e
 
   -- Append and Prepend, at the back and at the front of the stored value
-  abbrev Joins : ℕ → Type 0
-  Joins n = (side : Side) × (ask n ≡ Join side)
+  abbrev JoinsAt : Side → ℕ → Type 0
+  JoinsAt side n = ask n ≡ Join side
 
-  pub joining : (n : ℕ) → among n joins ≡ true → Joins n
+  pub appending : (n : ℕ) → among n appends ≡ true → JoinsAt Back n
   unfolding shapeOf commandOf
-  joining n e = at-opcode Joins n joins ((Back, refl), ((Back, refl), ((Front, refl), ((Front, refl), tt)))) e
+  appending n e = at-opcode (JoinsAt Back) n appends (refl, (refl, tt)) e
 
-  abbrev At : Side → ℕ → Type 0
-  At side n = ask n ≡ Join side
-
-  pub appending : (n : ℕ) → among n appends ≡ true → At Back n
+  pub prepending : (n : ℕ) → among n prepends ≡ true → JoinsAt Front n
   unfolding shapeOf commandOf
-  appending n e = at-opcode (At Back) n appends (refl, (refl, tt)) e
+  prepending n e = at-opcode (JoinsAt Front) n prepends (refl, (refl, tt)) e
 
-  pub prepending : (n : ℕ) → among n prepends ≡ true → At Front n
+  -- either of them
+  abbrev JoinsAny : ℕ → Type 0
+  JoinsAny n = (side : Side) × JoinsAt side n
+
+  pub joining : (n : ℕ) → among n joins ≡ true → JoinsAny n
   unfolding shapeOf commandOf
-  prepending n e = at-opcode (At Front) n prepends (refl, (refl, tt)) e
+  joining n e = at-opcode JoinsAny n joins ((Back, refl), ((Back, refl), ((Front, refl), ((Front, refl), tt)))) e
 
   -- Touch and Get-and-touch
-  abbrev Touches : ℕ → Type 0
-  Touches n = (shown : Bool) × (ask n ≡ Touch (record { expiry = num extras 0 4; shown = shown }))
+  abbrev TouchesAt : ℕ → Type 0
+  TouchesAt n = (shown : Bool) × (ask n ≡ Touch (record { expiry = num extras 0 4; shown = shown }))
 
-  pub touching : (n : ℕ) → among n touches ≡ true → Touches n
+  pub touching : (n : ℕ) → among n touches ≡ true → TouchesAt n
   unfolding shapeOf commandOf touchOf
-  touching n e = at-opcode Touches n touches ((false, refl), ((true, refl), tt)) e
+  touching n e = at-opcode TouchesAt n touches ((false, refl), ((true, refl), tt)) e
 
 -- ---- commands but the with-meta ones
 abbrev pub IsPlain : Command → Type 0
