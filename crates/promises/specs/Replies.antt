@@ -1,7 +1,7 @@
--- The reply area under serving, whatever the table, the clock and the received bytes: a reply fits the room that serving asks for, the reply to another status than 0 is a bare header, and a touch is answered what order 4 says. Proved in proofs/Replies.antt and Touched.antt.
+-- The reply area under serving, whatever the table, the clock and the received bytes: a reply fits the room that serving asks for, the reply to another status than 0 is a bare header, and a touch and a join are answered what order 4 says. Proved in proofs/Replies.antt and Touched.antt.
 use Prim.Native.Nat.{ℕ, _+_, _^_, _≤_, _<_}
 use mathlib.Core.Path.{_≡_}
-use mathlib.Core.Bool.{Bool, true, cond, _&&_}
+use mathlib.Core.Bool.{Bool, true, false, cond, _&&_}
 use mathlib.Core.List.{List, [], _∷_, _++_}
 use mathlib.Core.Option.{some}
 use lib.ListN.{length, drop, replicate}
@@ -14,7 +14,7 @@ use Rattle.header.specs.Header.{headerOf}
 use Rattle.serving.specs.declared.Served.the-variants.{Done}
 use Rattle.serving.specs.Serve.{served, servedTable, servedReply}
 use Rattle.promises.specs.Merge.{docAt}
-use Rattle.promises.specs.Expiry.{opcode, keyIn, touches}
+use Rattle.promises.specs.Expiry.{opcode, keyIn, touches, joins}
 
 -- "reply length, maybe 0; reply bytes past it unchanged": the area after a reply of so many bytes
 pub record Fits (out : List ℕ) (len : ℕ) (out′ : List ℕ) : Type 0 where
@@ -77,3 +77,14 @@ TouchReplies =
     → (e : Doc) × ((docAt (servedTable b clock s (length out)) (keyIn s) ≡ some e)
     × ((len ≡ length (touchReply s (eqb (opcode s) 0x1d) (d .numbers .flags) (d .value) (e .numbers .cas .0)))
     × (servedReply b clock s out ≡ touchReply s (eqb (opcode s) 0x1d) (d .numbers .flags) (d .value) (e .numbers .cas .0) ++ drop len out)))
+
+-- Append and Prepend: a bare header with the CAS stored, and nothing to the quiet two: "Quiet writes send nothing on status 0."
+abbrev pub joinReply : List ℕ → ℕ → List ℕ
+joinReply s cas = cond (among (opcode s) (0x19 ∷ 0x1a ∷ [])) [] (touchReply s false 0 [] cas)
+
+abbrev pub JoinReplies : Type 0
+JoinReplies =
+    (b : List ℕ) (clock : ℕ) (s out : List ℕ) (d : Doc) (len : ℕ) → Bytes b → Bytes s → clock < 2 ^ 32 → docAt b (keyIn s) ≡ some d
+    → among (opcode s) joins ≡ true → served b clock s (length out) ≡ Done 0 (24 + headerOf s .body) len
+    → (e : Doc) × ((docAt (servedTable b clock s (length out)) (keyIn s) ≡ some e)
+    × ((len ≡ length (joinReply s (e .numbers .cas .0))) × (servedReply b clock s out ≡ joinReply s (e .numbers .cas .0) ++ drop len out)))
