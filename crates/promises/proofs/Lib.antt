@@ -18,3 +18,4 @@ pub mod Worked
 pub mod Candidates
 pub mod Replies
 pub mod Listing
+pub mod Touched
