@@ -1,5 +1,5 @@
 -- How each command stands to each test, a row of rules for each, and the statuses in 01's order, first that applies.
-use Prim.Native.Nat.{ℕ}
+use Prim.Native.Nat.{ℕ, _+_}
 use mathlib.Core.Bool.{Bool, true, false, cond, _&&_, _||_, not, Bool·beq}
 use mathlib.Core.List.{List, [], _∷_}
 use lib.Dec.{ltb, eqb}
@@ -17,9 +17,10 @@ use Rattle.commands.specs.declared.MetaKind.{MetaKind}
 use Rattle.commands.specs.declared.MetaKind.the-variants.{Set as SetMeta, Add as AddMeta, Delete as DeleteMeta}
 use Rattle.commands.specs.declared.Counter.{Counter}
 use Rattle.commands.specs.declared.Plain.{Plain}
+use Rattle.commands.specs.declared.Touching.{Touching}
 use Rattle.commands.specs.declared.Meta.{Meta}
 use Rattle.commands.specs.declared.Command.{Command}
-use Rattle.commands.specs.declared.Command.the-variants.{Get, Write, Delete, Count, Noop, Version, WithMeta, GetKeys}
+use Rattle.commands.specs.declared.Command.the-variants.{Get, Write, Delete, Count, Noop, Version, WithMeta, GetKeys, Join, Touch}
 use Rattle.commands.specs.declared.Context.{Context}
 use Rattle.commands.specs.declared.Instruction.{Instruction}
 use Rattle.commands.specs.declared.Tests.{Tests}
@@ -42,6 +43,8 @@ pub record Rule : Type 0 where
   pub beaten : Bool
   -- counts on the stored number
   pub counts : Bool
+  -- joins its value to that of a live document
+  pub joins : Bool
   -- raises the mark
   pub marks : Bool
   -- raises the revision
@@ -61,6 +64,7 @@ readRule anywhere needs silentOn = record {
   guarded = false;
   beaten = false;
   counts = false;
+  joins = false;
   marks = false;
   revises = false;
   writes = false;
@@ -90,6 +94,7 @@ plainRule fault needs fresh counts = record {
   guarded = true;
   beaten = false;
   counts = counts;
+  joins = false;
   marks = true;
   revises = true;
   writes = true;
@@ -144,8 +149,45 @@ metaRule c w fresh = record {
   guarded = true;
   beaten = not (w .force || (w .skip || accepted (modeOf (c .head .mode)) (c .row) (w .numbers)));
   counts = false;
+  joins = false;
   marks = w .regenerate;
   revises = false;
+  writes = true;
+  silentOn = 0;
+}
+
+-- Append, Prepend, by order 4: "not live is 0x05, whatever the header CAS; a joined value over 1,024 is 0x03, tested right after header CAS"
+abbrev pub joinRule : Rule
+joinRule = record {
+  fault = false;
+  anywhere = false;
+  standby = false;
+  needs = false;
+  fresh = false;
+  guarded = true;
+  beaten = false;
+  counts = false;
+  joins = true;
+  marks = true;
+  revises = true;
+  writes = true;
+  silentOn = 0;
+}
+
+-- Touch, Get-and-touch, by order 4: "4 extras: expiry, plain rule; not live 0x01; header CAS ignored"; "All are plain writes with new CAS and revision."
+abbrev pub touchRule : Context → Touching → Rule
+touchRule c t = record {
+  fault = passes (t .expiry) (c .clock);
+  anywhere = false;
+  standby = false;
+  needs = true;
+  fresh = false;
+  guarded = false;
+  beaten = false;
+  counts = false;
+  joins = false;
+  marks = true;
+  revises = true;
   writes = true;
   silentOn = 0;
 }
@@ -159,6 +201,8 @@ ruleOf c Noop = noopRule
 ruleOf c Version = noopRule
 ruleOf c (WithMeta w) = metaRule c w (isAddMeta (w .kind))
 ruleOf c (GetKeys n) = listRule
+ruleOf c (Join side) = joinRule
+ruleOf c (Touch t) = touchRule c t
 
 -- ---- the tests
 -- the request is for this table, in its state; standby: replica and pending tables take it too
@@ -178,8 +222,10 @@ testsOf c i t = record {
   fault = t .fault;
   long = ltb 1024 (i .size);
   elsewhere = not (t .anywhere || isHere (c .head) (i .vbucket) (t .standby));
+  unstored = t .joins && not (live (c .row) (c .clock));
   missing = (t .needs || guard i t) && not (live (c .row) (c .clock));
   conflict = t .beaten || ((t .fresh && live (c .row) (c .clock)) || (guard i t && not (eqb (i .cas .0) (numbersOf (c .row) .cas .0))));
+  joined = t .joins && ltb 1024 (c .size + i .size);
   number = t .counts && (live (c .row) (c .clock) && not (isNumber (c .number)));
   spent = (t .revises && eqb (numbersOf (c .row) .revision .0) 0xffffffffffffffff) || (t .marks && eqb (c .head .mark .0) 0xffffffffffffffff);
   full = t .writes && not (hasRow (c .row) || c .free);
@@ -204,8 +250,10 @@ firstStatus x = firstFailure (
     x .fault ⇒ 0x04
     ∷ x .long ⇒ 0x03
     ∷ x .elsewhere ⇒ 0x07
+    ∷ x .unstored ⇒ 0x05
     ∷ x .missing ⇒ 0x01
     ∷ x .conflict ⇒ 0x02
+    ∷ x .joined ⇒ 0x03
     ∷ x .number ⇒ 0x06
     ∷ x .spent ⇒ 0x84
     ∷ x .full ⇒ 0x82

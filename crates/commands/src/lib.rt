@@ -6,6 +6,7 @@ ghost use mathlib.Core.Path.{_≡_};
 ghost use Rattle.commands.specs.Writes.{isMutation};
 use digits::Number;
 use document::Head;
+use document::Side;
 use document::Stored;
 use numbers::Cas;
 use numbers::Numbers;
@@ -29,6 +30,12 @@ pub struct Counter {
     pub delta: u64,
     pub initial: u64,
     pub expiry: u32,
+}
+
+// Touch, and Get-and-touch, whose reply shows the document.
+pub struct Touching {
+    pub expiry: u32,
+    pub shown: bool,
 }
 
 pub enum MetaKind {
@@ -58,6 +65,9 @@ pub enum Command {
     WithMeta(Meta),
     // how many keys at most
     GetKeys(u32),
+    // Append at the back, Prepend at the front
+    Join(Side),
+    Touch(Touching),
 }
 
 // A request whose form is right, its key and value aside.
@@ -70,23 +80,27 @@ pub struct Instruction {
     pub command: Command,
 }
 
-// What a decision sees beside the request: the table's head, the key's row, whether a row is free, the clock, and the number
-// that the stored value says.
+// What a decision sees beside the request: the table's head, the key's row, whether a row is free, the clock, and of the stored
+// value the number that it says and its size.
 pub struct Context {
     pub head: Head,
     pub row: Stored,
     pub free: bool,
     pub clock: u32,
     pub number: Number,
+    pub size: usize,
 }
 
-// What each status asks, in 01's order: 0x04, 0x03, 0x07, 0x01, 0x02, 0x06, 0x84, 0x82.
+// What each status asks, in 01's order with order 4's: 0x04, 0x03, 0x07, 0x05, 0x01, 0x02, 0x03 of a joined value, 0x06, 0x84,
+// 0x82.
 pub struct Tests {
     pub fault: bool,
     pub long: bool,
     pub elsewhere: bool,
+    pub unstored: bool,
     pub missing: bool,
     pub conflict: bool,
+    pub joined: bool,
     pub number: bool,
     pub spent: bool,
     pub full: bool,
@@ -105,5 +119,7 @@ pub fn writes(c: Command) -> bool
         Command::Version => false,
         Command::WithMeta(_) => true,
         Command::GetKeys(_) => false,
+        Command::Join(_) => true,
+        Command::Touch(_) => true,
     }
 }

@@ -9,11 +9,11 @@ use Rattle.numbers.specs.declared.Numbers.{Numbers}
 use Rattle.numbers.specs.Order.{modeOf}
 use Rattle.document.specs.declared.Head.{Head}
 use Rattle.document.specs.Head.{marked}
-use Rattle.document.specs.Documents.{Doc}
+use Rattle.document.specs.Documents.{Doc, docValue}
 use Rattle.document.specs.Stored.{storedOf, hasRow, numbersOf, accepted}
 use Rattle.commands.specs.declared.MetaKind.{MetaKind}
 use Rattle.commands.specs.declared.Command.{Command}
-use Rattle.commands.specs.declared.Command.the-variants.{Get, Write, Delete, Count, Noop, Version, WithMeta, GetKeys}
+use Rattle.commands.specs.declared.Command.the-variants.{Get, Write, Delete, Count, Noop, Version, WithMeta, GetKeys, Join, Touch}
 use Rattle.commands.specs.declared.Meta.{Meta}
 use Rattle.effects.specs.Done.{isDelete}
 use Rattle.decision.specs.Decide.{Request, Effect, decide}
@@ -46,6 +46,8 @@ Formed Noop = Unit {0}
 Formed Version = Unit {0}
 Formed (WithMeta w) = NumbersFit (w .numbers) × (1 ≤ w .numbers .cas .0) × BareDelete (w .kind) (w .numbers .flags) (w .numbers .expiry)
 Formed (GetKeys n) = Unit {0}
+Formed (Join side) = Unit {0}
+Formed (Touch t) = t .expiry < 2 ^ 32
 
 -- "A non-zero status changes no table byte": it stores nothing and leaves the head
 abbrev pub StatusStoresNothing : Type 0
@@ -67,7 +69,7 @@ pub record StoredSound (h : Head) (row : Option Doc) (free : Bool) (clock : ℕ)
 abbrev pub StoresSound : Type 0
 StoresSound =
     (h : Head) (row : Option Doc) (free : Bool) (clock : ℕ) (q : Request) → h .mark .0 < 2 ^ 64 → Formed (q .command) → NumbersFit (numbersOf (storedOf row))
-    → StoredSound h row free clock q
+    → length (docValue row) ≤ 1024 → StoredSound h row free clock q
 
 -- the effect of a write of demand 3: stored, with the mark raised where lower, or refused with 0x02
 abbrev pub keep : Head → Doc → Effect

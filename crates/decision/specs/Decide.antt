@@ -7,7 +7,7 @@ use lib.ListN.{length}
 use Rattle.octets.specs.BigEndian.{bytesOf}
 use Rattle.digits.specs.Decimal.{digits, numberOf}
 use Rattle.numbers.specs.declared.Cas.{Cas}
-use Rattle.document.specs.Documents.{Key, Doc, docValue}
+use Rattle.document.specs.Documents.{Key, Doc, docValue, joined}
 use Rattle.document.specs.Stored.{storedOf}
 use Rattle.document.specs.declared.Stored.{Stored}
 use Rattle.document.specs.declared.Stored.the-variants.{Nothing, Used}
@@ -16,7 +16,7 @@ use Rattle.commands.specs.declared.Command.{Command}
 use Rattle.commands.specs.declared.Context.{Context}
 use Rattle.commands.specs.declared.Instruction.{Instruction}
 use Rattle.effects.specs.declared.Source.{Source}
-use Rattle.effects.specs.declared.Source.the-variants.{Empty, Frame, Digits}
+use Rattle.effects.specs.declared.Source.the-variants.{Empty, Frame, Digits, Kept, Joined}
 use Rattle.effects.specs.declared.Reply.{Reply}
 use Rattle.effects.specs.declared.Reply.the-variants.{Bare, Found, Counted, Version as VersionReply, Keys}
 use Rattle.decision.specs.declared.Decision.{Decision}
@@ -40,11 +40,13 @@ pub record Effect : Type 0 where
 abbrev pub instructionOf : Request → Instruction
 instructionOf a = record { vbucket = a .vbucket; cas = a .cas; quiet = a .quiet; size = length (a .value); command = a .command }
 
--- ---- the bytes of a decision: those of the frame, and the stored ones in a reply
-abbrev pub bytesFrom : Source → List ℕ → List ℕ
-bytesFrom Empty frame = []
-bytesFrom Frame frame = frame
-bytesFrom (Digits n) frame = digits n
+-- ---- the bytes of a decision: those of the frame and the stored ones
+abbrev pub bytesFrom : Source → List ℕ → List ℕ → List ℕ
+bytesFrom Empty frame stored = []
+bytesFrom Frame frame stored = frame
+bytesFrom (Digits n) frame stored = digits n
+bytesFrom Kept frame stored = stored
+bytesFrom (Joined side) frame stored = joined side stored frame
 
 abbrev pub docFrom : Stored → List ℕ → Option Doc
 docFrom Nothing value = none
@@ -72,12 +74,17 @@ replyValue (Counted n) shown = bytesOf 8 n
 replyValue VersionReply shown = 52 ∷ 46 ∷ 48 ∷ 46 ∷ 48 ∷ []
 replyValue (Keys n) shown = shown
 
-abbrev pub effectOf : Request → Decision → Effect
-effectOf a x = record { status = x .status; store = docFrom (x .done .store) (bytesFrom (x .done .source) (a .value)); head = x .done .head }
+-- row: what the key's row holds
+abbrev pub effectOf : Request → Option Doc → Decision → Effect
+effectOf a row x = record {
+  status = x .status;
+  store = docFrom (x .done .store) (bytesFrom (x .done .source) (a .value) (docValue row));
+  head = x .done .head;
+}
 
 -- what a decision sees of a table's head, the key's row, whether a row is free and the clock
 abbrev pub contextOf : Head → Option Doc → Bool → ℕ → Context
-contextOf h row free clock = record { head = h; row = storedOf row; free = free; clock = clock; number = numberOf (docValue row) }
+contextOf h row free clock = record { head = h; row = storedOf row; free = free; clock = clock; number = numberOf (docValue row); size = length (docValue row) }
 
 unfoldable pub decide : Head → Option Doc → Bool → ℕ → Request → Effect
-decide h row free clock a = effectOf a (decision (contextOf h row free clock) (instructionOf a))
+decide h row free clock a = effectOf a row (decision (contextOf h row free clock) (instructionOf a))

@@ -10,7 +10,7 @@ use Rattle.commands.specs.declared.MetaKind.{MetaKind}
 use Rattle.commands.specs.declared.MetaKind.the-variants.{Set, Add, Delete}
 use Rattle.commands.specs.declared.Meta.{Meta}
 use Rattle.commands.specs.declared.Command.{Command}
-use Rattle.commands.specs.declared.Command.the-variants.{Get, Write, Delete as PlainDelete, Count, Noop, Version, WithMeta, GetKeys}
+use Rattle.commands.specs.declared.Command.the-variants.{Get, Write, Delete as PlainDelete, Count, Noop, Version, WithMeta, GetKeys, Join, Touch}
 use Rattle.commands.specs.Rules.{isLast}
 use Rattle.effects.specs.Done.{isDelete}
 use Rattle.decision.specs.Decide.{Request}
@@ -42,6 +42,8 @@ metaIn Noop = noMeta
 metaIn Version = noMeta
 metaIn (WithMeta w) = w
 metaIn (GetKeys n) = noMeta
+metaIn (Join side) = noMeta
+metaIn (Touch t) = noMeta
 
 abbrev pub meta : RequestAt → Meta
 meta c = metaIn (c .request .command)

@@ -2,8 +2,8 @@
 ghost use mathlib.Core.Path.{_≡_};
 ghost use mathlib.Core.Bool.{true, false};
 ghost use Rattle.numbers.specs.Expiry.{passes};
-ghost use Rattle.commands.specs.Rules.{getRule, listRule, noopRule, plainRule, writeRule, deleteRule, countRule, metaRule, isAddMeta};
-ghost use Rattle.effects.specs.Done.{nothing, found, writeDone, deleteDone, countDone, isDelete, metaDone};
+ghost use Rattle.commands.specs.Rules.{getRule, listRule, noopRule, plainRule, writeRule, deleteRule, countRule, metaRule, isAddMeta, joinRule, touchRule};
+ghost use Rattle.effects.specs.Done.{nothing, found, writeDone, deleteDone, countDone, isDelete, metaDone, joinDone, touchDone};
 ghost use Rattle.decision.specs.Decision.{withStatus, decisionBy, decision};
 use commands::Command;
 use commands::Context;
@@ -13,7 +13,9 @@ use commands::Kind;
 use commands::Meta;
 use commands::MetaKind;
 use commands::Plain;
+use commands::Touching;
 use commands::status;
+use document::Side;
 use effects::Done;
 use effects::Reply;
 use numbers::Cas;
@@ -171,6 +173,30 @@ fn with_meta(c: Context, i: Instruction, w: Meta) -> Decision
     meta_written(c, i, w, is_add(kind), is_delete(kind))
 }
 
+fn join(c: Context, i: Instruction, side: Side) -> Decision
+    ensures { λ r. ⌜ r ≡ decisionBy c i joinRule (joinDone c side) ⌝ }
+{
+    with_status(
+        c,
+        i,
+        0,
+        status::join_status(c, i),
+        effects::join_done(c, side),
+    )
+}
+
+fn touch(c: Context, i: Instruction, t: Touching) -> Decision
+    ensures { λ r. ⌜ r ≡ decisionBy c i (touchRule c t) (touchDone c t) ⌝ }
+{
+    with_status(
+        c,
+        i,
+        0,
+        status::touch_status(c, i, t),
+        effects::touch_done(c, t),
+    )
+}
+
 pub fn decide(c: Context, i: Instruction) -> Decision
     ensures { λ r. ⌜ r ≡ decision c i ⌝ }
 {
@@ -184,5 +210,7 @@ pub fn decide(c: Context, i: Instruction) -> Decision
         Command::Version => version(c, i),
         Command::WithMeta(w) => with_meta(c, i, w),
         Command::GetKeys(count) => get_keys(c, i, count),
+        Command::Join(side) => join(c, i, side),
+        Command::Touch(t) => touch(c, i, t),
     }
 }

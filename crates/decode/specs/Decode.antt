@@ -11,6 +11,7 @@ use Rattle.shape.specs.declared.Shape.{Shape}
 use Rattle.shape.specs.declared.Operation.{Operation}
 use Rattle.shape.specs.declared.Operation.the-variants as Operations
 use Rattle.header.specs.declared.Header.{Header}
+use Rattle.document.specs.declared.Side.the-variants.{Front, Back}
 use Rattle.with_meta.specs.WithMeta.{withMeta}
 use Rattle.with_meta.specs.declared.WithMeta.{WithMeta}
 use Rattle.with_meta.specs.FieldRules.{withMetaOk}
@@ -21,11 +22,11 @@ use Rattle.commands.specs.declared.Kind.the-variants.{Set, Add, Replace}
 use Rattle.commands.specs.declared.MetaKind.{MetaKind}
 use Rattle.commands.specs.declared.MetaKind.the-variants.{Set as SetMeta, Add as AddMeta, Delete as DeleteMeta}
 use Rattle.commands.specs.declared.Command.{Command}
-use Rattle.commands.specs.declared.Command.the-variants.{Get, Write, Delete, Count, Noop, Version, WithMeta as Metas, GetKeys}
+use Rattle.commands.specs.declared.Command.the-variants.{Get, Write, Delete, Count, Noop, Version, WithMeta as Metas, GetKeys, Join, Touch}
 use Rattle.commands.specs.declared.Instruction.{Instruction}
 use Rattle.decision.specs.Decide.{Request}
 use Rattle.decode.specs.declared.Family.{Family}
-use Rattle.decode.specs.declared.Family.the-variants.{Bare, Stored, Counted, Carried, Listed}
+use Rattle.decode.specs.declared.Family.the-variants.{Bare, Stored, Counted, Carried, Listed, Touched}
 use Rattle.decode.specs.declared.Decoded.{Decoded}
 use Rattle.decode.specs.declared.Decoded.the-variants.{Broken, Whole}
 
@@ -36,6 +37,10 @@ plainOf k extras = Write (record { kind = k; flags = num extras 0 4; expiry = nu
 -- "20 extras (delta, initial, expiry)"
 unfoldable pub counterOf : Bool → List ℕ → Command
 counterOf up extras = Count (record { up = up; delta = num extras 0 8; initial = num extras 8 8; expiry = num extras 16 4 })
+
+-- order 4, Touch and Get-and-touch: "4 extras: expiry"; the second one's reply shows the document
+unfoldable pub touchOf : Bool → List ℕ → Command
+touchOf shown extras = Touch (record { expiry = num extras 0 4; shown = shown })
 
 -- the options' bits: 0x01, 0x02, 0x04, 0x08
 unfoldable pub metaCommand : MetaKind → WithMeta → Command
@@ -64,6 +69,10 @@ familyOf Operations.SetWithMeta = Carried SetMeta
 familyOf Operations.AddWithMeta = Carried AddMeta
 familyOf Operations.DeleteWithMeta = Carried DeleteMeta
 familyOf Operations.GetKeys = Listed
+familyOf Operations.Append = Bare (Join Back)
+familyOf Operations.Prepend = Bare (Join Front)
+familyOf Operations.Touch = Touched false
+familyOf Operations.GetAndTouch = Touched true
 familyOf Operations.NotBuilt = Bare Noop
 familyOf Operations.Unknown = Bare Noop
 
@@ -73,10 +82,11 @@ commandBy (Stored k) extras = plainOf k extras
 commandBy (Counted up) extras = counterOf up extras
 commandBy (Carried k) extras = metaCommand k (withMeta extras)
 commandBy Listed extras = GetKeys (countOf extras)
+commandBy (Touched shown) extras = touchOf shown extras
 
 -- the command that operation and extras spell
 unfoldable pub commandOf : Operation → List ℕ → Command
-unfolding plainOf counterOf metaCommand
+unfolding plainOf counterOf metaCommand touchOf
 commandOf o extras = commandBy (familyOf o) extras
 
 -- the value before the extended meta
@@ -109,6 +119,7 @@ decodedAs (Stored k) s h extras value = Whole (instructionWith s h (plainOf k ex
 decodedAs (Counted up) s h extras value = Whole (instructionWith s h (counterOf up extras) (length value))
 decodedAs (Carried k) s h extras value = metaDecoded s h k extras value
 decodedAs Listed s h extras value = listDecoded s h extras (length value)
+decodedAs (Touched shown) s h extras value = Whole (instructionWith s h (touchOf shown extras) (length value))
 
 -- what a frame asks for unless it breaks the field rules, from its header, its opcode's shape, its extras and what follows its key
 unfoldable pub decodedBy : Shape → Header → List ℕ → List ℕ → Decoded

@@ -1,6 +1,6 @@
 // What a whole frame asks for: opcode and extras become a command, and the value is told from its extended meta.
 ghost use mathlib.Core.Path.{_≡_};
-ghost use Rattle.decode.specs.Decode.{plainOf, counterOf, metaCommand, familyOf, instructionWith, listDecoded, metaDecoded, decodedBy};
+ghost use Rattle.decode.specs.Decode.{plainOf, counterOf, touchOf, metaCommand, familyOf, instructionWith, listDecoded, metaDecoded, decodedBy};
 use commands::Command;
 use commands::Counter;
 use commands::Instruction;
@@ -8,6 +8,8 @@ use commands::Kind;
 use commands::Meta;
 use commands::MetaKind;
 use commands::Plain;
+use commands::Touching;
+use document::Side;
 use header::Header;
 use shape::Operation;
 use shape::Shape;
@@ -39,6 +41,13 @@ fn counter_of(up: bool, extras: &[u8]) -> Command
     })
 }
 
+fn touch_of(shown: bool, extras: &[u8]) -> Command
+    ensures { λ r. ⌜ r ≡ touchOf shown (now (extras .entry)) ⌝ }
+{
+    let expiry = octets::be32(extras, 0);
+    Command::Touch(Touching { expiry, shown })
+}
+
 fn meta_of(kind: MetaKind, w: WithMeta) -> Command
     ensures { λ r. ⌜ r ≡ metaCommand kind w ⌝ }
 {
@@ -53,13 +62,14 @@ fn meta_of(kind: MetaKind, w: WithMeta) -> Command
     })
 }
 
-// How an operation's command is told: at once, or from extras of one of four kinds.
+// How an operation's command is told: at once, or from extras of one of five kinds.
 enum Family {
     Bare(Command),
     Stored(Kind),
     Counted(bool),
     Carried(MetaKind),
     Listed,
+    Touched(bool),
 }
 
 fn family_of(operation: Operation) -> Family
@@ -82,6 +92,10 @@ fn family_of(operation: Operation) -> Family
         Operation::AddWithMeta => Family::Carried(MetaKind::Add),
         Operation::DeleteWithMeta => Family::Carried(MetaKind::Delete),
         Operation::GetKeys => Family::Listed,
+        Operation::Append => Family::Bare(Command::Join(Side::Back)),
+        Operation::Prepend => Family::Bare(Command::Join(Side::Front)),
+        Operation::Touch => Family::Touched(false),
+        Operation::GetAndTouch => Family::Touched(true),
     }
 }
 
@@ -150,5 +164,6 @@ pub fn decoded_by(shape: Shape, h: Header, extras: &[u8], value: &[u8]) -> Decod
         )),
         Family::Carried(k) => meta_decoded(shape, h, k, extras, value),
         Family::Listed => list_decoded(shape, h, extras, size),
+        Family::Touched(s) => Decoded::Whole(instruction_with(shape, h, touch_of(s, extras), size)),
     }
 }

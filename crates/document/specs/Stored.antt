@@ -1,6 +1,7 @@
 -- A key's row as a decision sees it: its kind and numbers, without the value.
 use Prim.Native.Nat.{ℕ}
 use mathlib.Core.Bool.{Bool, true, false, not, _&&_, _||_}
+use mathlib.Core.List.{List}
 use mathlib.Core.Option.{Option, none, some}
 use lib.Dec.{leb}
 use Rattle.numbers.specs.declared.Numbers.{Numbers}
@@ -10,10 +11,14 @@ use Rattle.numbers.specs.Expiry.{expired}
 use Rattle.document.specs.declared.Metadata.{Metadata}
 use Rattle.document.specs.declared.Stored.{Stored}
 use Rattle.document.specs.declared.Stored.the-variants.{Nothing, Used}
-use Rattle.document.specs.Documents.{Doc}
+use Rattle.document.specs.Documents.{Key, Doc, Entry}
 
 abbrev pub metadataOf : Doc → Metadata
 metadataOf d = record { tomb = d .tomb; numbers = d .numbers }
+
+-- a key's entry from its metadata and its value
+abbrev pub entryOf : Key → Metadata → List ℕ → Entry
+entryOf key m value = record { key = key; doc = record { tomb = m .tomb; value = value; numbers = m .numbers } }
 
 abbrev pub storedOf : Option Doc → Stored
 storedOf none = Nothing

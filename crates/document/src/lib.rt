@@ -31,6 +31,12 @@ pub enum Stored {
     Used(Metadata),
 }
 
+// The side of a stored value at which another is joined to it.
+pub enum Side {
+    Front,
+    Back,
+}
+
 // The head with its mark raised to a CAS where it is lower.
 pub fn raised(h: Head, cas: Cas) -> Head
     ensures { λ r. ⌜ r ≡ raised h (cas .0) ⌝ }

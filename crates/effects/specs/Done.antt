@@ -8,6 +8,7 @@ use Rattle.numbers.specs.Expiry.{absolute}
 use Rattle.document.specs.declared.Metadata.{Metadata}
 use Rattle.document.specs.declared.Stored.the-variants.{Nothing, Used}
 use Rattle.document.specs.declared.Head.{Head}
+use Rattle.document.specs.declared.Side.{Side}
 use Rattle.document.specs.Stored.{live, numbersOf}
 use Rattle.document.specs.Head.{raised}
 use Rattle.digits.specs.declared.Number.{Number}
@@ -15,13 +16,14 @@ use Rattle.digits.specs.declared.Number.the-variants.{Value, NoNumber}
 use Rattle.commands.specs.declared.MetaKind.{MetaKind}
 use Rattle.commands.specs.declared.MetaKind.the-variants.{Set as SetMeta, Add as AddMeta, Delete as DeleteMeta}
 use Rattle.commands.specs.declared.Plain.{Plain}
+use Rattle.commands.specs.declared.Touching.{Touching}
 use Rattle.commands.specs.declared.Counter.{Counter}
 use Rattle.commands.specs.declared.Meta.{Meta}
 use Rattle.commands.specs.declared.Command.{Command}
-use Rattle.commands.specs.declared.Command.the-variants.{Get, Write, Delete, Count, Noop, Version, WithMeta, GetKeys}
+use Rattle.commands.specs.declared.Command.the-variants.{Get, Write, Delete, Count, Noop, Version, WithMeta, GetKeys, Join, Touch}
 use Rattle.commands.specs.declared.Context.{Context}
 use Rattle.effects.specs.declared.Source.{Source}
-use Rattle.effects.specs.declared.Source.the-variants.{Empty, Frame, Digits}
+use Rattle.effects.specs.declared.Source.the-variants.{Empty, Frame, Digits, Kept, Joined}
 use Rattle.effects.specs.declared.Reply.{Reply}
 use Rattle.effects.specs.declared.Reply.the-variants.{Bare, Found, Counted, Version as VersionReply, Keys}
 use Rattle.effects.specs.declared.Done.{Done}
@@ -87,6 +89,19 @@ isDelete DeleteMeta = true
 abbrev pub metaDone : Context → Meta → Bool → Done
 metaDone c w tomb = storing (c .head) (record { tomb = tomb; numbers = metaNumbers (c .head) w }) (cond tomb Empty Frame) Bare
 
+-- Append, Prepend, by order 4: "Append and prepend keep flags and expiry."
+abbrev pub joinDone : Context → Side → Done
+joinDone c side =
+    let old = numbersOf (c .row) in
+    storing (c .head) (record { tomb = false; numbers = plainNumbers c (old .flags) (old .expiry) }) (Joined side) Bare
+
+-- Touch, Get-and-touch, by order 4: "4 extras: expiry, plain rule"; "Touch replies with a bare header, Get-and-touch as Get does."
+abbrev pub touchDone : Context → Touching → Done
+touchDone c t =
+    let old = numbersOf (c .row) in
+    storing (c .head) (record { tomb = false; numbers = plainNumbers c (old .flags) (absolute (t .expiry) (c .clock)) }) Kept
+    (cond (t .shown) (Found (old .flags) false) Bare)
+
 -- each command's. Get Keys: "Header CAS is ignored, reply CAS 0". Noop, Version: "Version's value is the five bytes `4.0.0`. Reply CAS 0."
 unfoldable pub doneOf : Context → Command → Done
 doneOf c (Get keyed) = found c keyed
@@ -97,3 +112,5 @@ doneOf c Noop = nothing (c .head) Bare (record { 0 = 0 })
 doneOf c Version = nothing (c .head) VersionReply (record { 0 = 0 })
 doneOf c (WithMeta w) = metaDone c w (isDelete (w .kind))
 doneOf c (GetKeys n) = nothing (c .head) (Keys n) (record { 0 = 0 })
+doneOf c (Join side) = joinDone c side
+doneOf c (Touch t) = touchDone c t

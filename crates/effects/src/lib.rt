@@ -1,15 +1,17 @@
 // What a command does once no test fails: what is stored, the reply and the new head. Bytes stand apart: it says where a
 // value comes from, and serving puts it in.
 ghost use mathlib.Core.Path.{_≡_};
-ghost use mathlib.Core.Bool.{cond};
-ghost use Rattle.effects.specs.Done.{nothing, storing, plainNumbers, found, writeDone, deleteDone, sum, counted, countDone, metaNumbers, metaDone};
+ghost use mathlib.Core.Bool.{cond, false};
+ghost use Rattle.effects.specs.Done.{nothing, storing, plainNumbers, found, writeDone, deleteDone, sum, counted, countDone, metaNumbers, metaDone, joinDone, touchDone};
 use commands::Context;
 use commands::Counter;
 use commands::Meta;
 use commands::Plain;
+use commands::Touching;
 use digits::Number;
 use document::Head;
 use document::Metadata;
+use document::Side;
 use document::Stored;
 use numbers::Cas;
 use numbers::Numbers;
@@ -19,6 +21,10 @@ pub enum Source {
     Empty,
     Frame,
     Digits(u64),
+    // the stored value as it is
+    Kept,
+    // the frame's, at this side of the stored one
+    Joined(Side),
 }
 
 // What a reply carries beside its CAS.
@@ -203,5 +209,53 @@ pub fn meta_done(c: Context, w: Meta, tomb: bool) -> Done
         Metadata { tomb, numbers },
         source_of(tomb),
         Reply::Bare,
+    )
+}
+
+// Append and Prepend: flags and expiry stay.
+pub fn join_done(c: Context, side: Side) -> Done
+    ensures { λ r. ⌜ r ≡ joinDone c side ⌝ }
+{
+    let head = c.head;
+    let row = c.row;
+    let old = document::numbers_of(row);
+    let numbers = plain_numbers(c, old.flags, old.expiry);
+    storing(
+        head,
+        Metadata {
+            tomb: false,
+            numbers,
+        },
+        Source::Joined(side),
+        Reply::Bare,
+    )
+}
+
+fn touch_reply(shown: bool, flags: u32) -> Reply
+    ensures { λ r. ⌜ r ≡ cond shown (Reply.Found flags false) Reply.Bare ⌝ }
+{
+    if shown {
+        Reply::Found(flags, false)
+    } else {
+        Reply::Bare
+    }
+}
+
+// Touch and Get-and-touch: flags and value stay.
+pub fn touch_done(c: Context, t: Touching) -> Done
+    ensures { λ r. ⌜ r ≡ touchDone c t ⌝ }
+{
+    let head = c.head;
+    let row = c.row;
+    let old = document::numbers_of(row);
+    let numbers = plain_numbers(c, old.flags, numbers::absolute(t.expiry, c.clock));
+    storing(
+        head,
+        Metadata {
+            tomb: false,
+            numbers,
+        },
+        Source::Kept,
+        touch_reply(t.shown, old.flags),
     )
 }

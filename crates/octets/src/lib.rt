@@ -194,6 +194,46 @@ pub fn put_bytes(out: &mut [u8], at: usize, s: &[u8])
     paste_run(out, at, s);
 }
 
+// Copies 32 bytes up, through an array: what they are copied over may be among them.
+fn move_chunk(out: &mut [u8], at: usize, by: usize)
+    requires { ⌜ at + 32 + by ≤ length (now out) ⌝ }
+    ensures { λ _. ⌜ now (out .exit) ≡ pasted (now (out .entry)) (at + by) (part (now (out .entry)) at 32) ⌝ }
+{
+    let end = at + 32;
+    let mut chunk = [0u8; 32];
+    bytes::copy(&out[at..end], &mut chunk);
+    paste(out, at + by, &chunk);
+}
+
+// From the last byte to the first, since each is copied over bytes that were copied before.
+fn move_run(out: &mut [u8], at: usize, n: usize, by: usize)
+    requires { ⌜ at + n + by ≤ length (now out) ⌝ }
+    ensures { λ _. ⌜ now (out .exit) ≡ pasted (now (out .entry)) (at + by) (part (now (out .entry)) at n) ⌝ }
+{
+    let mut left = n;
+    while 32 <= left {
+        left -= 32;
+        move_chunk(out, at + left, by);
+    }
+    while 0 < left {
+        left -= 1;
+        let k = at + left;
+        out[k + by] = out[k];
+    }
+}
+
+// Copies the n bytes at a place up by so many, in place. Nothing changes where there is no room for them.
+pub fn move_up(out: &mut [u8], at: usize, n: usize, by: usize)
+    ensures { λ _. ⌜ now (out .exit) ≡ written (now (out .entry)) (at + by) (part (now (out .entry)) at n) ⌝ }
+{
+    if !fits(out.len(), at, n) {
+        return;
+    }
+    if fits(out.len(), at + n, by) {
+        move_run(out, at, n, by);
+    }
+}
+
 fn paste_zeros(out: &mut [u8], at: usize, n: usize)
     requires { ⌜ at + n ≤ length (now out) ⌝ }
     ensures { λ _. ⌜ now (out .exit) ≡ pasted (now (out .entry)) at (replicate n 0) ⌝ }

@@ -5,15 +5,21 @@ use mathlib.Core.Bool.{Bool, cond}
 use lib.Dec.{ltb}
 use lib.ListN.{take, drop, replicate}
 use Rattle.octets.specs.Parts.{pasted}
-use Rattle.document.specs.Documents.{Doc, Entry}
+use Rattle.document.specs.declared.Metadata.{Metadata}
+use Rattle.document.specs.declared.Side.{Side}
+use Rattle.document.specs.Documents.{Key, Doc, Entry}
 use Rattle.rows.specs.Row.{rowOf}
 use Rattle.rows.specs.Table.{rowCount, rowAt}
-use Rattle.row_writer.specs.Over.{overBytes}
+use Rattle.row_writer.specs.Over.{overBytes, joinedBytes}
 use Rattle.plain.specs.Purge.{picked, one}
 
 -- an entry over the row at a place; unchanged where there is no such row
 unfoldable pub rowStored : List ℕ → ℕ → Entry → ℕ → List ℕ
 rowStored b i e old = cond (ltb i (rowCount b)) (pasted b (16 + i * 1312) (overBytes (rowAt b i) e old)) b
+
+-- a value joined to that of the row at a place; unchanged where there is no such row
+unfoldable pub rowJoined : List ℕ → ℕ → Key → Metadata → Side → List ℕ → ℕ → List ℕ
+rowJoined b i key m side value old = cond (ltb i (rowCount b)) (pasted b (16 + i * 1312) (joinedBytes (rowAt b i) key m side value old)) b
 
 -- a row's bytes after a purge
 unfoldable pub purgeRow : (Doc → Bool) → List ℕ → List ℕ

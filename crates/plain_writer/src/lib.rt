@@ -8,8 +8,9 @@ ghost use Rattle.octets.specs.Parts.{part, pasted};
 ghost use Rattle.document.specs.Stored.{goneDoc};
 ghost use Rattle.rows.specs.Row.{rowOf};
 ghost use Rattle.plain.specs.Purge.{picked};
-ghost use Rattle.plain_writer.specs.Change.{rowStored, purgeRow, purgeBytes, purgeCount, purgedRows, freedRows};
+ghost use Rattle.plain_writer.specs.Change.{rowStored, rowJoined, purgeRow, purgeBytes, purgeCount, purgedRows, freedRows};
 use document::Metadata;
+use document::Side;
 use numbers::Cas;
 use rows::HEADER;
 use rows::ROW;
@@ -25,6 +26,19 @@ pub fn store(b: &mut [u8], i: usize, key: &[u8], m: Metadata, value: &[u8], old:
     let at = HEADER + i * ROW;
     let end = at + ROW;
     row_writer::put_row(&mut b[at..end], key, m, value, old);
+}
+
+// Joins a value to the one of length old that the row at a place holds for this key. Where there is no such row or the two don't
+// fit together, nothing changes.
+pub fn join(b: &mut [u8], i: usize, key: &[u8], m: Metadata, side: Side, value: &[u8], old: usize)
+    ensures { λ _. ⌜ now (b .exit) ≡ rowJoined (now (b .entry)) i (now (key .entry)) m side (now (value .entry)) old ⌝ }
+{
+    if i >= rows::rows_in(b.len()) {
+        return;
+    }
+    let at = HEADER + i * ROW;
+    let end = at + ROW;
+    row_writer::join_row(&mut b[at..end], key, m, side, value, old);
 }
 
 // Whether a purge frees a row.

@@ -12,8 +12,10 @@ pub mod Steps
 pub mod Clock
 pub mod Alike
 pub mod Buried
+pub mod Joining
 pub mod Judged
 pub mod Worked
 pub mod Candidates
 pub mod Replies
 pub mod Listing
+pub mod Touched

@@ -23,7 +23,7 @@ use Rattle.promises.specs.Merge.{docAt}
 use Rattle.promises.specs.Listing.{docsIn}
 use Rattle.promises.specs.Judged.{at}
 use Rattle.promises.specs.Kept.{keptAt, laterAt}
-use Rattle.promises.specs.Expiry.{Expired, opcode, keyIn, gets, needsLive, Reaches, Answers}
+use Rattle.promises.specs.Expiry.{Expired, opcode, keyIn, gets, joins, needsLive, Reaches, Answers}
 
 -- a call on a table: serving, a purge with its clock and bound, a read with its clock and key
 pub data TableCall : Type 0 where
@@ -112,6 +112,8 @@ pub record ExpiredForGood (b : List ℕ) (k : Key) (d : Doc) : Type 0 where
   pub listed : (clock : ℕ) (start : Key) (count : ℕ) → OneOf k (listedKeys (docsIn b) (laterAt b clock) start count) → ⊥
   -- a frame that needs a live document doesn't find it
   pub frame : (clock : ℕ) (s : List ℕ) (room : ℕ) → Reaches b clock s room → keyIn s ≡ k → needsLive s ≡ true → Answers b clock s room 0x01
+  -- nor does one that joins a value to it
+  pub joined : (clock : ℕ) (s : List ℕ) (room : ℕ) → Reaches b clock s room → keyIn s ≡ k → among (opcode s) joins ≡ true → Answers b clock s room 0x05
   -- a purge up to its CAS frees it
   pub purge : (clock bound : ℕ) → clock < 2 ^ 32 → d .numbers .cas .0 ≤ bound → docAt (purgedBytes b clock bound) k ≡ none
 

@@ -1,4 +1,4 @@
--- "Expiry holds in every command", on bytes. When a document is live is said here in 01's words and numbers, and not by the definitions that decide it: a store that decides it otherwise, in one command or in all, doesn't meet these. Order 2: the clock is the later of the kept one and the call's. Proved in proofs/Dead.antt, Counting.antt, Buried.antt and Alive.antt.
+-- "Expiry holds in every command", on bytes. When a document is live is said here in 01's words and numbers, and not by the definitions that decide it: a store that decides it otherwise, in one command or in all, doesn't meet these. Order 2: the clock is the later of the kept one and the call's. Proved in proofs/Dead.antt, Counting.antt, Joining.antt, Buried.antt and Alive.antt.
 use Prim.Native.Nat.{ℕ, _+_, _/_, _%_, _^_, _≤_, _<_}
 use mathlib.Core.Path.{_≡_}
 use mathlib.Core.Bool.{Bool, true, false, not, cond, _&&_, _||_}
@@ -17,7 +17,7 @@ use Rattle.shape.specs.Shapes.{among}
 use Rattle.header.specs.Header.{headerOf}
 use Rattle.with_meta.specs.WithMeta.{withMeta}
 use Rattle.request.specs.declared.Gate.the-variants.{Whole}
-use Rattle.request.specs.Reading.{gateOf, bytesIn, extrasSpan, keySpan}
+use Rattle.request.specs.Reading.{gateOf, bytesIn, extrasSpan, keySpan, valueSpan}
 use Rattle.commands.specs.Rules.{Check}
 use Rattle.rows.specs.Table.{tableOf, tableAt, clockAt, tableBytes}
 use Rattle.plain.specs.Plain.{plain}
@@ -81,8 +81,22 @@ counters = 0x05 ∷ 0x15 ∷ 0x06 ∷ 0x16 ∷ []
 abbrev pub withMetas : List ℕ
 withMetas = 0xa2 ∷ 0xa3 ∷ 0xa4 ∷ 0xa5 ∷ 0xa8 ∷ 0xa9 ∷ []
 
+abbrev pub touches : List ℕ
+touches = 0x1c ∷ 0x1d ∷ []
+
+abbrev pub appends : List ℕ
+appends = 0x0e ∷ 0x19 ∷ []
+
+abbrev pub prepends : List ℕ
+prepends = 0x0f ∷ 0x1a ∷ []
+
+-- Append and Prepend have a status of their own, 0x05, where there is no live document
+abbrev pub joins : List ℕ
+joins = appends ++ prepends
+
+-- all others
 abbrev pub keyed : List ℕ
-keyed = gets ++ (sets ++ (adds ++ (replaces ++ (deletes ++ (counters ++ withMetas)))))
+keyed = gets ++ (sets ++ (adds ++ (replaces ++ (deletes ++ (counters ++ (withMetas ++ touches))))))
 
 -- a counter's number where it begins, and its expiry: "20 extras (delta, initial, expiry)"
 abbrev pub initialIn : List ℕ → ℕ
@@ -91,10 +105,10 @@ initialIn s = num (extrasIn s) 8 8
 abbrev pub counterExpiry : List ℕ → ℕ
 counterExpiry s = num (extrasIn s) 16 4
 
--- a frame that needs a live document: any Get, Replace, Delete; any command with a header CAS that isn't 0; a counter with expiry 0xffffffff
+-- a frame that needs a live document: any Get, Replace, Delete, Touch, Get-and-touch; any of these commands with a header CAS that isn't 0; a counter with expiry 0xffffffff
 abbrev pub needsLive : List ℕ → Bool
 needsLive s =
-    among (opcode s) (gets ++ (replaces ++ deletes))
+    among (opcode s) (gets ++ (replaces ++ (deletes ++ touches)))
     || ((among (opcode s) keyed && not (eqb (headerCas s) 0))
     || (among (opcode s) counters && eqb (counterExpiry s) 0xffffffff))
 
@@ -103,7 +117,7 @@ abbrev pub Passes : List Check → Type 0
 Passes [] = Unit {0}
 Passes (c ∷ cs) = (c .fails ≡ false) × Passes cs
 
--- a whole frame on an undamaged table, to which none of the statuses before 0x01 applies: 0x83, 0x81, 0x04 of form, of fields and by mode or clock, 0x03, 0x07
+-- a whole frame on an undamaged table, to which none of the statuses before 0x05 and 0x01 applies: 0x83, 0x81, 0x04 of form, of fields and by mode or clock, 0x03, 0x07
 pub record Reaches (b : List ℕ) (clock : ℕ) (s : List ℕ) (room : ℕ) : Type 0 where
   pub bytes : Bytes b
   pub undamaged : sound b ≡ true
@@ -125,6 +139,12 @@ abbrev pub DeadIsMissing : Type 0
 DeadIsMissing =
     (b : List ℕ) (clock : ℕ) (s : List ℕ) (room : ℕ) → Reaches b clock s room → NotLive (laterAt b clock) (docAt b (keyIn s)) → needsLive s ≡ true
     → Answers b clock s room 0x01 × (servedTable b clock s room ≡ clockRaised b clock)
+
+-- order 4, Append and Prepend: "not live is 0x05, whatever the header CAS"
+abbrev pub DeadIsUnstored : Type 0
+DeadIsUnstored =
+    (b : List ℕ) (clock : ℕ) (s : List ℕ) (room : ℕ) → Reaches b clock s room → NotLive (laterAt b clock) (docAt b (keyIn s)) → among (opcode s) joins ≡ true
+    → Answers b clock s room 0x05 × (servedTable b clock s room ≡ clockRaised b clock)
 
 -- Set and Add without a header CAS are not refused with 0x01 or 0x02
 abbrev pub DeadIsWritten : Type 0
@@ -203,9 +223,13 @@ DeadIsCompared =
     × (greater (modeAt b) (withMeta (extrasIn s) .numbers) (d .numbers) ≡ true → Avoids b clock s room 0x01 × Avoids b clock s room 0x02)
 
 -- ---- one liveness
--- what a status tells of the key's document: 0x01 that it isn't live, and to an Add without a header CAS 0x02 that it is
+-- what a status tells of the key's document: 0x01, and to Append and Prepend 0x05, that it isn't live, and to an Add without a header CAS 0x02 that it is
 abbrev pub toldLive : List ℕ → ℕ → Bool
-toldLive s status = cond (needsLive s) (not (eqb status 0x01)) (eqb status 0x02)
+toldLive s status = cond (among (opcode s) joins) (not (eqb status 0x05)) (cond (needsLive s) (not (eqb status 0x01)) (eqb status 0x02))
+
+-- the frames whose status tells it
+abbrev pub tells : List ℕ → Bool
+tells s = among (opcode s) joins || (needsLive s || among (opcode s) adds)
 
 -- what the owner's read tells of it
 abbrev pub readLive : Document → Bool
@@ -214,14 +238,14 @@ readLive r = not (eqb (readStatus r) 0x01)
 -- at one clock, a document is live to one command exactly if it is live to the owner's read, and so to all of them
 abbrev pub OneLiveness : Type 0
 OneLiveness =
-    (b : List ℕ) (clock : ℕ) (s : List ℕ) (room status : ℕ) → Reaches b clock s room → (needsLive s || among (opcode s) adds) ≡ true
+    (b : List ℕ) (clock : ℕ) (s : List ℕ) (room status : ℕ) → Reaches b clock s room → tells s ≡ true
     → Answers b clock s room status → toldLive s status ≡ readLive (readOf b clock (keyIn s))
 
--- and a live document is found: no such frame is answered 0x01, the owner's read shows its numbers
+-- and a live document is found: no such frame is answered 0x01 or 0x05, the owner's read shows its numbers
 abbrev pub LiveIsFound : Type 0
 LiveIsFound =
     (b : List ℕ) (clock : ℕ) (s : List ℕ) (room : ℕ) (d : Doc) → Reaches b clock s room → docAt b (keyIn s) ≡ some d → Live (laterAt b clock) d
-    → (needsLive s || among (opcode s) adds) ≡ true → (Avoids b clock s room 0x01) × (readLive (readOf b clock (keyIn s)) ≡ true)
+    → tells s ≡ true → (Avoids b clock s room 0x01 × Avoids b clock s room 0x05) × (readLive (readOf b clock (keyIn s)) ≡ true)
 
 -- a counter goes on counting: "flags and expiry stay"
 abbrev pub LiveCounts : Type 0
@@ -230,6 +254,47 @@ LiveCounts =
     → among (opcode s) counters ≡ true → Answers b clock s room 0
     → (e : Doc) × ((docAt (servedTable b clock s room) (keyIn s) ≡ some e)
     × ((e .numbers .flags ≡ d .numbers .flags) × (e .numbers .expiry ≡ d .numbers .expiry)))
+
+-- ---- order 4, on a live document
+-- what follows a frame's key
+abbrev pub valueIn : List ℕ → List ℕ
+valueIn s = bytesIn s (valueSpan (headerOf s))
+
+-- a document written over another: "All are plain writes with new CAS and revision."
+pub record PlainlyWritten (mark : ℕ) (d e : Doc) : Type 0 where
+  pub document : e .tomb ≡ false
+  pub flags : e .numbers .flags ≡ d .numbers .flags
+  pub revision : e .numbers .revision .0 ≡ d .numbers .revision .0 + 1
+  pub cas : e .numbers .cas .0 ≡ mark + 1
+
+-- "Append and prepend keep flags and expiry."; the values in the order that their names say
+pub record Joins (mark : ℕ) (bytes : List ℕ) (d e : Doc) : Type 0 where
+  pub written : PlainlyWritten mark d e
+  pub expiry : e .numbers .expiry ≡ d .numbers .expiry
+  pub value : e .value ≡ bytes
+
+abbrev pub markIn : List ℕ → ℕ
+markIn b = num b 8 8
+
+abbrev pub LiveJoins : Type 0
+LiveJoins =
+    (b : List ℕ) (clock : ℕ) (s : List ℕ) (room : ℕ) (d : Doc) → Bytes b → Bytes s → clock < 2 ^ 32 → docAt b (keyIn s) ≡ some d
+    → among (opcode s) joins ≡ true → Answers b clock s room 0
+    → (e : Doc) × ((docAt (servedTable b clock s room) (keyIn s) ≡ some e)
+    × ((among (opcode s) appends ≡ true → Joins (markIn b) (d .value ++ valueIn s) d e)
+    × (among (opcode s) prepends ≡ true → Joins (markIn b) (valueIn s ++ d .value) d e)))
+
+-- Touch, Get-and-touch: "4 extras: expiry, plain rule", at the later of the kept clock and the call's; the value stays
+pub record Touches (mark given clock : ℕ) (d e : Doc) : Type 0 where
+  pub written : PlainlyWritten mark d e
+  pub expiry : PlainExpiry given clock (e .numbers .expiry)
+  pub value : e .value ≡ d .value
+
+abbrev pub LiveTouches : Type 0
+LiveTouches =
+    (b : List ℕ) (clock : ℕ) (s : List ℕ) (room : ℕ) (d : Doc) → Bytes b → Bytes s → clock < 2 ^ 32 → docAt b (keyIn s) ≡ some d
+    → among (opcode s) touches ≡ true → Answers b clock s room 0
+    → (e : Doc) × ((docAt (servedTable b clock s room) (keyIn s) ≡ some e) × Touches (markIn b) (num (extrasIn s) 0 4) (laterAt b clock) d e)
 
 -- a Get of any form, hit or miss, changes no table byte but the kept clock's, and not that where it is refused, whatever the memory
 abbrev pub GetKeeps : Type 0

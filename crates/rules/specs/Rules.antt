@@ -8,7 +8,7 @@ use Rattle.octets.specs.BigEndian.{num}
 use Rattle.shape.specs.Shapes.{shapeOf}
 use Rattle.shape.specs.declared.Shape.{Shape}
 use Rattle.shape.specs.declared.Extras.{Extras}
-use Rattle.shape.specs.declared.Extras.the-variants.{Nothing, FlagsExpiry, Counter, Meta, Count}
+use Rattle.shape.specs.declared.Extras.the-variants.{Nothing, FlagsExpiry, Counter, Meta, Count, Expiry}
 use Rattle.header.specs.declared.Header.{Header}
 use Rattle.with_meta.specs.declared.WithMeta.{WithMeta}
 use Rattle.with_meta.specs.WithMeta.{withMeta, sectionOf}
@@ -21,6 +21,7 @@ extrasOk FlagsExpiry n = eqb n 8
 extrasOk Counter n = eqb n 20
 extrasOk Meta n = eqb n 24 || (eqb n 26 || (eqb n 28 || eqb n 30))
 extrasOk Count n = eqb n 0 || eqb n 4
+extrasOk Expiry n = eqb n 4
 
 -- "key missing, forbidden or over 250"; order 1 has an "optional start key"
 abbrev pub keyOk : ℕ → ℕ → Bool
@@ -46,6 +47,7 @@ countOk FlagsExpiry extras = true
 countOk Counter extras = true
 countOk Meta extras = true
 countOk Count extras = not (eqb (countOf extras) 0)
+countOk Expiry extras = true
 
 -- how many bytes of extended meta end the value
 unfoldable pub metaSize : Shape → List ℕ → ℕ

@@ -20,6 +20,7 @@ fn extras_ok(extras: Extras, n: u8) -> bool
         Extras::Counter => n == 20,
         Extras::Meta => (n == 24) | ((n == 26) | ((n == 28) | (n == 30))),
         Extras::Count => (n == 0) | (n == 4),
+        Extras::Expiry => n == 4,
     }
 }
 
@@ -56,6 +57,7 @@ fn count_ok(class: Extras, extras: &[u8]) -> bool
         Extras::Counter => true,
         Extras::Meta => true,
         Extras::Count => count_of(extras) != 0,
+        Extras::Expiry => true,
     }
 }
 

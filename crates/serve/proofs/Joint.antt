@@ -1,12 +1,13 @@
 -- What serving a frame's callees say, as what serving means: all their equations in, the answer, the reply and the table out.
 use Prim.Native.Nat.{ℕ, _+_, _^_, _≤_, _<_}
-use mathlib.Core.Path.{_≡_, refl, sym, ap, _∙_}
+use mathlib.Core.Path.{_≡_, refl, sym, ap, subst, _∙_}
 use mathlib.Core.Bool.{Bool, true, false, _||_}
-use mathlib.Core.List.{List, []}
+use mathlib.Core.List.{List, [], _++_, append-nil}
 use mathlib.Core.Option.{Option, none, some}
 use native.Mathlib.Omega.{arith}
+use native.Mathlib.Nat.{add-comm}
 use lib.Dec.{ltb}
-use lib.ListN.{length, drop}
+use lib.ListN.{length, drop, length-append}
 use lib.Seq.{take-at}
 use Rattle.octets.specs.Parts.{Bytes, part, pasted, written}
 use Rattle.octets.specs.BigEndian.{bytesOf}
@@ -17,17 +18,20 @@ use Rattle.header.specs.declared.Header.{Header}
 use Rattle.header.specs.Header.{headerBytes}
 use Rattle.request.specs.Reading.{bytesIn, keySpan, frameStatus}
 use Rattle.numbers.specs.Expiry.{later}
-use Rattle.digits.specs.declared.Number.{Number}
 use Rattle.digits.specs.Decimal.{numberOf}
-use Rattle.document.specs.Documents.{Key, Doc, docValue}
-use Rattle.document.specs.Stored.{storedOf, hasRow}
+use Rattle.document.specs.Documents.{Key, Doc, docValue, joined}
+use Rattle.document.specs.Stored.{entryOf, storedOf, hasRow}
 use Rattle.document.specs.declared.Head.{Head}
 use Rattle.document.specs.Head.{atClock}
 use Rattle.document.specs.declared.Metadata.{Metadata}
+use Rattle.document.specs.declared.Side.{Side}
+use Rattle.document.specs.declared.Side.the-variants.{Front, Back}
 use Rattle.document.specs.declared.Stored.{Stored}
 use Rattle.document.specs.declared.Stored.the-variants.{Nothing as NoRow, Used}
 use Rattle.commands.specs.declared.Context.{Context}
 use Rattle.commands.specs.declared.Instruction.{Instruction}
+use Rattle.effects.specs.declared.Source.{Source}
+use Rattle.effects.specs.declared.Source.the-variants.{Empty, Frame, Digits, Kept, Joined}
 use Rattle.decision.specs.declared.Decision.{Decision}
 use Rattle.commands.specs.Writes.{isMutation}
 use Rattle.decision.specs.Decision.{decision}
@@ -37,15 +41,17 @@ use Rattle.decode.specs.Decode.{requestOf, bareValue}
 use Rattle.engine.specs.Engine.{storeRow}
 use Rattle.rows.specs.Table.{Table, tableOf, tableAt, clockAt, tableBytes, headOf, headBytes}
 use Rattle.rows.specs.Find.{findRow, freeRows}
+use Rattle.rows.specs.Good.{EntryGood}
 use Rattle.plain.specs.Damage.{sound}
 use Rattle.plain.specs.Plain.{plain}
 use Rattle.plain.specs.Claims.{Good}
 use Rattle.plain.proofs.TableLaws.{sound-good}
 use Rattle.table.specs.declared.Lookup.{Lookup}
-use Rattle.table.specs.Calls.{hasPlace, lookupOf, storedBy}
+use Rattle.table.specs.Calls.{hasPlace, lookupOf, storedBy, joinedBy}
 use Rattle.table.specs.Claims.{Finds}
 use Rattle.table.proofs.Looking.{finds-sound, lookup-head}
 use Rattle.table.proofs.Keeping.{head-put, clock-put, clock-good}
+use Rattle.table.proofs.Keeping.{joins-good}
 use Rattle.serving.specs.declared.Served.{Served}
 use Rattle.serving.specs.declared.Served.the-variants.{Done}
 use Rattle.serving.specs.Reply.{replyBytes}
@@ -55,7 +61,7 @@ use Rattle.serving.proofs.Change.{Storing, changing, unchanged, raised, raised-
 use Rattle.reply.specs.Fitting.{bareHeader}
 use Rattle.reply.proofs.Frames.{bare-reply, refused-is, refused-reply, refused-length, key-short}
 use Rattle.serve.specs.Answer.{replyFrom, ReplyWritten}
-use Rattle.serve.specs.Change.{storedWith}
+use Rattle.serve.specs.Change.{storedFrom, changedWith, changedBy}
 
 -- ---- the kept clock
 -- its bytes written alone leave the table at the call's clock
@@ -91,7 +97,7 @@ module _ (b s : List ℕ) (clock : ℕ) (h : Header) (g : reachesDecision (frame
 -- ---- a frame that is decided
 -- a document with this value for a key, where a lookup said
 abbrev pub storing : List ℕ → Lookup → Key → Metadata → List ℕ → List ℕ
-storing b l key m value = storedBy b l (record { key = key; doc = record { tomb = m .tomb; value = value; numbers = m .numbers } })
+storing b l key m value = storedBy b l (entryOf key m value)
 
 -- bytes that were written to an array and read back
 pub read-back : (s xs s′ v : List ℕ) (k : ℕ) → k ≡ length xs → s′ ≡ pasted s 0 xs → v ≡ part s′ 0 k → v ≡ xs
@@ -99,14 +105,14 @@ unfolding pasted
 read-back s xs s′ v k p q r = r ∙ rw (q, p) (take-at xs (drop (0 + length xs) s) (length xs) refl)
 
 -- a key with a row needs no free one, and a command that doesn't write doesn't look for one
-abbrev pub seeing : Head → Stored → Bool → ℕ → Number → Context
-seeing h s free clock n = record { head = h; row = s; free = free; clock = clock; number = n }
+abbrev pub seeing : Head → Stored → Bool → ℕ → List ℕ → Context
+seeing h s free clock old = record { head = h; row = s; free = free; clock = clock; number = numberOf old; size = length old }
 
-room-known : (h : Head) (s : Stored) (free : Bool) (clock : ℕ) (n : Number) (q : Instruction) → decision (seeing h s (hasRow s || free) clock n) q ≡ decision (seeing h s free clock n) q
+room-known : (h : Head) (s : Stored) (free : Bool) (clock : ℕ) (n : List ℕ) (q : Instruction) → decision (seeing h s (hasRow s || free) clock n) q ≡ decision (seeing h s free clock n) q
 room-known h NoRow free clock n q = refl
 room-known h (Used m) free clock n q = free-with-row (seeing h (Used m) true clock n) q free refl
 
-placed : (h : Head) (s : Stored) (place free : Bool) (clock : ℕ) (n : Number) (q : Instruction) (w : Bool) → w ≡ isMutation (q .command)
+placed : (h : Head) (s : Stored) (place free : Bool) (clock : ℕ) (n : List ℕ) (q : Instruction) (w : Bool) → w ≡ isMutation (q .command)
     → (w ≡ true → place ≡ (hasRow s || free)) → decision (seeing h s place clock n) q ≡ decision (seeing h s free clock n) q
 placed h s place free clock n q true e p = ap (λ (x : Bool). decision (seeing h s x clock n) q) (p refl) ∙ room-known h s free clock n q
 placed h s place free clock n q false e p = free-unread (seeing h s place clock n) q free (sym e)
@@ -114,33 +120,75 @@ placed h s place free clock n q false e p = free-unread (seeing h s place clock 
 no-doc : (st : Stored) (value : List ℕ) → st ≡ NoRow → docFrom st value ≡ none
 no-doc st value e = rw e
 
+-- ---- a value by its source
+joined-length : (side : Side) (stored value : List ℕ) → length (joined side stored value) ≡ length stored + length value
+joined-length Front stored value = length-append value stored ∙ add-comm (length value) (length stored)
+joined-length Back stored value = length-append stored value
+
+module _ (t : Table) (g : Good t) (key : Key) (m : Metadata) (mark : ℕ) (v : List ℕ) where
+  abbrev stored : List ℕ
+  stored = docValue (findRow (t .rows) key)
+
+  abbrev there : Lookup
+  there = lookupOf true (tableBytes t) key
+
+  abbrev Fine : List ℕ → Type 0
+  Fine value = EntryGood mark (entryOf key m value)
+
+  join-is : (side : Side) (value : List ℕ) → Fine (joined side stored value) → joinedBy (tableBytes t) there key m side value ≡ storing (tableBytes t) there key m (joined side stored value)
+  join-is side value f = joins-good t key m side value g (omega (arith, f .key-most, f .value-most, joined-length side stored value))
+
+  -- stored where a lookup said, it is the value that the definitions name
+  from-source : (source : Source) → Fine (bytesFrom source v stored) → storedFrom (tableBytes t) there key m source v ≡ storing (tableBytes t) there key m (bytesFrom source v stored)
+  from-source Empty f = refl
+  from-source Frame f = refl
+  from-source (Digits n) f = refl
+  from-source Kept f =
+      let e : joined Back stored [] ≡ stored = append-nil stored in
+      join-is Back [] (subst Fine (sym e) f) ∙ ap (storing (tableBytes t) there key m) e
+  from-source (Joined side) f = join-is side v f
+
 -- storing what a frame asks for, by the lookup of its key, is the engine's put
-changed-is : (b s : List ℕ) (clock : ℕ) (h : Header) (w : Bool) → Bytes b → Bytes s → clock < 2 ^ 32 → 24 + h .body ≤ length s → sound b ≡ true
-    → (w ≡ false → effectAt b clock s h .store ≡ none)
-    → storedWith b (lookupOf w b (bytesIn s (keySpan h))) (bytesIn s (keySpan h)) (effectAt b clock s h .store) (effectAt b clock s h .head) ≡ frameTable b clock s h
-unfolding frameTable
-changed-is b s clock h w y z small inside sb none-if =
-    let t = tableOf b in
-    let u = tableAt t clock in
-    let now = clockAt t clock in
-    let key = bytesIn s (keySpan h) in
-    let x = frameEffect u now s h in
-    let good = sound-good b y sb in
-    let later-good = clock-good t clock (good .1) small in
-    let c = changing u now s h later-good z inside in
-    options (x .store)
-    (λ e.
-    ap (λ (o : Option Doc). storedWith b (lookupOf w b key) key o (x .head)) e
-    ∙ clock-written b clock (x .head .clock) y sb (ap (λ (k : Head). k .clock) (c .keeps e))
-    ∙ sym (ap tableBytes (unchanged u now s h e (c .keeps e))))
-    (λ d e.
-    let q = c .stores d e in
-    let on : w ≡ true = cases w (λ p. p) (λ p. none-some d (sym (none-if p) ∙ e)) in
-    let same = lookup-head t (x .head) key true (good .1) (raised-good u now s h later-good d q) in
-    (λ j. storedWith (sym (good .0) j) (lookupOf (on j) (sym (good .0) j) key) key (e j) (x .head))
-    ∙ (λ j. storedBy (head-put t (x .head) j) (sym same j) (record { key = key; doc = d }))
-    ∙ puts u now s h later-good d q .bytes
-    ∙ ap (λ (o : Option Doc). tableBytes (record { head = x .head; rows = storeRow plain (t .rows) key o })) (sym e))
+module _ (b s : List ℕ) (clock : ℕ) (h : Header) (y : Bytes b) (z : Bytes s) (small : clock < 2 ^ 32) (inside : 24 + h .body ≤ length s) (sb : sound b ≡ true)
+    (source : Source) (v : List ℕ) where
+  abbrev t : Table
+  t = tableOf b
+
+  -- the table at the call's clock, and that clock
+  abbrev u : Table
+  u = tableAt t clock
+
+  abbrev then : ℕ
+  then = clockAt t clock
+
+  abbrev asked : Key
+  asked = bytesIn s (keySpan h)
+
+  abbrev effect : Effect
+  effect = frameEffect u then s h
+
+  abbrev value : List ℕ
+  value = bytesFrom source v (docValue (findRow (t .rows) asked))
+
+  changed-is : (w : Bool) (store : Stored) → docFrom store value ≡ effect .store → (w ≡ false → effect .store ≡ none)
+      → changedWith b (lookupOf w b asked) asked store source (effect .head) v ≡ frameTable b clock s h
+  unfolding frameTable
+  changed-is w NoRow e none-if =
+      let kept = changing u then s h (clock-good t clock (sound-good b y sb .1) small) z inside .keeps (sym e) in
+      clock-written b clock (effect .head .clock) y sb (ap (λ (k : Head). k .clock) kept) ∙ sym (ap tableBytes (unchanged u then s h (sym e) kept))
+  changed-is w (Used m) e none-if =
+      let good = sound-good b y sb in
+      let later-good = clock-good t clock (good .1) small in
+      let d : Doc = record { tomb = m .tomb; value = value; numbers = m .numbers } in
+      let q = changing u then s h later-good z inside .stores d (sym e) in
+      let on : w ≡ true = cases w (λ p. p) (λ p. none-some d (sym (none-if p) ∙ sym e)) in
+      let top = raised u then s h later-good d q in
+      let same = lookup-head t (effect .head) asked true (good .1) (raised-good u then s h later-good d q) in
+      (λ j. storedFrom (written (sym (good .0) j) 0 (headBytes (effect .head))) (lookupOf (on j) (sym (good .0) j) asked) asked m source v)
+      ∙ (λ j. storedFrom (head-put t (effect .head) j) (sym same j) asked m source v)
+      ∙ from-source top (raised-good u then s h later-good d q) asked m (effect .head .mark .0) v source (q .entry)
+      ∙ puts u then s h later-good d q .bytes
+      ∙ ap (λ (o : Option Doc). tableBytes (record { head = effect .head; rows = storeRow plain (t .rows) asked o })) e
 
 -- the key of a frame that goes on, and the value stored for it
 pub shown-parts : (b s : List ℕ) (h : Header) → Bytes b → sound b ≡ true → reachesDecision (frameStatus s h) ≡ true → (k : List ℕ) (w : Bool) (l : Lookup) (old : List ℕ)
@@ -156,7 +204,7 @@ shown-parts b s h y sb g k w l old ek el eo =
 module _ (b s : List ℕ) (clock : ℕ) (h : Header) (y : Bytes b) (z : Bytes s) (small : clock < 2 ^ 32) (sb : sound b ≡ true) (inside : 24 + h .body ≤ length s)
     (g : reachesDecision (frameStatus s h) ≡ true) (k : List ℕ) (w : Bool) (l : Lookup) (old : List ℕ) (now : Head) (q : Instruction) (d : Decision)
     (ek : k ≡ bytesIn s (keySpan h)) (ew : w ≡ isMutation (q .command)) (el : l ≡ lookupOf w b k) (eo : old ≡ part b (l .at) (l .len)) (eh : now ≡ atClock (headOf b) clock)
-    (eq : q ≡ instructionOf (requestOf s h)) (ed : d ≡ decision (seeing now (l .stored) (hasPlace (l .place)) (now .clock) (numberOf old)) q) where
+    (eq : q ≡ instructionOf (requestOf s h)) (ed : d ≡ decision (seeing now (l .stored) (hasPlace (l .place)) (now .clock) old) q) where
   abbrev key : Key
   key = bytesIn s (keySpan h)
 
@@ -182,15 +230,15 @@ module _ (b s : List ℕ) (clock : ℕ) (h : Header) (y : Bytes b) (z : Bytes s)
   old-is : old ≡ docValue row
   old-is = eo ∙ ap (λ (x : Lookup). part b (x .at) (x .len)) found ∙ finds .value
 
-  decided-is : d ≡ decision (seeing head (storedOf row) free (head .clock) (numberOf (docValue row))) q
+  decided-is : d ≡ decision (seeing head (storedOf row) free (head .clock) (docValue row)) q
   decided-is =
-      ed ∙ (λ i. decision (seeing (eh i) (stored-is i) (hasPlace (l .place)) (eh i .clock) (numberOf (old-is i))) q)
-      ∙ placed head (storedOf row) (hasPlace (l .place)) free (head .clock) (numberOf (docValue row)) q w ew
+      ed ∙ (λ i. decision (seeing (eh i) (stored-is i) (hasPlace (l .place)) (eh i .clock) (old-is i)) q)
+      ∙ placed head (storedOf row) (hasPlace (l .place)) free (head .clock) (docValue row) q w ew
       (λ e. ap (λ (x : Lookup). hasPlace (x .place)) found ∙ finds .room e)
 
   decision-is : d ≡ decisionAt b clock s h
   unfolding decisionOn tableOf
-  decision-is = rw g (decided-is ∙ ap (decision (seeing head (storedOf row) free (head .clock) (numberOf (docValue row)))) eq)
+  decision-is = rw g (decided-is ∙ ap (decision (seeing head (storedOf row) free (head .clock) (docValue row))) eq)
 
   status-is : d .status ≡ effectAt b clock s h .status
   unfolding frameEffect
@@ -200,14 +248,14 @@ module _ (b s : List ℕ) (clock : ℕ) (h : Header) (y : Bytes b) (z : Bytes s)
   unfolding frameEffect
   head-is = ap (λ (x : Decision). x .done .head) decision-is
 
-  store-is : (v : List ℕ) → v ≡ bareValue s h → docFrom (d .done .store) (bytesFrom (d .done .source) v) ≡ effectAt b clock s h .store
+  store-is : (v : List ℕ) → v ≡ bareValue s h → docFrom (d .done .store) (bytesFrom (d .done .source) v (docValue row)) ≡ effectAt b clock s h .store
   unfolding frameEffect requestOf
-  store-is v ev = λ i. docFrom (decision-is i .done .store) (bytesFrom (decision-is i .done .source) (ev i))
+  store-is v ev = λ i. docFrom (decision-is i .done .store) (bytesFrom (decision-is i .done .source) (ev i) (docValue row))
 
   store-none : (v : List ℕ) → v ≡ bareValue s h → w ≡ false → effectAt b clock s h .store ≡ none
   store-none v ev e =
       sym (store-is v ev) ∙ no-doc (d .done .store) _ (ap (λ (x : Decision). x .done .store) decided-is
-      ∙ stores-none (seeing head (storedOf row) free (head .clock) (numberOf (docValue row))) q (sym ew ∙ e))
+      ∙ stores-none (seeing head (storedOf row) free (head .clock) (docValue row)) q (sym ew ∙ e))
 
   reply-is : replyFrom b (now .clock) h d k ≡ frameReply b clock s h
   unfolding frameReply tableOf
@@ -216,11 +264,12 @@ module _ (b s : List ℕ) (clock : ℕ) (h : Header) (y : Bytes b) (z : Bytes s)
   -- what answering and storing by the decision leaves
   pub formed-by : (v : List ℕ) (r : Served) (n : ℕ) (b′ out out′ : List ℕ) → v ≡ bareValue s h → ReplyWritten b (now .clock) h d k out n out′
       → r ≡ Done (d .status) (24 + h .body) n
-      → b′ ≡ storedWith b l k (docFrom (d .done .store) (bytesFrom (d .done .source) v)) (d .done .head)
+      → b′ ≡ changedBy b l k (d .done) v
       → ServesFrame b clock s h out r b′ out′
   formed-by v r n b′ out out′ ev reply er eb =
       record {
         answer = er ∙ (λ i. Done (status-is i) (24 + h .body) ((reply .size ∙ ap length reply-is) i));
-        table = eb ∙ (λ i. storedWith b (found i) (ek i) (store-is v ev i) (head-is i)) ∙ changed-is b s clock h w y z small inside sb (store-none v ev);
+        table = eb ∙ (λ i. changedWith b (found i) (ek i) (d .done .store) (d .done .source) (head-is i) v)
+            ∙ changed-is b s clock h y z small inside sb (d .done .source) v w (d .done .store) (store-is v ev) (store-none v ev);
         reply = reply .bytes ∙ ap (written out 0) reply-is;
       }

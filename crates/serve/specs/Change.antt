@@ -1,16 +1,35 @@
 -- For the code alone: what a decision leaves of a table's memory, by the lookup of its key. On a table that is not damaged it is serving's frameTable (proofs/Joint.antt).
 use Prim.Native.Nat.{ℕ}
-use mathlib.Core.List.{List}
-use mathlib.Core.Option.{Option, none, some}
+use mathlib.Core.List.{List, []}
 use Rattle.octets.specs.Parts.{written}
 use Rattle.octets.specs.BigEndian.{bytesOf}
-use Rattle.document.specs.Documents.{Key, Doc}
+use Rattle.digits.specs.Decimal.{digits}
+use Rattle.document.specs.Documents.{Key}
+use Rattle.document.specs.Stored.{entryOf}
 use Rattle.document.specs.declared.Head.{Head}
+use Rattle.document.specs.declared.Metadata.{Metadata}
+use Rattle.document.specs.declared.Side.the-variants.{Back}
+use Rattle.document.specs.declared.Stored.{Stored}
+use Rattle.document.specs.declared.Stored.the-variants.{Nothing, Used}
+use Rattle.effects.specs.declared.Source.{Source}
+use Rattle.effects.specs.declared.Source.the-variants.{Empty, Frame, Digits, Kept, Joined}
+use Rattle.effects.specs.declared.Done.{Done}
 use Rattle.rows.specs.Table.{headBytes}
 use Rattle.table.specs.declared.Lookup.{Lookup}
-use Rattle.table.specs.Calls.{storedBy}
+use Rattle.table.specs.Calls.{storedBy, joinedBy}
 
--- a document for a key where a lookup said, after a new head; where there is none, the head's clock alone
-abbrev pub storedWith : List ℕ → Lookup → Key → Option Doc → Head → List ℕ
-storedWith b l key none head = written b 4 (bytesOf 4 (head .clock))
-storedWith b l key (some d) head = storedBy (written b 0 (headBytes head)) l (record { key = key; doc = d })
+-- a key's row stored where a lookup said, its value by its source: a value that is kept has nothing joined to it
+abbrev pub storedFrom : List ℕ → Lookup → Key → Metadata → Source → List ℕ → List ℕ
+storedFrom b l key m Empty value = storedBy b l (entryOf key m [])
+storedFrom b l key m Frame value = storedBy b l (entryOf key m value)
+storedFrom b l key m (Digits n) value = storedBy b l (entryOf key m (digits n))
+storedFrom b l key m Kept value = joinedBy b l key m Back []
+storedFrom b l key m (Joined side) value = joinedBy b l key m side value
+
+-- a row for a key after a new head; where nothing is stored, the head's clock alone
+abbrev pub changedWith : List ℕ → Lookup → Key → Stored → Source → Head → List ℕ → List ℕ
+changedWith b l key Nothing source head value = written b 4 (bytesOf 4 (head .clock))
+changedWith b l key (Used m) source head value = storedFrom (written b 0 (headBytes head)) l key m source value
+
+abbrev pub changedBy : List ℕ → Lookup → Key → Done → List ℕ → List ℕ
+changedBy b l key d value = changedWith b l key (d .store) (d .source) (d .head) value

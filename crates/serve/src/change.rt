@@ -1,10 +1,11 @@
 // What a decision leaves in the table.
 ghost use mathlib.Core.Path.{_≡_};
-ghost use mathlib.Core.List.{[]};
-ghost use Rattle.decision.specs.Decide.{bytesFrom, docFrom};
+ghost use Rattle.digits.specs.Decimal.{digits};
+ghost use Rattle.document.specs.Stored.{entryOf};
 ghost use Rattle.table.specs.Calls.{storedBy};
-ghost use Rattle.serve.specs.Change.{storedWith};
+ghost use Rattle.serve.specs.Change.{storedFrom, changedBy};
 use document::Metadata;
+use document::Side;
 use document::Stored;
 use effects::Done;
 use effects::Source;
@@ -12,7 +13,7 @@ use table::Lookup;
 
 // Stores decimal digits for a key.
 fn store_digits(b: &mut [u8], l: Lookup, key: &[u8], m: Metadata, n: u64)
-    ensures { λ _. ⌜ now (b .exit) ≡ storedBy (now (b .entry)) l (record { key = now (key .entry); doc = record { tomb = m .tomb; value = bytesFrom (Source.Digits n) []; numbers = m .numbers } }) ⌝ }
+    ensures { λ _. ⌜ now (b .exit) ≡ storedBy (now (b .entry)) l (entryOf (now (key .entry)) m (digits n)) ⌝ }
 {
     let mut text = [0u8; 20];
     let k = digits::put_number(&mut text, n);
@@ -21,19 +22,21 @@ fn store_digits(b: &mut [u8], l: Lookup, key: &[u8], m: Metadata, n: u64)
 
 // Stores a value from its source for a key.
 fn store_from(b: &mut [u8], l: Lookup, key: &[u8], m: Metadata, source: Source, value: &[u8])
-    ensures { λ _. ⌜ now (b .exit) ≡ storedBy (now (b .entry)) l (record { key = now (key .entry); doc = record { tomb = m .tomb; value = bytesFrom source (now (value .entry)); numbers = m .numbers } }) ⌝ }
+    ensures { λ _. ⌜ now (b .exit) ≡ storedFrom (now (b .entry)) l (now (key .entry)) m source (now (value .entry)) ⌝ }
 {
     match source {
         Source::Empty => table::store(b, l, key, m, octets::part(value, 0, 0)),
         Source::Frame => table::store(b, l, key, m, value),
         Source::Digits(n) => store_digits(b, l, key, m, n),
+        Source::Kept => table::join(b, l, key, m, Side::Back, octets::part(value, 0, 0)),
+        Source::Joined(side) => table::join(b, l, key, m, side, value),
     }
 }
 
 // Stores what a decision says, where a lookup of the key said. value: the frame's. The head is written once: where nothing is
 // stored, only its clock has changed.
 pub(crate) fn change(b: &mut [u8], l: Lookup, key: &[u8], d: Done, value: &[u8])
-    ensures { λ _. ⌜ now (b .exit) ≡ storedWith (now (b .entry)) l (now (key .entry)) (docFrom (d .store) (bytesFrom (d .source) (now (value .entry)))) (d .head) ⌝ }
+    ensures { λ _. ⌜ now (b .exit) ≡ changedBy (now (b .entry)) l (now (key .entry)) d (now (value .entry)) ⌝ }
 {
     let store = d.store;
     let source = d.source;

@@ -41,7 +41,7 @@ use table::Lookup;
 
 // The decision on a request, from what was found for its key. old: the stored value.
 fn decided(head: Head, clock: u32, l: Lookup, old: &[u8], ask: Instruction) -> Decision
-    ensures { λ r. ⌜ r ≡ decision (record { head = head; row = l .stored; free = hasPlace (l .place); clock = clock; number = numberOf (now (old .entry)) }) ask ⌝ }
+    ensures { λ r. ⌜ r ≡ decision (record { head = head; row = l .stored; free = hasPlace (l .place); clock = clock; number = numberOf (now (old .entry)); size = length (now (old .entry)) }) ask ⌝ }
 {
     let row = l.stored;
     let place = l.place;
@@ -54,6 +54,7 @@ fn decided(head: Head, clock: u32, l: Lookup, old: &[u8], ask: Instruction) -> D
             free,
             clock,
             number,
+            size: old.len(),
         },
         ask,
     )

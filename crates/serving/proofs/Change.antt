@@ -32,7 +32,7 @@ use Rattle.table.specs.Claims.{Stores}
 use Rattle.table.proofs.Keeping.{stores-good, head-good}
 use Rattle.serving.specs.Serve.{reachesDecision, decisionOn, frameEffect, frameChange}
 use Rattle.serving.proofs.Formed.{form, command-right}
-use Rattle.serving.proofs.Kept.{decide-keeps, fits-found}
+use Rattle.serving.proofs.Kept.{decide-keeps, fits-found, short-found}
 
 module _ (t : Table) (clock : ℕ) (s : List ℕ) (h : Header) where
   abbrev key : Key
@@ -72,7 +72,7 @@ module _ (t : Table) (clock : ℕ) (s : List ℕ) (h : Header) where
     sound : StoredSound (t .head) (findRow (t .rows) key) (ltb 0 (freeRows (t .rows))) clock (requestOf s h)
     sound =
         stores-sound (t .head) (findRow (t .rows) key) (ltb 0 (freeRows (t .rows))) clock (requestOf s h)
-        (g .mark) (command-right s y h o .0) (fits-found (t .head .mark .0) (t .rows) key (g .mark) (g .rows))
+        (g .mark) (command-right s y h o .0) (fits-found (t .head .mark .0) (t .rows) key (g .mark) (g .rows)) (short-found (t .head .mark .0) (t .rows) key (g .rows))
 
     key-length : length key ≡ h .keylen
     unfolding keySpan

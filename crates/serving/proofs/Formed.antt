@@ -27,10 +27,10 @@ use Rattle.commands.specs.declared.Kind.the-variants.{Set, Add, Replace}
 use Rattle.commands.specs.declared.MetaKind.{MetaKind}
 use Rattle.commands.specs.declared.MetaKind.the-variants.{Set as SetMeta, Add as AddMeta, Delete as DeleteMeta}
 use Rattle.commands.specs.declared.Command.{Command}
-use Rattle.commands.specs.declared.Command.the-variants.{Get, Write, Delete, Count, Noop, Version, WithMeta as Metas, GetKeys}
+use Rattle.commands.specs.declared.Command.the-variants.{Get, Write, Delete, Count, Noop, Version, WithMeta as Metas, GetKeys, Join, Touch}
 use Rattle.effects.specs.Done.{isDelete}
 use Rattle.decision.specs.Claims.{Formed}
-use Rattle.decode.specs.Decode.{plainOf, counterOf, metaCommand, commandOf, requestOf}
+use Rattle.decode.specs.Decode.{plainOf, counterOf, touchOf, metaCommand, commandOf, requestOf}
 use Rattle.serving.specs.Serve.{reachesDecision}
 
 pub no {ℓ} : {X : Type ℓ} → false ≡ true → X
@@ -51,6 +51,8 @@ Named n Noop = Unit {0}
 Named n Version = Unit {0}
 Named n (Metas w) = 1 ≤ n
 Named n (GetKeys k) = Unit {0}
+Named n (Join side) = 1 ≤ n
+Named n (Touch t) = 1 ≤ n
 
 -- ---- an opcode whose status lets the frame go on is built
 abbrev Built : Shape → Type 0
@@ -157,6 +159,10 @@ module _ (s : List ℕ) (y : Bytes s) (h : Header) (g : reachesDecision (frameSt
   unfolding counterOf
   count-right up n = (num-below extras 16 4 bytes, n)
 
+  touch-right : (shown : Bool) → 1 ≤ h .keylen → Right (touchOf shown extras)
+  unfolding touchOf
+  touch-right shown n = (num-below extras 0 4 bytes, n)
+
   -- a shape whose form and field rules are kept asks for a right command
   abbrev Kept : Shape → Type 0
   Kept x = Form x h → fieldRulesOk x extras value ≡ true → Right (commandOf (x .operation) extras)
@@ -195,7 +201,19 @@ module _ (s : List ℕ) (y : Bytes s) (h : Header) (g : reachesDecision (frameSt
                             (λ q f r. carries SetMeta _ refl refl (λ t. no t) f r),
                             (
                               (λ q f r. carries AddMeta _ refl refl (λ t. no t) f r),
-                              ((λ q f r. carries DeleteMeta _ refl refl (λ t. refl) f r), ((λ q f r. (tt, tt)), tt)),
+                              (
+                                (λ q f r. carries DeleteMeta _ refl refl (λ t. refl) f r),
+                                (
+                                  (λ q f r. (tt, tt)),
+                                  (
+                                    (λ q f r. (tt, key-there _ refl f)),
+                                    (
+                                      (λ q f r. (tt, key-there _ refl f)),
+                                      ((λ q f r. touch-right false (key-there _ refl f)), ((λ q f r. touch-right true (key-there _ refl f)), tt)),
+                                    ),
+                                  ),
+                                ),
+                              ),
                             ),
                           ),
                         ),

@@ -6,15 +6,16 @@ use mathlib.Core.Bool.{Bool}
 use mathlib.Core.List.{List, [], _∷_}
 use mathlib.Core.Option.{Option, none, some}
 use lib.Dec.{eqb}
+use lib.ListN.{length}
 use Rattle.octets.specs.Compare.{same}
 use Rattle.octets.proofs.Choices.{cases}
 use Rattle.document.specs.declared.Head.{Head}
-use Rattle.document.specs.Documents.{Key, Doc}
+use Rattle.document.specs.Documents.{Key, Doc, docValue}
 use Rattle.document.specs.Stored.{live, numbersOf, storedOf}
 use Rattle.commands.specs.declared.Context.{Context}
 use Rattle.effects.specs.declared.Done.{Done}
 use Rattle.commands.specs.declared.Command.{Command}
-use Rattle.commands.specs.declared.Command.the-variants.{Get, Write, Delete, Count, Noop, Version, WithMeta, GetKeys}
+use Rattle.commands.specs.declared.Command.the-variants.{Get, Write, Delete, Count, Noop, Version, WithMeta, GetKeys, Join, Touch}
 use Rattle.effects.specs.declared.Reply.the-variants.{Bare}
 use Rattle.commands.specs.Rules.{ruleOf, statusBy}
 use Rattle.effects.specs.Done.{doneOf, nothing}
@@ -27,9 +28,9 @@ use Rattle.rows.specs.Good.{AllGood}
 use Rattle.octets.proofs.Options.{none-some}
 use Rattle.serving.proofs.Formed.{by-cond, Named}
 
-module _ (c : Context) (frame : List ℕ) (n : ℕ) where
+module _ (c : Context) (frame stored : List ℕ) (n : ℕ) where
   abbrev stores : Done → Option Doc
-  stores x = docFrom (x .store) (bytesFrom (x .source) frame)
+  stores x = docFrom (x .store) (bytesFrom (x .source) frame stored)
 
   abbrev Keeps : Done → Type 0
   Keeps x = (stores x ≡ none → x .head ≡ c .head) × ((d : Doc) → stores x ≡ some d → 1 ≤ n)
@@ -44,6 +45,8 @@ module _ (c : Context) (frame : List ℕ) (n : ℕ) where
   done-keeps Version p = (λ e. refl, λ d e. none-some d e)
   done-keeps (WithMeta w) p = (λ e. none-some _ (sym e), λ d e. p)
   done-keeps (GetKeys k) p = (λ e. refl, λ d e. none-some d e)
+  done-keeps (Join side) p = (λ e. none-some _ (sym e), λ d e. p)
+  done-keeps (Touch t) p = (λ e. none-some _ (sym e), λ d e. p)
 
 pub decide-keeps : (h : Head) (row : Option Doc) (free : Bool) (clock : ℕ) (q : Request) (n : ℕ) → Named n (q .command)
     → (decide h row free clock q .store ≡ none → decide h row free clock q .head ≡ h)
@@ -51,9 +54,9 @@ pub decide-keeps : (h : Head) (row : Option Doc) (free : Bool) (clock : ℕ) (q 
 unfolding decide decision
 decide-keeps h row free clock q n p =
     let c = contextOf h row free clock in
-    by-cond (Keeps c (q .value) n) (eqb (statusBy c (instructionOf q) (ruleOf c (q .command))) 0)
+    by-cond (Keeps c (q .value) (docValue row) n) (eqb (statusBy c (instructionOf q) (ruleOf c (q .command))) 0)
     (doneOf c (q .command)) (nothing h Bare (record { 0 = 0 }))
-    (λ t. done-keeps c (q .value) n (q .command) p)
+    (λ t. done-keeps c (q .value) (docValue row) n (q .command) p)
     (λ t. (λ e. refl, λ d e. none-some d e))
 
 -- the numbers of a key's row fit
@@ -64,3 +67,9 @@ fits-found mark (some x ∷ ws) k m g =
     cases (same (x .key) k)
     (λ s. rw s (record { flags = g .0 .flags; expiry = g .0 .expiry; revision = g .0 .revision; cas = omega (arith, g .0 .cas-most) }))
     (λ s. rw s (fits-found mark ws k m (g .1)))
+
+-- and its value is short
+pub short-found : (mark : ℕ) (ws : List Row) (k : Key) → AllGood mark ws → length (docValue (findRow ws k)) ≤ 1024
+short-found mark [] k g = omega arith
+short-found mark (none ∷ ws) k g = short-found mark ws k g
+short-found mark (some x ∷ ws) k g = cases (same (x .key) k) (λ s. rw s (g .0 .value-most)) (λ s. rw s (short-found mark ws k (g .1)))

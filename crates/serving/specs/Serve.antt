@@ -79,7 +79,7 @@ decisionOn t clock s h =
 -- what it does to the table, with the bytes put in
 unfoldable pub frameEffect : Table → ℕ → List ℕ → Header → Effect
 unfolding decisionOn
-frameEffect t clock s h = effectOf (requestOf s h) (decisionOn t clock s h)
+frameEffect t clock s h = effectOf (requestOf s h) (findRow (t .rows) (bytesIn s (keySpan h))) (decisionOn t clock s h)
 
 -- a table after a decision on one of its keys
 abbrev pub tableChanged : Table → Key → Effect → Table

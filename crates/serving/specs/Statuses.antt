@@ -26,7 +26,7 @@ abbrev pub statuses : Table → ℕ → List ℕ → Header → List Check
 statuses t clock s h =
     let shape = shapeOf (h .opcode) in
     let command = testsOn t clock s h in
-    -- "0x83: opcodes (hexadecimal) 07, 08, 0e, 0f, 10, 17 to 1a."
+    -- "0x83: opcodes (hexadecimal) 07, 08, 0e, 0f, 10, 17 to 1a."; order 4: "0x83 loses 0e, 0f, 19 and 1a from its list."
     eqb (shape .status) 0x83 ⇒ 0x83
     -- "0x81: every other opcode not in the next section."
     ∷ eqb (shape .status) 0x81 ⇒ 0x81
@@ -40,9 +40,13 @@ statuses t clock s h =
     ∷ command .long ⇒ 0x03
     -- "0x07: other vbucket number, or state not active (with-meta with option 0x01 also passes in states 2 and 3). Noop and Version skip this."
     ∷ command .elsewhere ⇒ 0x07
+    -- order 4, of append and prepend: "not live is 0x05, whatever the header CAS"
+    ∷ command .unstored ⇒ 0x05
     -- "0x01, then 0x02, as given below."
     ∷ command .missing ⇒ 0x01
     ∷ command .conflict ⇒ 0x02
+    -- order 4: "a joined value over 1,024 is 0x03, tested right after header CAS"
+    ∷ command .joined ⇒ 0x03
     -- "0x06."
     ∷ command .number ⇒ 0x06
     -- "0x84: a number that must grow is at 2^64 - 1."

@@ -4,9 +4,9 @@ use mathlib.Core.List.{List, [], _∷_}
 use mathlib.Core.Bool.{Bool, true, false, _||_, cond}
 use lib.Dec.{eqb}
 use Rattle.shape.specs.declared.Operation.{Operation}
-use Rattle.shape.specs.declared.Operation.the-variants.{Unknown, NotBuilt, Get, GetKey, Set, Add, Replace, Delete, Increment, Decrement, Noop, Version, SetWithMeta, AddWithMeta, DeleteWithMeta, GetKeys}
+use Rattle.shape.specs.declared.Operation.the-variants.{Unknown, NotBuilt, Get, GetKey, Set, Add, Replace, Delete, Increment, Decrement, Noop, Version, SetWithMeta, AddWithMeta, DeleteWithMeta, GetKeys, Append, Prepend, Touch, GetAndTouch}
 use Rattle.shape.specs.declared.Extras.{Extras}
-use Rattle.shape.specs.declared.Extras.the-variants.{Nothing, FlagsExpiry, Counter, Meta, Count}
+use Rattle.shape.specs.declared.Extras.the-variants.{Nothing, FlagsExpiry, Counter, Meta, Count, Expiry}
 use Rattle.shape.specs.declared.Shape.{Shape}
 
 -- what stands between the header and the end of the body
@@ -40,6 +40,14 @@ metaWrite m = record { extras = Meta; key = 1; value = 1; meta = m }
 abbrev pub keyListing : Form
 keyListing = record { extras = Count; key = 2; value = 0; meta = 0 }
 
+-- order 4: "key and a value of any length, no extras"
+abbrev pub joining : Form
+joining = record { extras = Nothing; key = 1; value = 1; meta = 0 }
+
+-- order 4: "4 extras: expiry"
+abbrev pub touching : Form
+touching = record { extras = Expiry; key = 1; value = 0; meta = 0 }
+
 -- a command, its opcode, the opcode of its quiet form, and its form
 pub record Command : Type 0 where
   pub operation : Operation
@@ -70,11 +78,15 @@ commands =
     ∷ command AddWithMeta 0xa4 0xa5 (metaWrite 1)
     ∷ command DeleteWithMeta 0xa8 0xa9 (metaWrite 2)
     ∷ loudOnly GetKeys 0xb8 keyListing
+    ∷ command Append 0x0e 0x19 joining
+    ∷ command Prepend 0x0f 0x1a joining
+    ∷ loudOnly Touch 0x1c touching
+    ∷ loudOnly GetAndTouch 0x1d touching
     ∷ []
 
--- "0x83: opcodes (hexadecimal) 07, 08, 0e, 0f, 10, 17 to 1a"
+-- "0x83: opcodes (hexadecimal) 07, 08, 0e, 0f, 10, 17 to 1a"; order 4: "0x83 loses 0e, 0f, 19 and 1a from its list."
 unfoldable pub unbuilt : List ℕ
-unbuilt = 0x07 ∷ 0x08 ∷ 0x0e ∷ 0x0f ∷ 0x10 ∷ 0x17 ∷ 0x18 ∷ 0x19 ∷ 0x1a ∷ []
+unbuilt = 0x07 ∷ 0x08 ∷ 0x10 ∷ 0x17 ∷ 0x18 ∷ []
 
 abbrev pub shapeBy : Operation → Form → Bool → Shape
 shapeBy o f q = record { status = 0; operation = o; extras = f .extras; key = f .key; value = f .value; meta = f .meta; quiet = q }

@@ -1,7 +1,7 @@
 // Every opcode's shape: which command it is, what stands between the header and the end of the body, and whether the
 // command is built.
 ghost use mathlib.Core.Path.{_≡_};
-ghost use Rattle.shape.specs.Shapes.{refused, bare, keyOnly, plainWrite, counter, metaWrite, keyListing, shapeBy, shapeOf};
+ghost use Rattle.shape.specs.Shapes.{refused, bare, keyOnly, plainWrite, counter, metaWrite, keyListing, joining, touching, shapeBy, shapeOf};
 ghost use Rattle.shape.specs.Table.{numbered};
 
 // The command that an opcode is, its quiet form aside.
@@ -22,6 +22,10 @@ pub enum Operation {
     AddWithMeta,
     DeleteWithMeta,
     GetKeys,
+    Append,
+    Prepend,
+    Touch,
+    GetAndTouch,
 }
 
 // What the extras are, and so which sizes they may have.
@@ -31,6 +35,7 @@ pub enum Extras {
     Counter,
     Meta,
     Count,
+    Expiry,
 }
 
 pub struct Shape {
@@ -64,8 +69,8 @@ const OPERATIONS: [u8; 256] = [
     22, // 0b Version
     6, // 0c GetK
     7, // 0d GetKQ
-    2, // 0e
-    2, // 0f
+    32, // 0e Append
+    34, // 0f Prepend
     2, // 10
     9, // 11 SetQ
     11, // 12 AddQ
@@ -75,11 +80,11 @@ const OPERATIONS: [u8; 256] = [
     19, // 16 DecrementQ
     2, // 17
     2, // 18
-    2, // 19
-    2, // 1a
+    33, // 19 AppendQ
+    35, // 1a PrependQ
     0, // 1b
-    0, // 1c
-    0, // 1d
+    36, // 1c Touch
+    38, // 1d GetAndTouch
     0, // 1e
     0, // 1f
     0, // 20
@@ -406,6 +411,34 @@ fn key_listing(operation: Operation, quiet: bool) -> Shape
     }
 }
 
+fn joining(operation: Operation, quiet: bool) -> Shape
+    ensures { λ r. ⌜ r ≡ shapeBy operation joining quiet ⌝ }
+{
+    Shape {
+        status: 0,
+        operation,
+        extras: Extras::Nothing,
+        key: 1,
+        value: 1,
+        meta: 0,
+        quiet,
+    }
+}
+
+fn touching(operation: Operation, quiet: bool) -> Shape
+    ensures { λ r. ⌜ r ≡ shapeBy operation touching quiet ⌝ }
+{
+    Shape {
+        status: 0,
+        operation,
+        extras: Extras::Expiry,
+        key: 1,
+        value: 0,
+        meta: 0,
+        quiet,
+    }
+}
+
 // The shape of the operation with this number.
 fn shape_by(number: u8, quiet: bool) -> Shape
     ensures { λ r. ⌜ r ≡ numbered number quiet ⌝ }
@@ -426,6 +459,10 @@ fn shape_by(number: u8, quiet: bool) -> Shape
         13 => meta_write(Operation::AddWithMeta, 1, quiet),
         14 => meta_write(Operation::DeleteWithMeta, 2, quiet),
         15 => key_listing(Operation::GetKeys, quiet),
+        16 => joining(Operation::Append, quiet),
+        17 => joining(Operation::Prepend, quiet),
+        18 => touching(Operation::Touch, quiet),
+        19 => touching(Operation::GetAndTouch, quiet),
         _ => refused(Operation::Unknown, 0x81),
     }
 }

@@ -3,6 +3,8 @@ use Prim.Native.Nat.{ℕ, _+_, _*_}
 use mathlib.Core.Bool.{Bool, true, false}
 use mathlib.Core.List.{List}
 use lib.ListN.{length}
+use Rattle.document.specs.declared.Metadata.{Metadata}
+use Rattle.document.specs.declared.Side.{Side}
 use Rattle.document.specs.Documents.{Key, Entry}
 use Rattle.document.specs.Stored.{metadataOf}
 use Rattle.document.specs.declared.Stored.the-variants.{Nothing as NoRow, Used}
@@ -13,7 +15,7 @@ use Rattle.rows.specs.Table.{tableOf, rowAt}
 use Rattle.plain.specs.declared.Found.{Found}
 use Rattle.plain.specs.declared.Found.the-variants.{At, Nothing}
 use Rattle.plain.specs.Lookup.{placeBy}
-use Rattle.plain_writer.specs.Change.{rowStored}
+use Rattle.plain_writer.specs.Change.{rowStored, rowJoined}
 use Rattle.table.specs.declared.Lookup.{Lookup}
 
 abbrev pub hasPlace : Place → Bool
@@ -47,3 +49,11 @@ storedIn b Nothing e old = b
 
 unfoldable pub storedBy : List ℕ → Lookup → Entry → List ℕ
 storedBy b l e = storedIn b (rowPlace (l .place)) e (l .len)
+
+-- a value joined to the one that a lookup of its key found
+abbrev pub joinedIn : List ℕ → Found → Key → Metadata → Side → List ℕ → ℕ → List ℕ
+joinedIn b (At i) key m side value old = rowJoined b i key m side value old
+joinedIn b Nothing key m side value old = b
+
+unfoldable pub joinedBy : List ℕ → Lookup → Key → Metadata → Side → List ℕ → List ℕ
+joinedBy b l key m side value = joinedIn b (rowPlace (l .place)) key m side value (l .len)

@@ -7,8 +7,10 @@ use lib.Dec.{ltb}
 use lib.ListN.{length}
 use Rattle.octets.specs.Parts.{Bytes, part, written}
 use Rattle.octets.specs.BigEndian.{bytesOf}
-use Rattle.document.specs.Documents.{Key, Doc, docValue}
-use Rattle.document.specs.Stored.{storedOf, hasRow, goneDoc}
+use Rattle.document.specs.declared.Metadata.{Metadata}
+use Rattle.document.specs.declared.Side.{Side}
+use Rattle.document.specs.Documents.{Key, Doc, docValue, joined}
+use Rattle.document.specs.Stored.{entryOf, storedOf, hasRow, goneDoc}
 use Rattle.document.specs.declared.Head.{Head}
 use Rattle.document.specs.Head.{marked}
 use Rattle.engine.specs.Engine.{Room}
@@ -21,7 +23,7 @@ use Rattle.plain.specs.Plain.{plain}
 use Rattle.plain.specs.Purge.{goneCount}
 use Rattle.plain_writer.specs.Change.{purgedRows, freedRows}
 use Rattle.plain.specs.Claims.{Good}
-use Rattle.table.specs.Calls.{hasPlace, lookupOf, storedBy}
+use Rattle.table.specs.Calls.{hasPlace, lookupOf, storedBy, joinedBy}
 
 -- a lookup in memory b of a table with these rows
 pub record Finds (b : List ℕ) (rows : List Row) (key : Key) (new : Bool) : Type 0 where
@@ -49,6 +51,14 @@ abbrev pub StoresGood : Type 0
 StoresGood =
     (t : Table) (key : Key) (d : Doc) → Good t → EntryGood (t .head .mark .0) (record { key = key; doc = d }) → Room plain (t .rows) key
     → Stores t key d
+
+-- order 4: joining where a lookup said stores the joined value
+abbrev pub JoinsGood : Type 0
+JoinsGood =
+    (t : Table) (key : Key) (m : Metadata) (side : Side) (value : List ℕ) → Good t
+    → length key + (length (docValue (findRow (t .rows) key)) + length value) ≤ 1280
+    → joinedBy (tableBytes t) (lookupOf true (tableBytes t) key) key m side value
+    ≡ storedBy (tableBytes t) (lookupOf true (tableBytes t) key) (entryOf key m (joined side (docValue (findRow (t .rows) key)) value))
 
 -- the head is written apart: it changes no row, a higher mark and any clock keep a table good, and no lookup sees it
 abbrev pub HeadPut : Type 0

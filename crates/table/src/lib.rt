@@ -1,4 +1,4 @@
-// The five calls by which serving and the owner's calls reach a table's rows: checked, find, store, purge and put_keys. Which engine
+// The six calls by which serving and the owner's calls reach a table's rows: checked, find, store, join, purge and put_keys. Which engine
 // keeps the rows is decided here and nowhere above. Every function is total on any bytes; what it means on a table that is
 // not damaged is in specs/Claims.antt.
 ghost use mathlib.Core.Path.{_≡_};
@@ -10,8 +10,9 @@ ghost use Rattle.rows.specs.Table.{rowCount};
 ghost use Rattle.plain.specs.Damage.{sound, checkedOf};
 ghost use Rattle.plain_writer.specs.Change.{purgedRows, freedRows};
 ghost use Rattle.plain_listing.specs.Places.{fittingKeys};
-ghost use Rattle.table.specs.Calls.{hasPlace, lookupAt, lookupOf, rowPlace, storedBy};
+ghost use Rattle.table.specs.Calls.{hasPlace, lookupAt, lookupOf, rowPlace, storedBy, joinedBy};
 use document::Metadata;
+use document::Side;
 use document::Stored;
 use engine::Checked;
 use engine::Place;
@@ -115,6 +116,19 @@ pub fn store(b: &mut [u8], l: Lookup, key: &[u8], m: Metadata, value: &[u8])
     let place = l.place;
     match row_place(place) {
         Found::At(i) => plain_writer::store(b, i, key, m, value, old),
+        Found::Nothing => {}
+    }
+}
+
+// Stores for a key the value that a lookup of it found with another one joined to it, in place. Nothing changes where there is no
+// place or the two don't fit together.
+pub fn join(b: &mut [u8], l: Lookup, key: &[u8], m: Metadata, side: Side, value: &[u8])
+    ensures { λ _. ⌜ now (b .exit) ≡ joinedBy (now (b .entry)) l (now (key .entry)) m side (now (value .entry)) ⌝ }
+{
+    let old = l.len;
+    let place = l.place;
+    match row_place(place) {
+        Found::At(i) => plain_writer::join(b, i, key, m, side, value, old),
         Found::Nothing => {}
     }
 }
