@@ -5,10 +5,10 @@ use native.Mathlib.Nat.{zero-add, add-zero, add-suc, add-assoc}
 use mathlib.Core.Path.{_≡_, sym, ap, _∙_}
 use mathlib.Core.Bool.{Bool, true, false}
 use mathlib.Core.List.{List, [], _∷_, _++_, append-assoc}
-use Prim.Native.Nat.{ℕ, zero, suc, _+_, _-_, _≤_, _<_}
+use Prim.Native.Nat.{ℕ, zero, suc, _+_, _-_, _≤_, _<_, min}
 use lib.Dec.{leb}
-use lib.ListN.{length, take, drop, set, replicate, length-append, length-take, length-drop, length-replicate, take-append-drop, replicate-append-replicate}
-use lib.Seq.{take-all, take-at, drop-at, drop-cons, drop-drop, take-add, getD-drop, set-at, set-split, take-set-le, take-append-add, drop-append-add, length-take-le}
+use lib.ListN.{length, take, drop, getD, set, replicate, length-append, length-take, length-drop, length-replicate, take-append-drop, replicate-append-replicate}
+use lib.Seq.{take-all, take-at, drop-at, drop-cons, drop-drop, take-add, getD-drop, set-at, set-split, take-set-le, take-append-add, drop-append-add, take-append-le, drop-append-le, length-take-le}
 use borrow.Author.Tests.{le-leb, lt-leb, leb-true, leb-false}
 use Rattle.octets.specs.Parts.{Bytes, part, pasted, written}
 use Rattle.octets.proofs.Choices.{cases}
@@ -140,6 +140,35 @@ pub pasted-over : (p r xs : List ℕ) → length p ≡ length xs → pasted (p +
 unfolding pasted
 pasted-over p r xs e = rw (zero-add (length xs), drop-at p r (length xs) e)
 
+-- a write before one that starts where it ends
+pub pasted-before : (s : List ℕ) (at n : ℕ) (xs ys : List ℕ) → length xs ≡ n → at + n + length ys ≤ length s → pasted (pasted s (at + n) ys) at xs ≡ pasted s at (xs ++ ys)
+unfolding pasted
+pasted-before s at n xs ys e h =
+    let rest = ys ++ drop (at + n + length ys) s in
+    let l : length (part s at n) ≡ length xs = part-length s at n (omega arith) ∙ sym e in
+    let split : take (at + n) s ++ rest ≡ take at s ++ (part s at n ++ rest) = rw (take-add at n s) (append-assoc (take at s) (part s at n) rest) in
+    let j : length (xs ++ ys) ≡ n + length ys = length-append xs ys ∙ ap (λ (i : ℕ). i + length ys) e in
+    ap (λ (t : List ℕ). pasted t at xs) split
+    ∙ ap (λ (i : ℕ). pasted (take at s ++ (part s at n ++ rest)) i xs) (sym (add-zero at))
+    ∙ pasted-skip (take at s) (part s at n ++ rest) at 0 xs (length-take-le at s (omega arith))
+    ∙ ap (λ (t : List ℕ). take at s ++ t) (pasted-over (part s at n) rest xs l)
+    ∙ rw (j, ← add-assoc at n (length ys), append-assoc)
+
+-- what stands before a write
+pub part-front : (p q : List ℕ) (k n : ℕ) → k + n ≤ length p → part (p ++ q) k n ≡ part p k n
+part-front p q k n h = rw (drop-append-le k p q (omega arith), take-append-le n (drop k p) q (simp length-drop (omega arith)))
+
+pub part-pasted : (s : List ℕ) (at : ℕ) (xs : List ℕ) (k n : ℕ) → k + n ≤ at → at ≤ length s → part (pasted s at xs) k n ≡ part s k n
+unfolding pasted
+part-pasted s at xs k n h l =
+    let f : k + n ≤ length (take at s) = simp length-take (omega arith) in
+    part-front (take at s) (xs ++ drop (at + length xs) s) k n f ∙ sym (part-front (take at s) (drop at s) k n f) ∙ ap (λ (t : List ℕ). part t k n) (take-append-drop at s)
+
+-- one byte of a list, written to another place of it
+pub pasted-one : (s : List ℕ) (at k : ℕ) → at < length s → k < length s → set s at (getD s k 0) ≡ pasted s at (part s k 1)
+unfolding pasted
+pasted-one s at k h j = rw (drop-cons s k 0 j, add-one) (set-split s at (getD s k 0) h)
+
 module _ (s : List ℕ) (at : ℕ) (xs : List ℕ) where
   module _ (h : at + length xs ≤ length s) where
     head : length (take at s ++ xs) ≡ at + length xs
@@ -197,11 +226,47 @@ then-two s0 s1 s2 s3 at m k xs ys zs e f g p q h =
 
 -- a write at the start after a write behind it
 pub before : (s0 s1 s2 : List ℕ) (n : ℕ) (xs ys : List ℕ) → s1 ≡ written s0 n xs → s2 ≡ written s1 0 ys → length ys ≡ n → n + length xs ≤ length s0 → s2 ≡ written s0 0 (ys ++ xs)
-unfolding pasted
 before s0 s1 s2 n xs ys e f g h =
     let l : length s1 ≡ length s0 = ap length e ∙ length-written s0 n xs in
     let e′ : s1 ≡ pasted s0 n xs = e ∙ written-fits s0 n xs h in
     let f′ : s2 ≡ pasted s1 0 ys = f ∙ written-fits s1 0 ys (omega arith) in
-    let p : length (take n s0) ≡ length ys = length-take-le n s0 (omega arith) ∙ sym g in
-    f′ ∙ ap (λ (s : List ℕ). pasted s 0 ys) e′ ∙ pasted-over (take n s0) (xs ++ drop (n + length xs) s0) ys p
-    ∙ rw (written-fits s0 0 (ys ++ xs) (simp length-append (omega arith)), zero-add, length-append, g, append-assoc)
+    f′ ∙ ap (λ (s : List ℕ). pasted s 0 ys) (e′ ∙ ap (λ (i : ℕ). pasted s0 i xs) (sym (zero-add n))) ∙ pasted-before s0 0 n ys xs g (omega arith)
+    ∙ sym (written-fits s0 0 (ys ++ xs) (simp length-append (omega arith)))
+
+-- bytes copied up in place, from the last to the first: the copy once so many are left, and one of c more
+abbrev pub moved : List ℕ → ℕ → ℕ → ℕ → ℕ → List ℕ
+moved s at n by left = pasted s (at + left + by) (part s (at + left) (n - left))
+
+pub move-none : (s : List ℕ) (at n by : ℕ) → at + n + by ≤ length s → s ≡ moved s at n by n
+move-none s at n by h = let z : n - n ≡ 0 = omega arith in rw z (sym (pasted-none s (at + n + by) h))
+
+pub move-more : (s0 s s′ : List ℕ) (at n by left c : ℕ) → c ≤ left → left ≤ n → at + n + by ≤ length s0
+    → s ≡ moved s0 at n by left → s′ ≡ pasted s (at + (left - c) + by) (part s (at + (left - c)) c) → s′ ≡ moved s0 at n by (left - c)
+move-more s0 s s′ at n by left c h j f e g =
+    let k = at + (left - c) in
+    let p : at + left ≡ k + c = omega arith in
+    let q : at + left + by ≡ k + by + c = omega arith in
+    let m : n - (left - c) ≡ c + (n - left) = omega arith in
+    let ys = part s0 (at + left) (n - left) in
+    let y : length ys ≡ n - left = part-length s0 (at + left) (n - left) (omega arith) in
+    let x : length (part s0 k c) ≡ c = part-length s0 k c (omega arith) in
+    let r : part s k c ≡ part s0 k c = ap (λ (t : List ℕ). part t k c) e ∙ part-pasted s0 (at + left + by) ys k c (omega arith) (omega arith) in
+    let w : part s0 k c ++ ys ≡ part s0 k (n - (left - c)) = ap (λ (i : ℕ). part s0 k c ++ part s0 i (n - left)) p ∙ glue s0 k c (n - left) ∙ ap (part s0 k) (sym m) in
+    g ∙ (λ i. pasted (e i) (k + by) (r i)) ∙ ap (λ (i : ℕ). pasted (pasted s0 i ys) (k + by) (part s0 k c)) q
+    ∙ pasted-before s0 (k + by) c (part s0 k c) ys x (omega arith) ∙ ap (pasted s0 (k + by)) w
+
+pub move-fits : (s s′ : List ℕ) (at n by : ℕ) → at + n + by ≤ length s → s′ ≡ pasted s (at + by) (part s at n) → s′ ≡ written s (at + by) (part s at n)
+move-fits s s′ at n by h e = let l = part-length s at n (omega arith) in e ∙ sym (written-fits s (at + by) (part s at n) (omega arith))
+
+-- bytes that aren't all there, or for which there is no room
+pub move-unfit : (s : List ℕ) (at n by : ℕ) → length s < at + n + by → s ≡ written s (at + by) (part s at n)
+move-unfit s at n by h =
+    let xs = part s at n in
+    let l : length xs ≡ min n (length s - at) = simp (length-take, length-drop) in
+    cases (leb (at + by + length xs) (length s))
+    (λ t.
+    let j = leb-true (at + by + length xs) (length s) t in
+    let z : at + by ≡ at = omega arith in
+    let all : xs ≡ part s at (length s - at) = take-all n (drop at s) (simp length-drop (omega arith)) ∙ sym (take-rest s at) in
+    sym (written-fits s (at + by) xs j ∙ (λ i. pasted s (z i) (all i)) ∙ sym (pasted-self s at (length s - at) (omega arith))))
+    (λ f. sym (written-not s (at + by) xs (leb-false (at + by + length xs) (length s) f)))
