@@ -65,8 +65,9 @@ extern "C" {
 #define CONTACTS_STATUS_SUCCESS 0x00
 #define CONTACTS_STATUS_NOT_FOUND 0x01        /* no live document with this key */
 #define CONTACTS_STATUS_EXISTS 0x02           /* another CAS, a live document under Add, a with-meta write that loses */
-#define CONTACTS_STATUS_TOO_LARGE 0x03        /* a value of over 1,024 bytes */
+#define CONTACTS_STATUS_TOO_LARGE 0x03        /* a value of over 1,024 bytes, alone or joined */
 #define CONTACTS_STATUS_INVALID 0x04          /* a request against its command's form or field rules */
+#define CONTACTS_STATUS_NOT_STORED 0x05       /* no live document to append or prepend to */
 #define CONTACTS_STATUS_NOT_NUMERIC 0x06      /* a counter's value is no decimal number under 2^64 */
 #define CONTACTS_STATUS_NOT_MY_VBUCKET 0x07   /* another vbucket, or a table that isn't active */
 #define CONTACTS_STATUS_UNKNOWN_COMMAND 0x81
@@ -138,12 +139,18 @@ extern "C" {
 #define CONTACTS_OP_VERSION 0x0b              /* nothing */
 #define CONTACTS_OP_GETK 0x0c                 /* key, which the reply has too */
 #define CONTACTS_OP_GETKQ 0x0d
+#define CONTACTS_OP_APPEND 0x0e               /* key, a value of 0 bytes or more */
+#define CONTACTS_OP_PREPEND 0x0f              /* as Append */
 #define CONTACTS_OP_SETQ 0x11
 #define CONTACTS_OP_ADDQ 0x12
 #define CONTACTS_OP_REPLACEQ 0x13
 #define CONTACTS_OP_DELETEQ 0x14
 #define CONTACTS_OP_INCREMENTQ 0x15
 #define CONTACTS_OP_DECREMENTQ 0x16
+#define CONTACTS_OP_APPENDQ 0x19
+#define CONTACTS_OP_PREPENDQ 0x1a
+#define CONTACTS_OP_TOUCH 0x1c                /* 4 extras, key; never quiet */
+#define CONTACTS_OP_GET_AND_TOUCH 0x1d        /* as Touch */
 #define CONTACTS_OP_SET_WITH_META 0xa2        /* 24, 26, 28 or 30 extras, key, a value of 1 byte or more, meta */
 #define CONTACTS_OP_SETQ_WITH_META 0xa3
 #define CONTACTS_OP_ADD_WITH_META 0xa4        /* as Set with meta */
@@ -165,6 +172,10 @@ extern "C" {
 #define CONTACTS_COUNTER_AT_INITIAL 8         /* 8 bytes */
 #define CONTACTS_COUNTER_AT_EXPIRY 16         /* 4 bytes */
 #define CONTACTS_COUNTER_NO_INITIAL 0xffffffff
+
+/* Extras of Touch and Get-and-touch: an expiry, as Set's. */
+#define CONTACTS_TOUCH_EXTRAS 4
+#define CONTACTS_TOUCH_AT_EXPIRY 0            /* 4 bytes */
 
 /* Extras of Get Keys: the most keys to list, 1 or more. Without extras it is CONTACTS_KEYS_COUNT. */
 #define CONTACTS_KEYS_EXTRAS 4
@@ -291,7 +302,7 @@ contacts_purged contacts_purge(uint8_t *table, size_t table_len, uint32_t clock,
 /*
  * What a request is answered. Its status is the first of these that applies:
  *
- *   0x83, 0x81   the opcode isn't among those above: 0x83 for 07, 08, 0e, 0f, 10 and 17 to 1a
+ *   0x83, 0x81   the opcode isn't among those above: 0x83 for 07, 08, 10, 17 and 18
  *   0x04         the datatype isn't 0; extras and key are longer than the body; extras, key or value aren't what the
  *                command carries; the key is over 250 bytes; the later clock and a relative expiry pass 2^32 - 1, even
  *                where the expiry goes unused; the count of Get Keys is 0; with meta, also: CAS or revision out of
@@ -300,10 +311,12 @@ contacts_purged contacts_purge(uint8_t *table, size_t table_len, uint32_t clock,
  *   0x03         the value is over 1,024 bytes, extended meta not counted
  *   0x07         another vbucket, or a state that isn't active, save with option 0x01 in states 2 and 3. Noop and
  *                Version never have it
- *   0x01         the key isn't live, for Get, Replace, Delete, a counter without an initial number, and for every write
- *                whose header CAS isn't 0
- *   0x02         the key is live, for Add; its CAS is another than a write's header CAS that isn't 0; a with-meta write
- *                that is compared isn't greater
+ *   0x05         the key isn't live, for Append and Prepend, whatever their header CAS
+ *   0x01         the key isn't live, for Get, Replace, Delete, Touch, Get-and-touch, a counter without an initial number,
+ *                and for every other write whose header CAS isn't 0
+ *   0x02         the key is live, for Add; its CAS is another than a write's header CAS that isn't 0, but for Touch and
+ *                Get-and-touch, which ignore it; a with-meta write that is compared isn't greater
+ *   0x03         the document's value and an Append's or Prepend's are over 1,024 bytes together
  *   0x06         the counter's value isn't 1 to 20 digits of a number under 2^64
  *   0x84         the mark or the key's revision is 2^64 - 1, for a plain write; the mark is, under option 0x04
  *   0x82         the key has no row and no row is free
@@ -318,6 +331,9 @@ contacts_purged contacts_purge(uint8_t *table, size_t table_len, uint32_t clock,
  *   Increment  adds the delta, wrapping past 2^64 - 1 to 0; Decrement stops at 0. Either stores decimal digits and
  *              leaves flags and expiry. Where the key isn't live it stores the initial number, flags 0 and its own
  *              expiry. The reply's value is the number in 8 bytes
+ *   Append     puts its value after the document's, Prepend before it. Either leaves flags and expiry
+ *   Touch      stores its expiry and leaves value and flags. It replies a header, and Get-and-touch as Get does, both
+ *              with the new CAS. With an expiry that is past the document is expired from then on
  *   Noop       replies a header, and Version the value 4.0.0, both with CAS 0
  *   with meta  stores the document or tombstone with the numbers in its extras
  *   Get Keys   replies as its value, with CAS 0, the keys of live documents at or after its key, or all without one,
@@ -422,7 +438,7 @@ typedef struct contacts_request {
  *   outcome 2                the first byte isn't 0x80
  *   outcome 3                the body is over 1,400 bytes
  *   outcome 1                the frame isn't all there
- *   status 0x83              an opcode that this store leaves out: 07, 08, 0e, 0f, 10, 17 to 1a
+ *   status 0x83              an opcode that this store leaves out: 07, 08, 10, 17, 18
  *   status 0x81              any other opcode that isn't above
  *   status 0x04              a request against its command's form or field rules, but for the two that need mode or
  *                            clock: option 0x02, and the sum of a clock and a relative expiry

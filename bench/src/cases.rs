@@ -1,7 +1,7 @@
 //! What is served on what: a table, free or full, and a request.
 
 use contact_tests::answers::Tally;
-use contact_tests::frame::{meta_extras, plain_extras, Frame};
+use contact_tests::frame::{meta_extras, plain_extras, touch_extras, Frame};
 use contact_tests::rendering;
 use contacts::{opcode, Mode, State, Status};
 
@@ -15,6 +15,9 @@ const ALIKE: usize = 200;
 const SHORT: usize = 8;
 const LONG: usize = 250;
 const VALUE: [u8; 512] = [b'v'; 512];
+/// What an append or prepend finds, and what it adds.
+const LONG_VALUE: [u8; 1_000] = [b'v'; 1_000];
+const ADDED: [u8; 8] = [b'w'; 8];
 
 #[derive(Clone, Copy, Debug, PartialEq, Eq)]
 pub enum Fill {
@@ -29,24 +32,29 @@ pub enum Fill {
     FirstByte,
 }
 
-/// A table of revision mode, filled with keys of one length.
+/// A table of revision mode, filled with keys of one length and one value.
 #[derive(Clone, Copy, Debug)]
 pub struct Table {
     pub rows: usize,
     pub fill: Fill,
     pub key: usize,
+    pub value: &'static [u8],
 }
 
 impl Table {
+    fn of(rows: usize, fill: Fill, key: usize) -> Table {
+        Table { rows, fill, key, value: &VALUE }
+    }
+
     /// The tables that the damage test is timed on.
     pub fn damage_tests() -> Vec<Table> {
         let mut tables = Vec::new();
         for rows in ROWS {
-            tables.push(Table { rows, fill: Fill::Free, key: SHORT });
+            tables.push(Table::of(rows, Fill::Free, SHORT));
             for key in [SHORT, LONG] {
-                tables.push(Table { rows, fill: Fill::Rising, key });
+                tables.push(Table::of(rows, Fill::Rising, key));
                 if rows > 1 {
-                    tables.push(Table { rows, fill: Fill::Scattered, key });
+                    tables.push(Table::of(rows, Fill::Scattered, key));
                 }
             }
         }
@@ -70,7 +78,7 @@ impl Table {
         rendering::make(&mut memory, self.rows, State::Active.number(), Mode::Revision.number(), 0);
         let mut reply = [0; contacts::REPLY_ROOM];
         for place in 0..self.used() {
-            let set = frame(opcode::SET, plain_extras(0, 0), self.key_at(place), &VALUE);
+            let set = frame(opcode::SET, plain_extras(0, 0), self.key_at(place), self.value);
             rendering::serve(&mut memory, CLOCK, &set, &mut reply, &mut Tally::default());
         }
         memory
@@ -112,13 +120,18 @@ pub enum Request {
     /// With an earlier clock than the kept one.
     GetHitEarlier,
     SetEarlier,
+    /// Of 8 bytes to a value of 1,000.
+    Append,
+    Prepend,
+    Touch,
+    GetAndTouch,
     /// The owner's call.
     ReadHit,
     ReadMiss,
 }
 
 impl Request {
-    const ALL: [Request; 11] = [
+    const ALL: [Request; 15] = [
         Request::GetHit,
         Request::GetMiss,
         Request::Set,
@@ -128,6 +141,10 @@ impl Request {
         Request::GetKeys,
         Request::GetHitEarlier,
         Request::SetEarlier,
+        Request::Append,
+        Request::Prepend,
+        Request::Touch,
+        Request::GetAndTouch,
         Request::ReadHit,
         Request::ReadMiss,
     ];
@@ -143,6 +160,10 @@ impl Request {
             Request::GetKeys => "Get Keys",
             Request::GetHitEarlier => "Get, hit, earlier clock",
             Request::SetEarlier => "Set, earlier clock",
+            Request::Append => "Append of 8 to 1,000",
+            Request::Prepend => "Prepend of 8 to 1,000",
+            Request::Touch => "Touch",
+            Request::GetAndTouch => "Get-and-touch",
             Request::ReadHit => "Read, hit",
             Request::ReadMiss => "Read, miss",
         }
@@ -160,7 +181,7 @@ impl Request {
         matches!(self, Request::ReadHit | Request::ReadMiss)
     }
 
-    /// A free table has nothing to hit or to lose against, and Noop and Get Keys have no key. An earlier clock is timed on
+    /// A free table has nothing to hit, to join, to touch or to lose against, and Noop and Get Keys have no key. An earlier clock is timed on
     /// one table, the search for a key where keys are alike.
     fn suits(self, table: &Table) -> bool {
         if table.rows == ALIKE {
@@ -169,9 +190,18 @@ impl Request {
         match self {
             Request::ReadHit | Request::ReadMiss => false,
             Request::GetHit | Request::SetWithMetaRefused => !table.is_free(),
+            Request::Append | Request::Prepend | Request::Touch | Request::GetAndTouch => !table.is_free(),
             Request::Noop | Request::GetKeys => !table.is_free() || table.key == SHORT,
             Request::GetMiss | Request::Set | Request::SetWithMeta => true,
             Request::GetHitEarlier | Request::SetEarlier => table.rows == 32 && !table.is_free() && table.key == SHORT,
+        }
+    }
+
+    /// The table with what the request is to find.
+    fn on(self, table: Table) -> Table {
+        match self {
+            Request::Append | Request::Prepend => Table { value: &LONG_VALUE, ..table },
+            _ => table,
         }
     }
 }
@@ -187,18 +217,18 @@ impl Case {
         let mut tables = Vec::new();
         for rows in ROWS {
             for fill in [Fill::Free, Fill::Rising] {
-                tables.extend([SHORT, LONG].map(|key| Table { rows, fill, key }));
+                tables.extend([SHORT, LONG].map(|key| Table::of(rows, fill, key)));
             }
         }
-        tables.extend([Fill::LastByte, Fill::FirstByte].map(|fill| Table { rows: ALIKE, fill, key: LONG }));
+        tables.extend([Fill::LastByte, Fill::FirstByte].map(|fill| Table::of(ALIKE, fill, LONG)));
         let mut cases = Vec::new();
         for table in tables {
             let suited = Request::ALL.into_iter().filter(|request| request.suits(&table));
-            cases.extend(suited.map(|request| Case { table, request }));
+            cases.extend(suited.map(|request| Case { table: request.on(table), request }));
         }
         // The order of the rows counts where keys are sorted.
         for key in [SHORT, LONG] {
-            let table = Table { rows: 256, fill: Fill::Scattered, key };
+            let table = Table::of(256, Fill::Scattered, key);
             cases.push(Case { table, request: Request::GetKeys });
         }
         cases
@@ -230,6 +260,10 @@ impl Case {
             Request::Set | Request::SetEarlier => frame(opcode::SET, plain_extras(0, 0), key, &VALUE),
             Request::SetWithMeta => set_with_meta(key, 2),
             Request::SetWithMetaRefused => set_with_meta(key, 0),
+            Request::Append => frame(opcode::APPEND, vec![], key, &ADDED),
+            Request::Prepend => frame(opcode::PREPEND, vec![], key, &ADDED),
+            Request::Touch => frame(opcode::TOUCH, touch_extras(DAY), key, &[]),
+            Request::GetAndTouch => frame(opcode::GET_AND_TOUCH, touch_extras(DAY), key, &[]),
             Request::Noop => frame(opcode::NOOP, vec![], vec![], &[]),
             Request::GetKeys => frame(opcode::GET_KEYS, vec![], vec![], &[]),
         }

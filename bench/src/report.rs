@@ -74,7 +74,7 @@ fn serving_line(Case { table, request }: &Case, times: &Times) -> String {
 }
 
 fn damage_line(table: &Table, times: &Times) -> String {
-    let Table { rows, fill, key } = *table;
+    let Table { rows, fill, key, .. } = *table;
     let keys = match fill {
         Fill::Free => "none".to_string(),
         Fill::Rising => format!("{rows} of {key} bytes, rising"),

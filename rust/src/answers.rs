@@ -59,10 +59,12 @@ pub enum Status {
     NotFound = 0x01,
     /// Another CAS, a live document under Add, or a with-meta write that loses.
     Exists = 0x02,
-    /// A value of over 1,024 bytes.
+    /// A value of over 1,024 bytes, alone or joined.
     TooLarge = 0x03,
     /// A request against its command's form or field rules.
     Invalid = 0x04,
+    /// No live document to append or prepend to.
+    NotStored = 0x05,
     /// A counter's value is no decimal number under 2^64.
     NotNumeric = 0x06,
     /// Another vbucket, or a table that isn't active.
@@ -79,12 +81,13 @@ pub enum Status {
 
 impl Status {
     /// Every status, by number.
-    pub const ALL: [Status; 11] = [
+    pub const ALL: [Status; 12] = [
         Status::Success,
         Status::NotFound,
         Status::Exists,
         Status::TooLarge,
         Status::Invalid,
+        Status::NotStored,
         Status::NotNumeric,
         Status::NotMyVbucket,
         Status::UnknownCommand,
@@ -116,6 +119,7 @@ impl fmt::Display for Status {
             Status::Exists => "key exists",
             Status::TooLarge => "value too large",
             Status::Invalid => "invalid arguments",
+            Status::NotStored => "not stored",
             Status::NotNumeric => "value is not numeric",
             Status::NotMyVbucket => "not my vbucket",
             Status::UnknownCommand => "unknown command",

@@ -25,6 +25,10 @@ pub const VERSION: u8 = 0x0b;
 pub const GETK: u8 = 0x0c;
 /// Quiet [`GETK`].
 pub const GETKQ: u8 = 0x0d;
+/// Key, a value of 0 bytes or more that is put after the document's. Flags and expiry stay.
+pub const APPEND: u8 = 0x0e;
+/// As [`APPEND`], before the document's value.
+pub const PREPEND: u8 = 0x0f;
 /// Quiet [`SET`].
 pub const SETQ: u8 = 0x11;
 /// Quiet [`ADD`].
@@ -37,6 +41,14 @@ pub const DELETEQ: u8 = 0x14;
 pub const INCREMENTQ: u8 = 0x15;
 /// Quiet [`DECREMENT`].
 pub const DECREMENTQ: u8 = 0x16;
+/// Quiet [`APPEND`].
+pub const APPENDQ: u8 = 0x19;
+/// Quiet [`PREPEND`].
+pub const PREPENDQ: u8 = 0x1a;
+/// 4 extras (expiry), key. Gives a live document another expiry, whatever the header CAS. Never quiet.
+pub const TOUCH: u8 = 0x1c;
+/// As [`TOUCH`], with the reply of [`GET`] and the new CAS.
+pub const GET_AND_TOUCH: u8 = 0x1d;
 /// 24, 26, 28 or 30 extras, key, a value of 1 byte or more, extended meta.
 pub const SET_WITH_META: u8 = 0xa2;
 /// Quiet [`SET_WITH_META`].

@@ -13,7 +13,7 @@ pub struct Fields {
     pub vbucket: u16,
     /// Echoed in the reply.
     pub opaque: u32,
-    /// The CAS that the document has to have; 0 asks for none.
+    /// The CAS that the document has to have, for a write other than a touch; 0 asks for none.
     pub cas: Cas,
 }
 

@@ -15,13 +15,14 @@ fn outcomes_have_their_numbers() {
 
 #[test]
 fn statuses_have_their_numbers() {
-    let numbers = [0x00, 0x01, 0x02, 0x03, 0x04, 0x06, 0x07, 0x81, 0x82, 0x83, 0x84];
+    let numbers = [0x00, 0x01, 0x02, 0x03, 0x04, 0x05, 0x06, 0x07, 0x81, 0x82, 0x83, 0x84];
     assert_eq!(Status::ALL.map(Status::number), numbers);
     assert_eq!(Status::Success.number(), 0x00);
     assert_eq!(Status::NotFound.number(), 0x01);
     assert_eq!(Status::Exists.number(), 0x02);
     assert_eq!(Status::TooLarge.number(), 0x03);
     assert_eq!(Status::Invalid.number(), 0x04);
+    assert_eq!(Status::NotStored.number(), 0x05);
     assert_eq!(Status::NotNumeric.number(), 0x06);
     assert_eq!(Status::NotMyVbucket.number(), 0x07);
     assert_eq!(Status::UnknownCommand.number(), 0x81);
@@ -35,7 +36,7 @@ fn a_number_names_one_outcome_and_one_status_or_none() {
     for number in 0..=255 {
         let outcome = (1..=5).contains(&number);
         assert_eq!(Outcome::from_number(number).map(Outcome::number), outcome.then_some(number));
-        let status = matches!(number, 0x00..=0x04 | 0x06..=0x07 | 0x81..=0x84);
+        let status = matches!(number, 0x00..=0x07 | 0x81..=0x84);
         assert_eq!(Status::from_number(number).map(Status::number), status.then_some(number));
     }
 }

@@ -94,6 +94,8 @@ fn every_status_is_answered_and_a_refused_request_changes_nothing() {
         (&stored, frame_of(&other_cas, &[], b"k", &[]), Status::Exists),
         (&stored, oversized, Status::TooLarge),
         (&stored, header(0x80, opcode::GET, 0), Status::Invalid),
+        (&stored, frame_of(&fields(opcode::APPEND), &[], b"k", &[b'x'; 1021]), Status::TooLarge),
+        (&stored, frame_of(&fields(opcode::PREPENDQ), &[], b"other", b"x"), Status::NotStored),
         (&stored, frame_of(&fields(opcode::INCREMENT), &COUNTER, b"k", &[]), Status::NotNumeric),
         (&stored, frame_of(&elsewhere, &[], b"k", &[]), Status::NotMyVbucket),
         (&stored, header(0x80, 0xff, 0), Status::UnknownCommand),

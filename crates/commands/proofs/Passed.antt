@@ -12,8 +12,10 @@ pub record Passed (x : Tests) : Type 0 where
   pub fault : x .fault ≡ false
   pub long : x .long ≡ false
   pub elsewhere : x .elsewhere ≡ false
+  pub unstored : x .unstored ≡ false
   pub missing : x .missing ≡ false
   pub conflict : x .conflict ≡ false
+  pub joined : x .joined ≡ false
   pub number : x .number ≡ false
   pub spent : x .spent ≡ false
   pub full : x .full ≡ false
@@ -28,9 +30,11 @@ passed x e =
     let (e1, e) = clear _ 0x04 _ refl e in
     let (e2, e) = clear _ 0x03 _ refl e in
     let (e3, e) = clear _ 0x07 _ refl e in
-    let (e4, e) = clear _ 0x01 _ refl e in
-    let (e5, e) = clear _ 0x02 _ refl e in
-    let (e6, e) = clear _ 0x06 _ refl e in
-    let (e7, e) = clear _ 0x84 _ refl e in
-    let (e8, e) = clear _ 0x82 _ refl e in
-    record { fault = e1; long = e2; elsewhere = e3; missing = e4; conflict = e5; number = e6; spent = e7; full = e8 }
+    let (e4, e) = clear _ 0x05 _ refl e in
+    let (e5, e) = clear _ 0x01 _ refl e in
+    let (e6, e) = clear _ 0x02 _ refl e in
+    let (e7, e) = clear _ 0x03 _ refl e in
+    let (e8, e) = clear _ 0x06 _ refl e in
+    let (e9, e) = clear _ 0x84 _ refl e in
+    let (e10, e) = clear _ 0x82 _ refl e in
+    record { fault = e1; long = e2; elsewhere = e3; unstored = e4; missing = e5; conflict = e6; joined = e7; number = e8; spent = e9; full = e10 }

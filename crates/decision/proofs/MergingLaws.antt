@@ -23,9 +23,9 @@ not-add Set s = refl
 not-add Add s = absurd s
 not-add Delete s = refl
 
-source-bytes : (tomb : Bool) (frame : List ℕ) → bytesFrom (cond tomb Empty Frame) frame ≡ cond tomb [] frame
-source-bytes true frame = refl
-source-bytes false frame = refl
+source-bytes : (tomb : Bool) (frame stored : List ℕ) → bytesFrom (cond tomb Empty Frame) frame stored ≡ cond tomb [] frame
+source-bytes true frame stored = refl
+source-bytes false frame stored = refl
 
 same-beq : (b : Bool) → not (Bool·beq b b) ≡ false
 same-beq true = refl

@@ -8,7 +8,7 @@ use Rattle.commands.specs.declared.Context.{Context}
 use Rattle.commands.specs.declared.Instruction.{Instruction}
 use Rattle.effects.specs.declared.Done.{Done}
 use Rattle.commands.specs.declared.Command.{Command}
-use Rattle.commands.specs.declared.Command.the-variants.{Get, Write, Delete, Count, Noop, Version, WithMeta, GetKeys}
+use Rattle.commands.specs.declared.Command.the-variants.{Get, Write, Delete, Count, Noop, Version, WithMeta, GetKeys, Join, Touch}
 use Rattle.effects.specs.declared.Reply.the-variants.{Bare}
 use Rattle.commands.specs.Rules.{ruleOf, testsOf}
 use Rattle.effects.specs.Done.{nothing, doneOf}
@@ -21,7 +21,7 @@ either-none false x y p q = q
 
 module _ (c : Context) (i : Instruction) where
   abbrev freeAs : Bool → Context
-  freeAs free = record { head = c .head; row = c .row; free = free; clock = c .clock; number = c .number }
+  freeAs free = record { head = c .head; row = c .row; free = free; clock = c .clock; number = c .number; size = c .size }
 
   unread-by : (free : Bool) (x : Command) → i .command ≡ x → isMutation x ≡ false → decision c i ≡ decision (freeAs free) i
   unfolding decision ruleOf testsOf doneOf
@@ -33,6 +33,8 @@ module _ (c : Context) (i : Instruction) where
   unread-by free Version e w = rw e
   unread-by free (WithMeta m) e w = absurd (true≢false w)
   unread-by free (GetKeys n) e w = rw e
+  unread-by free (Join side) e w = absurd (true≢false w)
+  unread-by free (Touch t) e w = absurd (true≢false w)
 
   done-none : (x : Command) → isMutation x ≡ false → doneOf c x .store ≡ Nothing
   unfolding doneOf
@@ -44,6 +46,8 @@ module _ (c : Context) (i : Instruction) where
   done-none Version w = refl
   done-none (WithMeta m) w = absurd (true≢false w)
   done-none (GetKeys n) w = refl
+  done-none (Join side) w = absurd (true≢false w)
+  done-none (Touch t) w = absurd (true≢false w)
 
   free-rule : (free : Bool) (x : Command) → ruleOf c x ≡ ruleOf (freeAs free) x
   unfolding ruleOf
@@ -55,6 +59,8 @@ module _ (c : Context) (i : Instruction) where
   free-rule free Version = refl
   free-rule free (WithMeta m) = refl
   free-rule free (GetKeys n) = refl
+  free-rule free (Join side) = refl
+  free-rule free (Touch t) = refl
 
   free-done : (free : Bool) (x : Command) → doneOf c x ≡ doneOf (freeAs free) x
   unfolding doneOf
@@ -66,6 +72,8 @@ module _ (c : Context) (i : Instruction) where
   free-done free Version = refl
   free-done free (WithMeta m) = refl
   free-done free (GetKeys n) = refl
+  free-done free (Join side) = refl
+  free-done free (Touch t) = refl
 
   pub free-with-row : (free : Bool) → hasRow (c .row) ≡ true → decision c i ≡ decision (freeAs free) i
   unfolding decision testsOf

@@ -14,7 +14,7 @@ use Rattle.octets.specs.Parts.{part}
 use Rattle.octets.proofs.Choices.{cond-elim}
 use Rattle.octets.proofs.Lists.{part-length}
 use Rattle.shape.specs.Shapes.{commands, shapeOf}
-use Rattle.shape.proofs.ShapeLaws.{each-shape}
+use Rattle.shape.proofs.ShapeLaws.{same-shape}
 use Rattle.shape.specs.declared.Shape.{Shape}
 use Rattle.header.specs.declared.Header.{Header}
 use Rattle.with_meta.specs.WithMeta.{withMeta}
@@ -25,7 +25,7 @@ use Rattle.request.specs.Reading.{extrasSpan, valueSpan, bytesIn}
 use Rattle.commands.specs.declared.Instruction.{Instruction}
 use Rattle.decision.specs.Decide.{instructionOf}
 use Rattle.decode.specs.declared.Family.{Family}
-use Rattle.decode.specs.declared.Family.the-variants.{Bare, Stored, Counted, Carried, Listed}
+use Rattle.decode.specs.declared.Family.the-variants.{Bare, Stored, Counted, Carried, Listed, Touched}
 use Rattle.decode.specs.declared.Decoded.{Decoded}
 use Rattle.decode.specs.declared.Decoded.the-variants.{Broken, Whole}
 use Rattle.decode.specs.Decode.{familyOf, commandBy, commandOf, bareValue, instructionWith, decodedStatus, listDecoded, metaDecoded, decodedAs, decodedBy, requestOf}
@@ -51,6 +51,7 @@ plainly (Stored k) = true
 plainly (Counted up) = true
 plainly (Carried k) = false
 plainly Listed = true
+plainly (Touched shown) = true
 
 -- the rule on a count is a listing's alone
 counted : Family → List ℕ → Bool
@@ -59,66 +60,15 @@ counted (Stored k) extras = true
 counted (Counted up) extras = true
 counted (Carried k) extras = true
 counted Listed extras = not (eqb (countOf extras) 0)
+counted (Touched shown) extras = true
 
 metas : (op : ℕ) → eqb (shapeOf op .meta) 0 ≡ plainly (familyOf (shapeOf op .operation))
 unfolding commands plainly
-metas op =
-    each-shape (λ (s : Shape). eqb (s .meta) 0 ≡ plainly (familyOf (s .operation))) op (
-      (λ q. refl),
-      (
-        (λ q. refl),
-        (
-          (λ q. refl),
-          (
-            (λ q. refl),
-            (
-              (λ q. refl),
-              (
-                (λ q. refl),
-                (
-                  (λ q. refl),
-                  (
-                    (λ q. refl),
-                    ((λ q. refl), ((λ q. refl), ((λ q. refl), ((λ q. refl), ((λ q. refl), ((λ q. refl), tt)))))),
-                  ),
-                ),
-              ),
-            ),
-          ),
-        ),
-      ),
-    )
-    refl refl
+metas op = same-shape (λ (s : Shape). eqb (s .meta) 0) (λ (s : Shape). plainly (familyOf (s .operation))) op refl
 
 counts : (op : ℕ) (extras : List ℕ) → countOk (shapeOf op .extras) extras ≡ counted (familyOf (shapeOf op .operation)) extras
 unfolding commands counted
-counts op extras =
-    each-shape (λ (s : Shape). countOk (s .extras) extras ≡ counted (familyOf (s .operation)) extras) op (
-      (λ q. refl),
-      (
-        (λ q. refl),
-        (
-          (λ q. refl),
-          (
-            (λ q. refl),
-            (
-              (λ q. refl),
-              (
-                (λ q. refl),
-                (
-                  (λ q. refl),
-                  (
-                    (λ q. refl),
-                    ((λ q. refl), ((λ q. refl), ((λ q. refl), ((λ q. refl), ((λ q. refl), ((λ q. refl), tt)))))),
-                  ),
-                ),
-              ),
-            ),
-          ),
-        ),
-      ),
-    )
-    refl refl
+counts op extras = same-shape (λ (s : Shape). countOk (s .extras) extras) (λ (s : Shape). counted (familyOf (s .operation)) extras) op refl
 
 module _ (s : Shape) (h : Header) (extras value : List ℕ) where
   abbrev made : Family → ℕ → Instruction
@@ -133,6 +83,7 @@ module _ (s : Shape) (h : Header) (extras value : List ℕ) where
   by-family (Bare c) a e p m = p refl refl (ap (askIn a) e)
   by-family (Stored k) a e p m = p refl refl (ap (askIn a) e)
   by-family (Counted up) a e p m = p refl refl (ap (askIn a) e)
+  by-family (Touched shown) a e p m = p refl refl (ap (askIn a) e)
   by-family (Carried k) a e p m =
       cond-elim (withMetaOk (s .meta) (withMeta extras) value) _ _ _ e
       (λ u z. m refl refl u (ap (askIn a) z))
@@ -149,6 +100,7 @@ module _ (s : Shape) (h : Header) (extras value : List ℕ) where
   broken (Bare c) e = absurd (omega (arith, ap told e))
   broken (Stored k) e = absurd (omega (arith, ap told e))
   broken (Counted up) e = absurd (omega (arith, ap told e))
+  broken (Touched shown) e = absurd (omega (arith, ap told e))
   broken (Carried k) e =
       cond-elim (withMetaOk (s .meta) (withMeta extras) value) _ _ _ e
       (λ u z. absurd (omega (arith, ap told z)))

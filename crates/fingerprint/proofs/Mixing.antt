@@ -13,7 +13,7 @@ use borrow.Author.Tests.{le-leb, lt-leb, lt-ltb, le-ltb}
 use Rattle.octets.specs.Parts.{part}
 use Rattle.octets.specs.BigEndian.{num}
 use Rattle.octets.specs.Words.{wordAt}
-use Rattle.fingerprint.specs.Fingerprint.{mixed, laneOf, laneWith, joined, lanesOver, lanesAll, folded, fingerprint, printAmong}
+use Rattle.fingerprint.specs.Fingerprint.{mixed, laneOf, laneWith, bothLanes, lanesOver, lanesAll, folded, fingerprint, printAmong}
 use Rattle.fingerprint.specs.declared.Lane.{Lane}
 
 fits : (m q : ℕ) → m < 2 ^ 59 → q < 32 → m * 32 + q < 2 ^ 64
@@ -50,7 +50,7 @@ next-step key at a b h =
     ap (λ (n : ℕ). lanesOver n a b (drop at key)) e
     ∙ ap (lanesOver ((length key - 16 - (at + 16) + 15) / 16) (laneWith a (wordAt (part key at 16) 0)) (laneWith b (wordAt (part key at 16) 8))) (drop-drop 16 at key)
 
-pub last-step : (key : List ℕ) (at : ℕ) (a b : Lane) → length key - 16 ≤ at → left key at a b ≡ joined a b
+pub last-step : (key : List ℕ) (at : ℕ) (a b : Lane) → length key - 16 ≤ at → left key at a b ≡ bothLanes a b
 unfolding lanesOver
 last-step key at a b h = let e : (length key - 16 - at + 15) / 16 ≡ 0 = omega arith in ap (λ (n : ℕ). lanesOver n a b (drop at key)) e
 

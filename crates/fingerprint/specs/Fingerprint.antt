@@ -28,14 +28,14 @@ unfoldable pub laneWith : Lane → ℕ → Lane
 laneWith l w = record { words = (l .words + w) % 2 ^ 64; sums = (l .sums + (l .words + w) % 2 ^ 64) % 2 ^ 64 }
 
 -- two lanes as one number
-unfoldable pub joined : Lane → Lane → ℕ
+unfoldable pub bothLanes : Lane → Lane → ℕ
 unfolding mixed
-joined a b = mixed (mixed (a .sums) (a .words)) (mixed (b .sums) (b .words))
+bothLanes a b = mixed (mixed (a .sums) (a .words)) (mixed (b .sums) (b .words))
 
 -- two lanes over n steps of sixteen bytes each: one has the first word of every step, the other the second
 unfoldable pub lanesOver : ℕ → Lane → Lane → List ℕ → ℕ
-unfolding laneWith joined wordAt
-lanesOver zero a b key = joined a b
+unfolding laneWith bothLanes wordAt
+lanesOver zero a b key = bothLanes a b
 lanesOver (suc n) a b key = lanesOver n (laneWith a (wordAt (part key 0 16) 0)) (laneWith b (wordAt (part key 0 16) 8)) (drop 16 key)
 
 -- the last sixteen bytes, and every sixteen from the front until those are reached

@@ -1,6 +1,6 @@
 // Fingerprints: a number that equal keys share, so that two keys are compared only where their fingerprints agree.
 ghost use mathlib.Core.Path.{_≡_};
-ghost use Rattle.fingerprint.specs.Fingerprint.{turned, mixed, laneOf, laneWith, joined, folded, fingerprint, bucketOf, printAmong};
+ghost use Rattle.fingerprint.specs.Fingerprint.{turned, mixed, laneOf, laneWith, bothLanes, folded, fingerprint, bucketOf, printAmong};
 
 // The bits of p turned by five.
 fn turned(p: u64) -> u64
@@ -39,8 +39,8 @@ fn further(l: Lane, w: u64) -> Lane
 }
 
 // Two lanes as one number.
-fn joined(a: Lane, b: Lane) -> u64
-    ensures { λ r. ⌜ r ≡ joined a b ⌝ }
+fn both_lanes(a: Lane, b: Lane) -> u64
+    ensures { λ r. ⌜ r ≡ bothLanes a b ⌝ }
 {
     mix(mix(a.sums, a.words), mix(b.sums, b.words))
 }
@@ -75,7 +75,7 @@ pub fn of_key(key: &[u8]) -> u32
         b = further(b, octets::word(step, 8));
         at = end;
     }
-    folded(joined(a, b))
+    folded(both_lanes(a, b))
 }
 
 // Which of 1,024 buckets a fingerprint falls in.

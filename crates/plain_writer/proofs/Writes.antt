@@ -1,47 +1,58 @@
--- What storing an entry in the row at a place leaves.
+-- What storing an entry in the row at a place leaves, and joining a value to the one that it holds.
 use Prim.Native.Nat.{ℕ, _+_, _-_, _*_, _≤_, _<_}
 use mathlib.Core.Path.{_≡_, sym, ap, _∙_}
-use mathlib.Core.Bool.{false, and-false}
 use mathlib.Core.List.{List}
 use native.Mathlib.Omega.{arith}
-use lib.Dec.{leb}
 use lib.ListN.{length, take, drop}
 use lib.Seq.{drop-drop}
 use borrow.Rule.Slice.PartMut.{putMid}
-use borrow.Author.Tests.{lt-ltb, le-ltb, le-leb}
-use Rattle.octets.specs.Parts.{pasted, written}
-use Rattle.octets.specs.BigEndian.{bytesOf}
-use Rattle.octets.proofs.Lists.{length-pasted, written-fits}
-use Rattle.octets.proofs.Numbers.{length-bytes}
-use Rattle.document.specs.Documents.{Entry}
+use borrow.Author.Tests.{lt-ltb, le-ltb}
+use Rattle.octets.specs.Parts.{pasted}
+use Rattle.document.specs.declared.Metadata.{Metadata}
+use Rattle.document.specs.declared.Side.{Side}
+use Rattle.document.specs.Documents.{Key, Entry}
 use Rattle.rows.specs.Table.{rowCount, rowAt}
-use Rattle.row_writer.specs.Over.{overBytes, overRow}
+use Rattle.row_writer.specs.Over.{overBytes, overRow, joinedBytes, joinedRow}
 use Rattle.rows.proofs.OneRow.{row-cut, row-there, row-size}
 use Rattle.row_writer.proofs.Writes.{length-over, over-one}
-use Rattle.plain_writer.specs.Change.{rowStored}
+use Rattle.row_writer.proofs.Joined.{length-joined, join-one}
+use Rattle.plain_writer.specs.Change.{rowStored, rowJoined}
 
-module _ (b : List ℕ) (i : ℕ) (e : Entry) where
+module _ (b : List ℕ) (i : ℕ) where
   abbrev at : ℕ
   at = 16 + i * 1312
 
-  -- the row is lent, and comes back with the entry over it
-  module _ (old : ℕ) where
-    module _ (h : i < rowCount b) where
-      over-length : length (overBytes (rowAt b i) e old) ≡ 1312
-      over-length = length-over (rowAt b i) e old ∙ row-size b i h
+  -- the row is lent, and comes back with what a writer makes of it
+  row-lent : i < rowCount b → (f : List ℕ → List ℕ) (o r : List ℕ) → f (rowAt b i) ≡ o → length o ≡ length (rowAt b i) → r ≡ f (take (at + 1312 - at) (drop at b))
+      → putMid at (at + 1312 - at) b r ≡ pasted b at o
+  unfolding pasted
+  row-lent h f o r w l p =
+      let q : r ≡ o = p ∙ ap f (row-cut b at ∙ sym (row-there b i h)) ∙ w in
+      let n : at + 1312 - at ≡ length o = omega (arith, l, row-size b i h) in
+      rw (q, n, drop-drop (length o) at b)
 
-      row-lent : (r : List ℕ) → r ≡ overRow (take (at + 1312 - at) (drop at b)) e old → putMid at (at + 1312 - at) b r ≡ pasted b at (overBytes (rowAt b i) e old)
-      unfolding pasted
-      row-lent r p =
-          let o = overBytes (rowAt b i) e old in
-          let f : r ≡ o = p ∙ ap (λ (t : List ℕ). overRow t e old) (row-cut b at ∙ sym (row-there b i h)) ∙ over-one (rowAt b i) e old (row-size b i h) in
-          let n : at + 1312 - at ≡ length o = omega (arith, over-length) in
-          rw (f, n, drop-drop (length o) at b)
-
-      pub put-there : (r : List ℕ) → r ≡ overRow (take (at + 1312 - at) (drop at b)) e old → putMid at (at + 1312 - at) b r ≡ rowStored b i e old
-      unfolding rowStored
-      put-there r p = row-lent r p ∙ rw (lt-ltb i (rowCount b) h)
+  -- an entry over it
+  module _ (e : Entry) (old : ℕ) where
+    pub put-there : i < rowCount b → (r : List ℕ) → r ≡ overRow (take (at + 1312 - at) (drop at b)) e old → putMid at (at + 1312 - at) b r ≡ rowStored b i e old
+    unfolding rowStored
+    put-there h r p =
+        row-lent h (λ s. overRow s e old) (overBytes (rowAt b i) e old) r (over-one (rowAt b i) e old (row-size b i h)) (length-over (rowAt b i) e old) p
+        ∙ rw (lt-ltb i (rowCount b) h)
 
     pub put-nowhere : rowCount b ≤ i → b ≡ rowStored b i e old
     unfolding rowStored
     put-nowhere h = rw (le-ltb i (rowCount b) h)
+
+  -- a value joined to the one that it holds
+  module _ (key : Key) (m : Metadata) (side : Side) (value : List ℕ) (old : ℕ) where
+    pub join-there : i < rowCount b → (r : List ℕ) → r ≡ joinedRow (take (at + 1312 - at) (drop at b)) key m side value old
+        → putMid at (at + 1312 - at) b r ≡ rowJoined b i key m side value old
+    unfolding rowJoined
+    join-there h r p =
+        let w = rowAt b i in
+        row-lent h (λ s. joinedRow s key m side value old) (joinedBytes w key m side value old) r (join-one w key m value old side (row-size b i h)) (length-joined w key m value old side) p
+        ∙ rw (lt-ltb i (rowCount b) h)
+
+    pub join-nowhere : rowCount b ≤ i → b ≡ rowJoined b i key m side value old
+    unfolding rowJoined
+    join-nowhere h = rw (le-ltb i (rowCount b) h)

@@ -1,2 +1,3 @@
 pub mod Writes
 pub mod Over
+pub mod Joined

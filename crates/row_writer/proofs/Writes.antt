@@ -1,19 +1,19 @@
 -- What writing a head, and an entry over a row, leaves.
 use Prim.Native.Nat.{ℕ, _+_, _-_, _≤_, _<_}
 use mathlib.Core.Path.{_≡_, refl, sym, ap, _∙_}
-use mathlib.Core.Bool.{false}
-use mathlib.Core.List.{List, _++_}
+use mathlib.Core.List.{List, _++_, append-assoc}
 use native.Mathlib.Omega.{arith}
 use native.Mathlib.Nat.{add-assoc}
-use lib.Dec.{eqb}
-use lib.ListN.{length, replicate, length-append, length-replicate}
+use lib.ListN.{length, replicate, length-append}
 use borrow.Author.Tests.{eq-eqb, ne-eqb}
 use Rattle.octets.specs.Parts.{written}
 use Rattle.octets.specs.BigEndian.{bytesOf}
 use Rattle.octets.proofs.Lists.{length-written, written-none, written-not, then, then-two}
-use Rattle.document.specs.Documents.{Entry}
+use Rattle.document.specs.Documents.{Key, Entry}
 use Rattle.document.specs.declared.Head.{Head}
-use Rattle.rows.specs.Row.{sizeBytes, shortBytes, longBytes, slotBytes, slotFor}
+use Rattle.document.specs.declared.Metadata.{Metadata}
+use Rattle.rows.specs.declared.Slot.{Slot}
+use Rattle.rows.specs.Row.{sizeBytes, shortBytes, longBytes, slotBytes, slotFor, kindOf}
 use Rattle.rows.specs.Table.{headBytes}
 use Rattle.rows.proofs.Heads.{head-length}
 use Rattle.row_writer.specs.Over.{overBytes, overRow}
@@ -39,23 +39,39 @@ pub length-body : (e : Entry) → length (slotBytes (slotFor e) ++ (e .key ++ e 
 unfolding slotBytes sizeBytes shortBytes longBytes bytesOf
 length-body e = simp length-append (omega arith)
 
--- the writes over a row: the fixed part, the key, the value, and zeros where the value before was longer
-module _ (e : Entry) (room : length (e .key) + length (e .doc .value) ≤ 1280) (old : ℕ) (s0 s1 s2 s3 : List ℕ) (l : length s0 ≡ 1312)
-    (p : s1 ≡ written s0 0 (slotBytes (slotFor e))) (q : s2 ≡ written s1 32 (e .key)) (r : s3 ≡ written s2 (32 + length (e .key)) (e .doc .value)) where
-  row-put : s3 ≡ written s0 0 (slotBytes (slotFor e) ++ (e .key ++ e .doc .value))
-  unfolding slotBytes sizeBytes shortBytes longBytes bytesOf
-  row-put = then-two s0 s1 s2 s3 0 32 (32 + length (e .key)) (slotBytes (slotFor e)) (e .key) (e .doc .value) p q r refl refl (omega arith)
+-- the fixed part of a row whose value has so many bytes
+abbrev pub slotSized : Key → Metadata → ℕ → Slot
+slotSized key m n = record { kind = kindOf (m .tomb); keylen = length key; vallen = n; numbers = m .numbers }
 
-  pub row-zeroed : (s4 : List ℕ) → s4 ≡ written s3 (32 + length (e .key) + length (e .doc .value)) (replicate (old - length (e .doc .value)) 0) → s4 ≡ overBytes s0 e old
-  unfolding overBytes
-  row-zeroed s4 t = t ∙ rw (row-put, add-assoc 32 (length (e .key)) (length (e .doc .value)))
+-- a row's fixed part and key, and what is written at a place after them
+pub parts-put : (h : Slot) (key : Key) (s0 s1 s2 s3 : List ℕ) (at : ℕ) (xs : List ℕ) → length s0 ≡ 1312 → length key ≤ 1280
+    → s1 ≡ written s0 0 (slotBytes h) → s2 ≡ written s1 32 key → s3 ≡ written s2 at xs → s3 ≡ written (written s0 0 (slotBytes h ++ key)) at xs
+unfolding slotBytes sizeBytes shortBytes longBytes bytesOf
+parts-put h key s0 s1 s2 s3 at xs l k p q r = r ∙ ap (λ (s : List ℕ). written s at xs) (then s0 s1 s2 0 32 (slotBytes h) key p q refl (omega arith))
 
-  pub row-over : old ≤ length (e .doc .value) → s3 ≡ overBytes s0 e old
-  unfolding overBytes
-  row-over h =
-      let z : old - length (e .doc .value) ≡ 0 = omega arith in
-      let m : length s3 ≡ 1312 = ap length row-put ∙ length-written s0 0 (slotBytes (slotFor e) ++ (e .key ++ e .doc .value)) ∙ l in
-      rw (z, ← row-put) (sym (written-none s3 (32 + (length (e .key) + length (e .doc .value))) (omega arith)))
+pub length-front : (h : Slot) (key : Key) → length (slotBytes h ++ key) ≡ 32 + length key
+unfolding slotBytes sizeBytes shortBytes longBytes bytesOf
+length-front h key = simp length-append (omega arith)
+
+-- an entry's bytes written over a row, and zeros after them where the value before was longer
+module _ (e : Entry) (old : ℕ) (s0 s : List ℕ) where
+  pub row-put : length s0 ≡ 1312 → length (e .key) + length (e .doc .value) ≤ 1280
+      → s ≡ written (written s0 0 (slotBytes (slotFor e) ++ e .key)) (32 + length (e .key)) (e .doc .value) → s ≡ written s0 0 (slotBytes (slotFor e) ++ (e .key ++ e .doc .value))
+  row-put l room p =
+      let h = slotFor e in
+      rw append-assoc at (then s0 _ s 0 (32 + length (e .key)) (slotBytes h ++ e .key) (e .doc .value) refl p (omega (arith, length-front h (e .key))) (omega arith))
+
+  module _ (p : s ≡ written s0 0 (slotBytes (slotFor e) ++ (e .key ++ e .doc .value))) where
+    pub row-zeroed : (s4 : List ℕ) → s4 ≡ written s (32 + length (e .key) + length (e .doc .value)) (replicate (old - length (e .doc .value)) 0) → s4 ≡ overBytes s0 e old
+    unfolding overBytes
+    row-zeroed s4 t = t ∙ rw (p, add-assoc 32 (length (e .key)) (length (e .doc .value)))
+
+    pub row-over : length s0 ≡ 1312 → length (e .key) + length (e .doc .value) ≤ 1280 → old ≤ length (e .doc .value) → s ≡ overBytes s0 e old
+    unfolding overBytes
+    row-over l room h =
+        let z : old - length (e .doc .value) ≡ 0 = omega arith in
+        let m : length s ≡ 1312 = ap length p ∙ length-written s0 0 (slotBytes (slotFor e) ++ (e .key ++ e .doc .value)) ∙ l in
+        rw (z, ← p) (sym (written-none s (32 + (length (e .key) + length (e .doc .value))) (omega arith)))
 
 module _ (r : List ℕ) (e : Entry) (old : ℕ) where
   pub length-over : length (overBytes r e old) ≡ length r

@@ -51,7 +51,7 @@ use Rattle.table.specs.Calls.{hasPlace, lookupOf, storedBy, joinedBy}
 use Rattle.table.specs.Claims.{Finds}
 use Rattle.table.proofs.Looking.{finds-sound, lookup-head}
 use Rattle.table.proofs.Keeping.{head-put, clock-put, clock-good}
-use Rattle.table.proofs.Joining.{joins-good}
+use Rattle.table.proofs.Keeping.{joins-good}
 use Rattle.serving.specs.declared.Served.{Served}
 use Rattle.serving.specs.declared.Served.the-variants.{Done}
 use Rattle.serving.specs.Reply.{replyBytes}

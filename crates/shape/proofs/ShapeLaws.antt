@@ -1,7 +1,8 @@
 -- What holds of every command's shape, and of the two refusals, holds of every opcode's.
 use Prim.Native.Nat.{ℕ}
+use mathlib.Core.Path.{_≡_}
 use mathlib.Core.Bool.{Bool, true, false}
-use mathlib.Core.List.{List, [], _∷_}
+use mathlib.Core.List.{List, [], _∷_, map}
 use lib.Dec.{eqb}
 use Rattle.octets.proofs.Choices.{cases}
 use Rattle.shape.specs.declared.Operation.{Operation}
@@ -35,3 +36,29 @@ module _ {ℓ} (P : Shape → Type ℓ) (op : ℕ) where
   -- where it holds of whatever form a command has
   pub any-shape : ((o : Operation) (f : Form) (q : Bool) → P (shapeBy o f q)) → P (refused NotBuilt 0x83) → P (refused Unknown 0x81) → P (shapeOf op)
   any-shape p n u = each-shape (every p commands) n u
+
+-- the shapes of these commands, loud and quiet, then the two refusals
+abbrev pub shapes : List Command → List Shape
+shapes [] = refused NotBuilt 0x83 ∷ refused Unknown 0x81 ∷ []
+shapes (c ∷ cs) = shapeBy (c .operation) (c .form) false ∷ shapeBy (c .operation) (c .form) true ∷ shapes cs
+
+either-form {ℓ} : (P : Bool → Type ℓ) → P false → P true → (q : Bool) → P q
+either-form P l r false = l
+either-form P l r true = r
+
+-- two functions of a shape that one computed test shows to agree on each of these agree on every opcode's
+module _ {ℓ} {X : Type ℓ} (f g : Shape → X) (op : ℕ) where
+  abbrev Agree : Shape → Type ℓ
+  Agree s = f s ≡ g s
+
+  agree : (cs : List Command) → map f (shapes cs) ≡ map g (shapes cs) → Each Agree op cs × Agree (refused NotBuilt 0x83) × Agree (refused Unknown 0x81)
+  agree [] e = let n : Agree (refused NotBuilt 0x83) = cc in let u : Agree (refused Unknown 0x81) = cc in (tt, n, u)
+  agree (c ∷ cs) e =
+      let l : Agree (shapeBy (c .operation) (c .form) false) = cc in
+      let q : Agree (shapeBy (c .operation) (c .form) true) = cc in
+      let r : map f (shapes cs) ≡ map g (shapes cs) = cc in
+      let (a, n, u) = agree cs r in
+      ((either-form (λ b. Agree (shapeBy (c .operation) (c .form) b)) l q, a), n, u)
+
+  pub same-shape : map f (shapes commands) ≡ map g (shapes commands) → f (shapeOf op) ≡ g (shapeOf op)
+  same-shape e = let (a, n, u) = agree commands e in each-shape Agree op a n u

@@ -57,6 +57,10 @@ pub fn get(key: &[u8]) -> Vec<u8> {
     frame_of(&fields(opcode::GET), &[], key, &[])
 }
 
+pub fn append(key: &[u8], value: &[u8]) -> Vec<u8> {
+    frame_of(&fields(opcode::APPEND), &[], key, value)
+}
+
 pub fn delete(key: &[u8]) -> Vec<u8> {
     frame_of(&fields(opcode::DELETE), &[], key, &[])
 }

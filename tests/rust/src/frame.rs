@@ -55,6 +55,11 @@ pub fn counter_extras(delta: u64, initial: u64, expiry: u32) -> Vec<u8> {
     extras
 }
 
+/// The extras of Touch and Get-and-touch.
+pub fn touch_extras(expiry: u32) -> Vec<u8> {
+    expiry.to_be_bytes().to_vec()
+}
+
 /// The with-meta extras: 24 bytes, and the options and the meta length where given.
 pub fn meta_extras(
     (flags, expiry, revision, cas): (u32, u32, u64, u64),

@@ -4,7 +4,7 @@ mod boat;
 
 use boat::{but_for_the_kept_clock, count, keyed, set, Boat, LAST_WRITE_WINS, REVISION, STORES};
 use contact_tests::answers::{Purged, Served};
-use contact_tests::frame::{meta_extras, Frame};
+use contact_tests::frame::{meta_extras, touch_extras, Frame};
 
 const LAST: u32 = u32::MAX;
 const DAY: u32 = 86_400;
@@ -75,6 +75,10 @@ fn each_status() -> Vec<(u8, bool, Frame)> {
         (0x00, true, bare(0x0b)),
         (0x00, true, get_keys()),
         (0x00, true, with_meta(0xa2, (0, 0, 9, 9))),
+        (0x00, true, Frame { value: b"w".to_vec(), ..keyed(0x0e, "live") }),
+        (0x00, false, keyed(0x1a, "live")),
+        (0x00, true, Frame { extras: touch_extras(0), ..keyed(0x1c, "live") }),
+        (0x00, true, Frame { extras: touch_extras(0), ..keyed(0x1d, "live") }),
         (0x01, true, keyed(0x00, "none")),
         (0x01, false, keyed(0x09, "none")),
         (0x01, true, keyed(0x04, "none")),
@@ -83,6 +87,8 @@ fn each_status() -> Vec<(u8, bool, Frame)> {
         (0x03, true, set("live", &"v".repeat(1_025), 0)),
         (0x04, true, keyed(0x00, "")),
         (0x04, true, Frame { datatype: 1, ..bare(0x0a) }),
+        (0x05, true, keyed(0x0e, "none")),
+        (0x05, true, keyed(0x1a, "none")),
         (0x06, true, count(0x05, "live", 1, 0, 0)),
         (0x07, true, Frame { vbucket: 1, ..keyed(0x00, "live") }),
         (0x81, true, bare(0xff)),

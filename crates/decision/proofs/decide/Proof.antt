@@ -53,6 +53,18 @@ enum-known-command-5 c = search needs
 get-keys-requires : tie.Need-get-keys-requires
 get-keys-requires c κs = tt
 
+enum-known-command-6 : tie.Need-enum-known-command-6
+enum-known-command-6 c = search needs
+
+join-requires : tie.Need-join-requires
+join-requires c κs = tt
+
+enum-known-command-7 : tie.Need-enum-known-command-7
+enum-known-command-7 c = search needs
+
+touch-requires : tie.Need-touch-requires
+touch-requires c κs = tt
+
 returns : tie.Need-returns
 unfolding ruleOf doneOf
 returns c = by-command _ _ _ _ (c .before .before .command .given .1) (c .get .ensures)
@@ -85,6 +97,14 @@ returns-8 : tie.Need-returns-8
 unfolding ruleOf doneOf
 returns-8 c = by-command _ _ _ _ (c .before .before .command5 .given .1) (c .get-keys .ensures)
 
+returns-9 : tie.Need-returns-9
+unfolding ruleOf doneOf
+returns-9 c = by-command _ _ _ _ (c .before .before .command6 .given .1) (c .join .ensures)
+
+returns-10 : tie.Need-returns-10
+unfolding ruleOf doneOf
+returns-10 c = by-command _ _ _ _ (c .before .before .command7 .given .1) (c .touch .ensures)
+
 pub decide-spec : {M : Type 1} → statement M
 decide-spec =
     tie.close
@@ -105,6 +125,10 @@ decide-spec =
     with-meta-requires
     enum-known-command-5
     get-keys-requires
+    enum-known-command-6
+    join-requires
+    enum-known-command-7
+    touch-requires
     returns
     returns-2
     returns-3
@@ -112,4 +136,6 @@ decide-spec =
     returns-5
     returns-6
     returns-7
-    returns-8)
+    returns-8
+    returns-9
+    returns-10)

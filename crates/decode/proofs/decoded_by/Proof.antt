@@ -58,6 +58,15 @@ enum-told c = search needs
 list-decoded-requires : tie.Need-list-decoded-requires
 list-decoded-requires c κs = search needs
 
+enum-known-s : tie.Need-enum-known-s
+enum-known-s c = search needs
+
+touch-of-requires : tie.Need-touch-of-requires
+touch-of-requires c κs = search needs
+
+instruction-with-requires-4 : tie.Need-instruction-with-requires-4
+instruction-with-requires-4 c κs = search needs
+
 returns : tie.Need-returns
 returns c =
     let a = c .before .before .before .before .before .before .before .args in
@@ -87,6 +96,13 @@ returns-5 c =
     let a = c .before .before .before .before .before .before .args in
     c .list-decoded .ensures ∙ told (a .shape) (a .h) (now (a .extras)) (now (a .value)) _ _ (c .before .before .before .family-of .ensures) (c .before .enum-told .given .1)
 
+returns-6 : tie.Need-returns-6
+returns-6 c =
+    let a = c .before .before .before .before .before .before .before .before .args in
+    let made : Command → Instruction = λ x. instructionWith (a .shape) (a .h) x (length (now (a .value))) in
+    ap Whole (c .instruction-with4 .ensures ∙ ap made (c .before .touch-of .ensures))
+    ∙ told (a .shape) (a .h) (now (a .extras)) (now (a .value)) _ _ (c .before .before .before .before .before .family-of .ensures) (c .before .before .before .s .given .1)
+
 pub decoded-by-spec : {M : Type 1} → statement M
 decoded-by-spec =
     tie.close
@@ -104,8 +120,12 @@ decoded-by-spec =
     meta-decoded-requires
     enum-told
     list-decoded-requires
+    enum-known-s
+    touch-of-requires
+    instruction-with-requires-4
     returns
     returns-2
     returns-3
     returns-4
-    returns-5)
+    returns-5
+    returns-6)

@@ -6,7 +6,7 @@ use lib.ListN.{length, drop}
 use Rattle.octets.specs.Parts.{part}
 use Rattle.octets.specs.Words.{wordAt}
 use Rattle.octets.proofs.Lists.{take-rest}
-use Rattle.fingerprint.specs.Fingerprint.{mixed, laneOf, laneWith, joined, folded, fingerprint}
+use Rattle.fingerprint.specs.Fingerprint.{mixed, laneOf, laneWith, bothLanes, folded, fingerprint}
 use Rattle.fingerprint.proofs.Mixing.{left, short, middle, first-step, next-step, last-step}
 use borrow.Author.Needs.{needs}
 use Rattle.fingerprint.proofs.of_key.Statement.{statement}
@@ -122,8 +122,8 @@ loop-again c =
     let b = c .further2 .ensures ∙ ap (laneWith (l .b)) u in
     (omega arith, l .inv .1 ∙ ap folded (next-step key (l .at) (l .a) (l .b) (omega arith) ∙ sym (λ i. left key (l .at + 16) (a i) (b i))))
 
-joined-requires : tie.Need-joined-requires Inv-loop μ-loop
-joined-requires c κs = tt
+both-lanes-requires : tie.Need-both-lanes-requires Inv-loop μ-loop
+both-lanes-requires c κs = tt
 
 folded-requires-3 : tie.Need-folded-requires-3 Inv-loop μ-loop
 folded-requires-3 c κs = tt
@@ -132,7 +132,7 @@ returns-3 : tie.Need-returns-3 Inv-loop μ-loop
 returns-3 c =
     let l = c .before .before .before .loop in
     let key = c .before .before .before .before .before .before .before .before .before .before .before .before .args .key .now in
-    c .folded3 .ensures ∙ ap folded (c .before .joined .ensures) ∙ sym (l .inv .1 ∙ ap folded (last-step key (l .at) (l .a) (l .b) (omega arith)))
+    c .folded3 .ensures ∙ ap folded (c .before .both-lanes .ensures) ∙ sym (l .inv .1 ∙ ap folded (last-step key (l .at) (l .a) (l .b) (omega arith)))
 
 pub of-key-spec : {M : Type 1} → statement M
 of-key-spec =
@@ -168,6 +168,6 @@ of-key-spec =
     further-requires-2
     loop-less
     loop-again
-    joined-requires
+    both-lanes-requires
     folded-requires-3
     returns-3)

@@ -88,7 +88,7 @@ loop2-again c =
     let k = a .at + (m .left - 1) in (
       omega arith,
       length-set (m .out) (k + a .by) (getD (m .out) k 0) ∙ m .inv .1,
-      move-more (l .out) (m .out) _ (a .at) (l .left) (a .by) (m .left) 1 (c .before .loop2-test .taken) (m .inv .0) (omega arith) (m .inv .2)
+      move-more (l .out) (m .out) _ (a .at) (l .left) (a .by) (m .left) 1 (omega arith) (m .inv .0) (omega arith) (m .inv .2)
           (pasted-one (m .out) (k + a .by) k (omega arith) (omega arith)),
     )
 

@@ -21,6 +21,9 @@ enum-told-5 c = search needs
 count-of-requires : tie.Need-count-of-requires
 count-of-requires c κs = tt
 
+enum-told-6 : tie.Need-enum-told-6
+enum-told-6 c = search needs
+
 returns : tie.Need-returns
 returns c = rw (c .enum-told .given .1)
 
@@ -36,6 +39,9 @@ returns-4 c = rw (c .enum-told4 .given .1)
 returns-5 : tie.Need-returns-5
 returns-5 c = rw (c .before .enum-told5 .given .1, c .count-of .ensures)
 
+returns-6 : tie.Need-returns-6
+returns-6 c = rw (c .enum-told6 .given .1)
+
 pub count-ok-spec : {M : Type 1} → statement M
 count-ok-spec =
     tie.close
@@ -46,8 +52,10 @@ count-ok-spec =
     enum-told-4
     enum-told-5
     count-of-requires
+    enum-told-6
     returns
     returns-2
     returns-3
     returns-4
-    returns-5)
+    returns-5
+    returns-6)

@@ -1,4 +1,6 @@
 use mathlib.Core.Path.{_∙_}
+use lib.ListN.{length}
+use denote.Ref.{now}
 use Rattle.decision.specs.Decision.{decision}
 use borrow.Author.Needs.{needs}
 use Rattle.serve.proofs.decided.Statement.{statement}
@@ -22,6 +24,7 @@ returns c =
       free = c .before .before .has-place .ensures i;
       clock = a .clock;
       number = c .before .parse .ensures i;
+      size = length (now (a .old));
     }) (a .ask))
 
 pub decided-spec : {M : Type 1} → statement M

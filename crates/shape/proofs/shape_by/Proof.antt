@@ -121,12 +121,40 @@ returns-15 : tie.Need-returns-15
 unfolding numbered operations commands
 returns-15 c = rw (c .before .match .keys15) (c .key-listing .ensures)
 
-refused-requires-2 : tie.Need-refused-requires-2
-refused-requires-2 c κs = tt
+joining-requires : tie.Need-joining-requires
+joining-requires c κs = tt
 
 returns-16 : tie.Need-returns-16
 unfolding numbered operations commands
-returns-16 c =
+returns-16 c = rw (c .before .match .keys16) (c .joining .ensures)
+
+joining-requires-2 : tie.Need-joining-requires-2
+joining-requires-2 c κs = tt
+
+returns-17 : tie.Need-returns-17
+unfolding numbered operations commands
+returns-17 c = rw (c .before .match .keys17) (c .joining2 .ensures)
+
+touching-requires : tie.Need-touching-requires
+touching-requires c κs = tt
+
+returns-18 : tie.Need-returns-18
+unfolding numbered operations commands
+returns-18 c = rw (c .before .match .keys18) (c .touching .ensures)
+
+touching-requires-2 : tie.Need-touching-requires-2
+touching-requires-2 c κs = tt
+
+returns-19 : tie.Need-returns-19
+unfolding numbered operations commands
+returns-19 c = rw (c .before .match .keys19) (c .touching2 .ensures)
+
+refused-requires-2 : tie.Need-refused-requires-2
+refused-requires-2 c κs = tt
+
+returns-20 : tie.Need-returns-20
+unfolding numbered operations commands
+returns-20 c =
     let n = c .before .before .args .number in
     let q = c .before .before .args .quiet in
     let r = c .before .match .rest in
@@ -135,22 +163,26 @@ returns-16 c =
     (λ z. rw (eqb-true n 0 z))
     (λ z.
     let p0 = next 0 n (omega arith) (eqb-false n 0 z) in
-    let p1 = next 1 n p0 (r .0 .0 .0 .0 .0 .0 .0 .0 .0 .0 .0 .0 .0 .0 .1) in
-    let p2 = next 2 n p1 (r .0 .0 .0 .0 .0 .0 .0 .0 .0 .0 .0 .0 .0 .1) in
-    let p3 = next 3 n p2 (r .0 .0 .0 .0 .0 .0 .0 .0 .0 .0 .0 .0 .1) in
-    let p4 = next 4 n p3 (r .0 .0 .0 .0 .0 .0 .0 .0 .0 .0 .0 .1) in
-    let p5 = next 5 n p4 (r .0 .0 .0 .0 .0 .0 .0 .0 .0 .0 .1) in
-    let p6 = next 6 n p5 (r .0 .0 .0 .0 .0 .0 .0 .0 .0 .1) in
-    let p7 = next 7 n p6 (r .0 .0 .0 .0 .0 .0 .0 .0 .1) in
-    let p8 = next 8 n p7 (r .0 .0 .0 .0 .0 .0 .0 .1) in
-    let p9 = next 9 n p8 (r .0 .0 .0 .0 .0 .0 .1) in
-    let p10 = next 10 n p9 (r .0 .0 .0 .0 .0 .1) in
-    let p11 = next 11 n p10 (r .0 .0 .0 .0 .1) in
-    let p12 = next 12 n p11 (r .0 .0 .0 .1) in
-    let p13 = next 13 n p12 (r .0 .0 .1) in
-    let p14 = next 14 n p13 (r .0 .1) in
-    let p15 = next 15 n p14 (r .1) in
-    ap (λ (f : Bool → Shape). f q) (sym (List·getD-eq-default operations unknown p15)))
+    let p1 = next 1 n p0 (r .0 .0 .0 .0 .0 .0 .0 .0 .0 .0 .0 .0 .0 .0 .0 .0 .0 .0 .1) in
+    let p2 = next 2 n p1 (r .0 .0 .0 .0 .0 .0 .0 .0 .0 .0 .0 .0 .0 .0 .0 .0 .0 .1) in
+    let p3 = next 3 n p2 (r .0 .0 .0 .0 .0 .0 .0 .0 .0 .0 .0 .0 .0 .0 .0 .0 .1) in
+    let p4 = next 4 n p3 (r .0 .0 .0 .0 .0 .0 .0 .0 .0 .0 .0 .0 .0 .0 .0 .1) in
+    let p5 = next 5 n p4 (r .0 .0 .0 .0 .0 .0 .0 .0 .0 .0 .0 .0 .0 .0 .1) in
+    let p6 = next 6 n p5 (r .0 .0 .0 .0 .0 .0 .0 .0 .0 .0 .0 .0 .0 .1) in
+    let p7 = next 7 n p6 (r .0 .0 .0 .0 .0 .0 .0 .0 .0 .0 .0 .0 .1) in
+    let p8 = next 8 n p7 (r .0 .0 .0 .0 .0 .0 .0 .0 .0 .0 .0 .1) in
+    let p9 = next 9 n p8 (r .0 .0 .0 .0 .0 .0 .0 .0 .0 .0 .1) in
+    let p10 = next 10 n p9 (r .0 .0 .0 .0 .0 .0 .0 .0 .0 .1) in
+    let p11 = next 11 n p10 (r .0 .0 .0 .0 .0 .0 .0 .0 .1) in
+    let p12 = next 12 n p11 (r .0 .0 .0 .0 .0 .0 .0 .1) in
+    let p13 = next 13 n p12 (r .0 .0 .0 .0 .0 .0 .1) in
+    let p14 = next 14 n p13 (r .0 .0 .0 .0 .0 .1) in
+    let p15 = next 15 n p14 (r .0 .0 .0 .0 .1) in
+    let p16 = next 16 n p15 (r .0 .0 .0 .1) in
+    let p17 = next 17 n p16 (r .0 .0 .1) in
+    let p18 = next 18 n p17 (r .0 .1) in
+    let p19 = next 19 n p18 (r .1) in
+    ap (λ (f : Bool → Shape). f q) (sym (List·getD-eq-default operations unknown p19)))
 
 pub shape-by-spec : {M : Type 1} → statement M
 shape-by-spec =
@@ -171,6 +203,10 @@ shape-by-spec =
     meta-write-requires-2
     meta-write-requires-3
     key-listing-requires
+    joining-requires
+    joining-requires-2
+    touching-requires
+    touching-requires-2
     refused-requires-2
     returns
     returns-2
@@ -187,4 +223,8 @@ shape-by-spec =
     returns-13
     returns-14
     returns-15
-    returns-16)
+    returns-16
+    returns-17
+    returns-18
+    returns-19
+    returns-20)

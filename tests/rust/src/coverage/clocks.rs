@@ -3,7 +3,7 @@
 use crate::answers::{Purged, Ran, Served};
 use crate::rendering::bytes::u32_at;
 use crate::rendering::numbers::Numbers;
-use crate::rendering::request::{view, CounterExtras, PlainExtras, View, HEADER as FRAME_HEADER};
+use crate::rendering::request::{view, CounterExtras, PlainExtras, TouchExtras, View, HEADER as FRAME_HEADER};
 use crate::rendering::shape::Command;
 use crate::rendering::status::Status;
 use crate::rendering::table::{Row, Table, KEPT_AT};
@@ -11,6 +11,7 @@ use crate::session::{Answer, Call};
 
 const NOT_FOUND: u8 = Status::NotFound as u8;
 const INVALID: u8 = Status::Invalid as u8;
+const NOT_STORED: u8 = Status::NotStored as u8;
 const DAY: u32 = 86_400;
 const RELATIVE: std::ops::RangeInclusive<u32> = 1..=2_592_000;
 
@@ -72,6 +73,10 @@ pub enum Decided {
     CounterStoresInitial,
     CounterMisses,
     HeaderCasMisses,
+    AppendMisses,
+    PrependMisses,
+    TouchMisses,
+    GetAndTouchMisses,
     GetKeysLeavesOut,
     ReadMisses,
     PurgeFrees,
@@ -94,6 +99,8 @@ pub enum Plain {
     Add,
     Replace,
     Counter,
+    Touch,
+    GetAndTouch,
 }
 
 /// A Set on a table that has kept 2^32 - 1.
@@ -146,11 +153,15 @@ pub fn expected() -> Vec<Met> {
         Decided::CounterStoresInitial,
         Decided::CounterMisses,
         Decided::HeaderCasMisses,
+        Decided::AppendMisses,
+        Decided::PrependMisses,
+        Decided::TouchMisses,
+        Decided::GetAndTouchMisses,
         Decided::GetKeysLeavesOut,
         Decided::ReadMisses,
         Decided::PurgeFrees,
     ];
-    let plain = [Plain::Set, Plain::Add, Plain::Replace, Plain::Counter];
+    let plain = [Plain::Set, Plain::Add, Plain::Replace, Plain::Counter, Plain::Touch, Plain::GetAndTouch];
     let sums = plain.into_iter().flat_map(|plain| [Sum::Stored(plain), Sum::Refused(plain)]);
     let at_last = [AtLast::NeverStored, AtLast::AbsoluteStored, AtLast::RelativeRefused];
 
@@ -291,6 +302,10 @@ fn of_frame(before: &[u8], kept: u32, clock: u32, frame: &[u8], served: &Served)
 fn decided(request: &View, numbers: Numbers, status: u8) -> Option<Decided> {
     match (request.shape.command, status) {
         (Command::Get | Command::GetK, NOT_FOUND) => Some(Decided::GetMisses),
+        (Command::Append, NOT_STORED) => Some(Decided::AppendMisses),
+        (Command::Prepend, NOT_STORED) => Some(Decided::PrependMisses),
+        (Command::Touch, NOT_FOUND) => Some(Decided::TouchMisses),
+        (Command::GetAndTouch, NOT_FOUND) => Some(Decided::GetAndTouchMisses),
         (_, NOT_FOUND) if request.cas == numbers.cas.0 => Some(Decided::HeaderCasMisses),
         _ if request.cas != 0 => None,
         (Command::Add, 0) => Some(Decided::AddStores),
@@ -321,6 +336,8 @@ fn plain(request: &View) -> Option<(Plain, u32)> {
         Command::Add => Some((Plain::Add, PlainExtras::read(request.extras).expiry)),
         Command::Replace => Some((Plain::Replace, PlainExtras::read(request.extras).expiry)),
         Command::Increment | Command::Decrement => Some((Plain::Counter, CounterExtras::read(request.extras).expiry)),
+        Command::Touch => Some((Plain::Touch, TouchExtras::read(request.extras).expiry)),
+        Command::GetAndTouch => Some((Plain::GetAndTouch, TouchExtras::read(request.extras).expiry)),
         _ => None,
     }
 }

@@ -1,9 +1,10 @@
 //! Order 1: what Get Keys came to, and why it was refused.
 
+use super::forms::{fields, judged, Judge, Judged};
 use crate::answers::Served;
 use crate::frame::Frame;
 use crate::generate::GET_KEYS;
-use crate::rendering::bytes::{u16_at, u32_at, u64_at};
+use crate::rendering::bytes::u16_at;
 use crate::rendering::listing::MAX_LISTING;
 use crate::rendering::request::{view, KeysExtras, View, HEADER};
 use crate::rendering::status::Status;
@@ -62,14 +63,6 @@ pub enum Cause {
     CountZero,
     KeyOf251,
     Value,
-}
-
-/// The calls that judge a request's form.
-#[derive(Clone, Copy, Debug, PartialEq, Eq, PartialOrd, Ord)]
-pub enum Judge {
-    Serving,
-    Reader,
-    Writer,
 }
 
 /// A Get Keys as a run must meet it.
@@ -157,37 +150,13 @@ pub fn of_frame(before: &[u8], clock: u32, frame: &[u8], served: &Served) -> Vec
 /// A Get Keys read or written.
 pub fn of_form(call: &Call, answer: &Answer) -> Option<Met> {
     const INVALID: u8 = Status::Invalid as u8;
-    let (judge, frame, outcome, status) = match (call, answer) {
-        (Call::ReadRequest { received }, Answer::Request(read)) if read.outcome == 0 => {
-            (Judge::Reader, fields(&received[..HEADER + u32_at(received, 8) as usize])?, read.outcome, read.status)
-        }
-        (Call::WriteRequest { frame, .. }, Answer::Written(written)) => {
-            (Judge::Writer, frame.clone(), written.outcome, written.status)
-        }
-        _ => return None,
-    };
+    let Judged { judge, frame, outcome, status } = judged(call, answer)?;
     match (outcome, status) {
         _ if frame.opcode != GET_KEYS => None,
         (0, 0) => Some(Met::Passed(judge)),
         (0, INVALID) => refused(judge, &frame),
         _ => None,
     }
-}
-
-/// The fields of a frame whose lengths fit.
-fn fields(frame: &[u8]) -> Option<Frame> {
-    let (extras, rest) = frame[HEADER..].split_at_checked(usize::from(frame[4]))?;
-    let (key, value) = rest.split_at_checked(usize::from(u16_at(frame, 2)))?;
-    Some(Frame {
-        opcode: frame[1],
-        datatype: frame[5],
-        vbucket: u16_at(frame, 6),
-        opaque: u32_at(frame, 12),
-        cas: u64_at(frame, 16),
-        extras: extras.to_vec(),
-        key: key.to_vec(),
-        value: value.to_vec(),
-    })
 }
 
 /// The part of a refused frame without whose fault it would pass, if there is one.

@@ -2,6 +2,8 @@
 
 mod clocks;
 mod contests;
+mod forms;
+mod joins;
 mod listings;
 mod searches;
 mod situations;
@@ -17,7 +19,7 @@ use situations::Situation;
 use std::collections::BTreeMap;
 use std::fmt::{Debug, Write};
 
-const STATUSES: [u8; 11] = [0x00, 0x01, 0x02, 0x03, 0x04, 0x06, 0x07, 0x81, 0x82, 0x83, 0x84];
+const STATUSES: [u8; 12] = [0x00, 0x01, 0x02, 0x03, 0x04, 0x05, 0x06, 0x07, 0x81, 0x82, 0x83, 0x84];
 
 /// The table sizes between the small ones and the largest: some half of them are due at first, then each.
 const SIZES: std::ops::RangeInclusive<usize> = 13..=255;
@@ -34,6 +36,8 @@ pub struct Coverage {
     sizes: BTreeMap<usize, u64>,
     /// What is wrong with the session's table.
     damage: Option<Damage>,
+    /// The append or prepend that the call before was, with its key.
+    joined: Option<(u8, Vec<u8>)>,
 }
 
 impl Coverage {
@@ -45,6 +49,7 @@ impl Coverage {
     /// Counts the table that a session starts with.
     pub fn start(&mut self, start: &Start) {
         self.damage = start.damage;
+        self.joined = None;
         *self.sizes.entry(situations::rows(&start.table)).or_default() += 1;
         self.meet(situations::of_start(&start.table, start.damage));
         self.meet([Situation::Clock(clocks::of_start(&start.table))]);
@@ -60,6 +65,8 @@ impl Coverage {
         self.meet(listings::of_form(call, answer).map(Situation::GetKeys));
         self.meet(clocks::of_call(before, call, answer).into_iter().map(Situation::Clock));
         self.meet(searches::of_call(before, call, answer).into_iter().map(Situation::Search));
+        self.meet(joins::of_form(call, answer).map(Situation::Join));
+        let joined = self.joined.take();
         let (Call::Serve { clock, received, .. }, Answer::Served(served)) = (call, answer) else {
             return;
         };
@@ -68,6 +75,9 @@ impl Coverage {
             let later = clocks::kept(before).max(*clock);
             *self.statuses.entry((frame[1], served.status)).or_default() += 1;
             self.meet(situations::of_frame(before, later, frame, served));
+            let counted = joined.and_then(|after| joins::counted(&after, before, later, frame, served.status));
+            self.meet(counted.map(Situation::Join));
+            self.joined = joins::joined(frame, served.status);
             if let Some(contest) = contests::of_frame(before, later, frame, served.status) {
                 *self.contests.entry(contest).or_default() += 1;
             }
@@ -204,7 +214,7 @@ fn expected_answers() -> impl Iterator<Item = &'static str> {
     .into_iter()
 }
 
-/// Every status that document 01 allows an opcode.
+/// Every status that document 01, with the orders, allows an opcode.
 fn expected_statuses() -> impl Iterator<Item = (u8, u8)> {
     (0..=255).flat_map(|opcode| statuses_of(opcode).iter().map(move |&status| (opcode, status)))
 }
@@ -219,6 +229,8 @@ fn statuses_of(opcode: u8) -> &'static [u8] {
         Ok(Command::Delete) => &[0x00, 0x01, 0x02, 0x04, 0x07, 0x84],
         Ok(Command::Replace) => &[0x00, 0x01, 0x02, 0x03, 0x04, 0x07, 0x84],
         Ok(Command::Increment | Command::Decrement) => &[0x00, 0x01, 0x02, 0x04, 0x06, 0x07, 0x82, 0x84],
+        Ok(Command::Append | Command::Prepend) => &[0x00, 0x02, 0x03, 0x04, 0x05, 0x07, 0x84],
+        Ok(Command::Touch | Command::GetAndTouch) => &[0x00, 0x01, 0x04, 0x07, 0x84],
         Ok(Command::DeleteWithMeta) => &[0x00, 0x01, 0x02, 0x04, 0x07, 0x82, 0x84],
         Ok(Command::Set | Command::Add | Command::SetWithMeta | Command::AddWithMeta) => {
             &[0x00, 0x01, 0x02, 0x03, 0x04, 0x07, 0x82, 0x84]

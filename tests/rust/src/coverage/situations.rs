@@ -1,6 +1,6 @@
 //! Situations that a run must come to, told from the table, the frame and the answer, whatever was aimed at.
 
-use super::{clocks, listings, searches};
+use super::{clocks, joins, listings, searches};
 use crate::answers::Served;
 use crate::generate::keys::{bucket, fingerprint};
 use crate::generate::tables::Damage;
@@ -15,7 +15,7 @@ use crate::rendering::table::{Kind, Row, Table, ACTIVE, DEAD, HEADER, KEY, KEY_A
 use crate::session::Answer;
 
 const WITH_META: [u8; 6] = [0xa2, 0xa3, 0xa4, 0xa5, 0xa8, 0xa9];
-const QUIET: [u8; 11] = [0x09, 0x0d, 0x11, 0x12, 0x13, 0x14, 0x15, 0x16, 0xa3, 0xa5, 0xa9];
+const QUIET: [u8; 13] = [0x09, 0x0d, 0x11, 0x12, 0x13, 0x14, 0x15, 0x16, 0x19, 0x1a, 0xa3, 0xa5, 0xa9];
 const EXISTS: u8 = Status::Exists as u8;
 const INVALID: u8 = Status::Invalid as u8;
 const NOT_MY_VBUCKET: u8 = Status::NotMyVbucket as u8;
@@ -53,7 +53,7 @@ pub enum Cause {
     MetaContentCut,
 }
 
-/// What an Add finds.
+/// What a write finds.
 #[derive(Clone, Copy, Debug, PartialEq, Eq, PartialOrd, Ord)]
 pub enum On {
     Nothing,
@@ -115,6 +115,7 @@ pub enum Situation {
     GetKeys(listings::Met),
     Clock(clocks::Met),
     Search(searches::Met),
+    Join(joins::Met),
 }
 
 impl Situation {
@@ -129,6 +130,7 @@ impl Situation {
             | Situation::Search(_) => calls / 250_000,
             Situation::GetKeys(met) if met.is_rare() => calls / 250_000,
             Situation::Clock(met) if met.is_rare() => calls / 250_000,
+            Situation::Join(met) if met.is_rare() => calls / 250_000,
             _ => calls / 50_000,
         }
     }
@@ -150,6 +152,7 @@ pub fn expected() -> Vec<Situation> {
     expected.extend(listings::expected().into_iter().map(Situation::GetKeys));
     expected.extend(clocks::expected().into_iter().map(Situation::Clock));
     expected.extend(searches::expected().into_iter().map(Situation::Search));
+    expected.extend(joins::expected().into_iter().map(Situation::Join));
     expected
 }
 
@@ -273,6 +276,7 @@ pub fn of_frame(before: &[u8], clock: u32, frame: &[u8], served: &Served) -> Vec
     if opcode == GET_KEYS {
         met.extend(listings::of_frame(before, clock, frame, served).into_iter().map(Situation::GetKeys));
     }
+    met.extend(joins::of_frame(before, clock, frame, served).into_iter().map(Situation::Join));
     match view(frame) {
         Ok(request) => {
             met.extend(add(before, clock, opcode, &request, served.status));
@@ -392,7 +396,7 @@ fn add(before: &[u8], clock: u32, opcode: u8, request: &View, status: u8) -> Opt
     Some(Situation::Add { opcode, on, skips, status })
 }
 
-fn found(row: &Row, clock: u32) -> On {
+pub fn found(row: &Row, clock: u32) -> On {
     match row.kind {
         Kind::Tombstone => On::Tombstone,
         Kind::Document if row.live(clock) => On::Live,

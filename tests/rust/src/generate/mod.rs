@@ -1,7 +1,8 @@
-//! Tables and calls at random, biased to the limits of document 01 and of orders 1 and 2.
+//! Tables and calls at random, biased to the limits of document 01 and of orders 1, 2 and 4.
 
 mod clocks;
 pub mod faults;
+mod joins;
 pub mod keys;
 mod listings;
 mod parts;
@@ -21,9 +22,9 @@ use std::collections::BTreeMap;
 use tables::Damage;
 
 /// The opcodes that are built.
-pub const BUILT: [u8; 25] = [
-    0x00, 0x01, 0x02, 0x03, 0x04, 0x05, 0x06, 0x09, 0x0a, 0x0b, 0x0c, 0x0d, 0x11, 0x12, 0x13, 0x14, 0x15, 0x16, 0xa2,
-    0xa3, 0xa4, 0xa5, 0xa8, 0xa9, GET_KEYS,
+pub const BUILT: [u8; 31] = [
+    0x00, 0x01, 0x02, 0x03, 0x04, 0x05, 0x06, 0x09, 0x0a, 0x0b, 0x0c, 0x0d, 0x0e, 0x0f, 0x11, 0x12, 0x13, 0x14, 0x15,
+    0x16, 0x19, 0x1a, 0x1c, 0x1d, 0xa2, 0xa3, 0xa4, 0xa5, 0xa8, 0xa9, GET_KEYS,
 ];
 
 pub const GET_KEYS: u8 = 0xb8;
@@ -73,6 +74,8 @@ pub struct Generator {
     clock: u32,
     lists: bool,
     ends: bool,
+    /// The key of the last append or prepend, until the next request.
+    joined: Option<Vec<u8>>,
     /// How often each opcode met each fault.
     pub faults: BTreeMap<(u8, Fault), u64>,
 }
@@ -88,12 +91,13 @@ pub struct Start {
 impl Generator {
     pub fn new(seed: u64) -> Generator {
         let (random, keys, faults) = (Random::new(seed), Vec::new(), BTreeMap::new());
-        Generator { random, keys, clock: 0, lists: false, ends: false, faults }
+        Generator { random, keys, clock: 0, lists: false, ends: false, joined: None, faults }
     }
 
     pub fn start(&mut self) -> Start {
         self.lists = self.random.percent(6);
         self.ends = self.random.percent(5);
+        self.joined = None;
         let rows = if self.lists { self.listed_row_count() } else { self.row_count() };
         self.clock = self.session_clock();
         self.keys = if self.lists { self.listed_keys(rows) } else { self.session_keys(rows) };

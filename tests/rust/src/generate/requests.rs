@@ -1,11 +1,15 @@
 //! Requests: near-valid frames of every command.
 
 use super::faults::Fault;
+use super::joins::{COUNTERS, JOINS_AND_TOUCHES};
 use super::{Generator, Sight, BUILT, GET_KEYS};
 use crate::frame::{counter_extras, meta_extras, plain_extras, Frame};
 use crate::rendering::numbers::{Cas, Mode, Numbers, Revision};
 
 const WITH_META: [u8; 6] = [0xa2, 0xa3, 0xa4, 0xa5, 0xa8, 0xa9];
+
+/// Those of 0x83, and the neighbours of touch and get-and-touch.
+const NOT_BUILT: [u8; 7] = [0x07, 0x08, 0x10, 0x17, 0x18, 0x1b, 0x1e];
 
 impl Generator {
     /// A clock and received bytes for it; one frame in four breaks a rule or stands at its limit. The bytes fill their
@@ -21,8 +25,7 @@ impl Generator {
     /// A request that comes with this clock.
     pub(super) fn request(&mut self, sight: &Sight, clock: u32) -> Frame {
         let clock = sight.later(clock);
-        let opcode = self.opcode();
-        let key = self.key_near(sight);
+        let (opcode, key) = self.opcode_and_key(sight, clock);
         let cas = self.header_cas(sight, &key);
         let vbucket = if self.random.percent(96) { sight.vbucket } else { sight.vbucket ^ 1 };
         let frame = Frame { opcode, vbucket, opaque: self.random.u32(), cas, key, ..Frame::default() };
@@ -35,19 +38,32 @@ impl Generator {
             0x0a | 0x0b => Frame { key: Vec::new(), ..frame },
             0xa2..=0xa5 | 0xa8 | 0xa9 => self.with_meta(sight, clock, frame),
             GET_KEYS => self.get_keys(sight, frame),
+            0x0e | 0x0f | 0x19 | 0x1a => self.join(sight, frame),
+            0x1c..=0x1e => Frame { extras: self.touch_extras(clock), ..frame },
             0x00 | 0x04 | 0x09 | 0x0c | 0x0d | 0x14 => frame,
             _ => Frame { value: self.value(), ..frame },
         }
     }
 
-    /// One request in ten lists keys, and every second one of a session that is about it.
+    fn opcode_and_key(&mut self, sight: &Sight, clock: u32) -> (u8, Vec<u8>) {
+        if let Some(key) = self.counted_key() {
+            return (*self.random.pick(&COUNTERS), key);
+        }
+        let opcode = self.opcode();
+        let live = if JOINS_AND_TOUCHES.contains(&opcode) { self.live_key(sight, clock) } else { None };
+        (opcode, live.unwrap_or_else(|| self.key_near(sight)))
+    }
+
+    /// One request in ten lists keys, and every second one of a session that is about it; one in ten joins or touches.
     fn opcode(&mut self) -> u8 {
         if self.random.percent(if self.lists { 50 } else { 8 }) {
             return GET_KEYS;
         }
-        match self.random.below(20) {
+        match self.random.below(22) {
+            0 if self.random.percent(20) => *self.random.pick(&NOT_BUILT),
             0 => self.random.byte(),
             1..=9 => *self.random.pick(&WITH_META),
+            10 | 11 => *self.random.pick(&JOINS_AND_TOUCHES),
             _ => *self.random.pick(&BUILT),
         }
     }

@@ -3,12 +3,12 @@
 use super::listing::listing;
 use super::numbers::{plain_expiry, Cas, Mode, Numbers, Revision};
 use super::request::{
-    is_with_meta, CounterExtras, KeysExtras, MetaExtras, PlainExtras, View, FORCE, FORCE_ACCEPT, REGENERATE_CAS,
-    SKIP_CONFLICTS,
+    is_with_meta, CounterExtras, KeysExtras, MetaExtras, PlainExtras, TouchExtras, View, FORCE, FORCE_ACCEPT,
+    REGENERATE_CAS, SKIP_CONFLICTS,
 };
 use super::shape::Command;
 use super::status::Status;
-use super::table::{Head, Kind, Row, Table, ACTIVE, DEAD};
+use super::table::{Head, Kind, Row, Table, ACTIVE, DEAD, MAX_VALUE};
 
 /// What a frame with status 0 does.
 #[derive(Debug)]
@@ -21,6 +21,11 @@ pub enum Effect<'t, 'f> {
         with_key: bool,
     },
     Store(Write<'f>),
+    /// Stores, and shows the document as it is then.
+    StoreAndShow {
+        write: Write<'f>,
+        row: Row<'t>,
+    },
     /// Lists keys, by the value that does.
     List(Vec<u8>),
 }
@@ -35,11 +40,15 @@ pub struct Write<'f> {
     pub content: Content<'f>,
 }
 
-/// What a write stores as its value: bytes, or the digits of a number that its reply carries.
+/// What a write stores as its value: bytes, or the digits of a number that its reply carries, or the row's own value, as
+/// it is or with bytes after or before it.
 #[derive(Clone, Copy, Debug)]
 pub enum Content<'f> {
     Bytes(&'f [u8]),
     Number(u64),
+    Kept,
+    Appended(&'f [u8]),
+    Prepended(&'f [u8]),
 }
 
 /// One request on a sound table: its effect, or its status. The clock is the later of the kept one and the call's.
@@ -61,6 +70,10 @@ pub fn decide<'t, 'f>(table: &Table<'t>, clock: u32, request: &View<'f>) -> Resu
             let count = KeysExtras::read(request.extras).count;
             Ok(Effect::List(listing(table, clock, request.key, count)))
         }
+        Command::Append => key.join(Content::Appended(request.value)).map(Effect::Store),
+        Command::Prepend => key.join(Content::Prepended(request.value)).map(Effect::Store),
+        Command::Touch => key.touch(clock).map(|(_, write)| Effect::Store(write)),
+        Command::GetAndTouch => key.touch(clock).map(|(row, write)| Effect::StoreAndShow { write, row }),
     }
 }
 
@@ -74,12 +87,16 @@ fn mode_and_clock_rules(mode: Mode, clock: u32, request: &View) -> Result<(), St
         Command::Increment | Command::Decrement => {
             plain_expiry(CounterExtras::read(request.extras).expiry, clock).map(drop)
         }
+        Command::Touch | Command::GetAndTouch => {
+            plain_expiry(TouchExtras::read(request.extras).expiry, clock).map(drop)
+        }
         // "option 0x02 missing in last-write-wins or set in revision mode"
         Command::SetWithMeta | Command::AddWithMeta | Command::DeleteWithMeta => {
             let accepts = MetaExtras::read(request.extras).has(FORCE_ACCEPT);
             Status::Invalid.unless(accepts == (mode == Mode::LastWriteWins))
         }
         Command::Get | Command::GetK | Command::Delete | Command::Noop | Command::Version | Command::GetKeys => Ok(()),
+        Command::Append | Command::Prepend => Ok(()),
     }
 }
 
@@ -147,6 +164,24 @@ impl<'a, 't, 'f> Key<'a, 't, 'f> {
         };
         let number = counted(self.request.shape.command, decimal(live.value)?, given.delta);
         self.plain_write(Kind::Document, live.numbers.flags, live.numbers.expiry, Content::Number(number))
+    }
+
+    /// Order 4: "0e/19, 0f/1a (key and a value of any length, no extras; not live is 0x05, whatever the header CAS; a
+    /// joined value over 1,024 is 0x03, tested right after header CAS) [...] keep flags and expiry."
+    fn join(&self, joined: Content<'f>) -> Result<Write<'f>, Status> {
+        let live = self.live.ok_or(Status::NotStored)?;
+        self.header_cas_rule()?;
+        Status::TooLarge.unless(live.value.len() + self.request.value.len() <= MAX_VALUE)?;
+        self.plain_write(Kind::Document, live.numbers.flags, live.numbers.expiry, joined)
+    }
+
+    /// Order 4: "Touch 0x1c and Get-and-touch 0x1d (4 extras: expiry, plain rule; not live 0x01; header CAS ignored)."
+    /// The document as it is then, and the write.
+    fn touch(&self, clock: u32) -> Result<(Row<'t>, Write<'f>), Status> {
+        let live = self.live.ok_or(Status::NotFound)?;
+        let expiry = plain_expiry(TouchExtras::read(self.request.extras).expiry, clock)?;
+        let write = self.plain_write(Kind::Document, live.numbers.flags, expiry, Content::Kept)?;
+        Ok((Row { numbers: write.numbers, ..live }, write))
     }
 
     /// "Header CAS not 0: not live 0x01, different 0x02. Add on live: 0x02. Without options 0x01 and 0x08, a key with

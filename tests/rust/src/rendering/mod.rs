@@ -1,4 +1,4 @@
-//! Document 01 with orders 1 and 2 of document 02 in plain Rust, written from the papers alone, to be read with them
+//! Document 01 with orders 1, 2 and 4 of document 02 in plain Rust, written from the papers alone, to be read with them
 //! beside.
 //!
 //! | Section of 01 | Module |
@@ -10,6 +10,7 @@
 //! | How strict the promises are: reader and writer | [`request`] |
 //! | Order 1 of 02, key listing | [`listing`], and its shape and rules in [`shape`], [`request`], [`commands`] |
 //! | Order 2 of 02, the kept clock | [`table`], and what uses and raises it in [`owner`] and [`serving`] |
+//! | Order 4 of 02, append, prepend and touch | [`shape`], [`request`], [`commands`], and their writes in [`table`] |
 
 pub mod bytes;
 pub mod commands;

@@ -175,6 +175,18 @@ impl KeysExtras {
     }
 }
 
+/// Order 4: "4 extras: expiry"
+#[derive(Clone, Copy, Debug)]
+pub struct TouchExtras {
+    pub expiry: u32,
+}
+
+impl TouchExtras {
+    pub fn read(extras: &[u8]) -> TouchExtras {
+        TouchExtras { expiry: u32_at(extras, 0) }
+    }
+}
+
 /// "Extended meta ends the body"; "a section longer than what follows the key is 0x04."
 fn split_meta<'f>(command: Command, extras: &[u8], rest: &'f [u8]) -> Result<(&'f [u8], &'f [u8]), Status> {
     let meta_length = if is_with_meta(command) { MetaExtras::read(extras).meta_length } else { 0 };

@@ -7,7 +7,7 @@ use super::owner::DAMAGED;
 use super::request::{first_frame, view, Refusal, HEADER};
 use super::shape::shape;
 use super::status::Status;
-use super::table::{write_kept, write_mark, write_row, Damaged, Row, Table};
+use super::table::{append, prepend, write_kept, write_mark, write_numbers, write_row, Damaged, Row, Table};
 use super::tally::count;
 use crate::answers::{Ran, Served, Tally};
 
@@ -43,7 +43,7 @@ fn serve_frame(memory: &mut [u8], clock: u32, received: &[u8], reply: &mut [u8])
     let decision = view(frame).and_then(|request| decide(&table, later, &request));
     let status = decision.as_ref().map_or_else(|&status| status as u8, |_| 0);
     let sent = if is_silent(frame[1], status) { 0 } else { answer(&decision, frame, reply) };
-    if let Ok(Effect::Store(write)) = decision {
+    if let Ok(Effect::Store(write) | Effect::StoreAndShow { write, .. }) = decision {
         let mark = table.head.mark;
         store(memory, mark, &write);
     }
@@ -65,22 +65,26 @@ fn answer(decision: &Result<Effect, Status>, frame: &[u8], out: &mut [u8]) -> us
         // "Reply CAS 0."
         Ok(Effect::Nothing) => bare.write(frame, out),
         Ok(Effect::TellVersion) => Reply { value: VERSION, ..bare }.write(frame, out),
-        // "Reply: flags as 4 extras bytes, key for 0c/0d, value, CAS."
-        Ok(Effect::Show { row, with_key }) => {
-            let extras = &row.numbers.flags.to_be_bytes();
-            let key = if *with_key { row.key } else { &[] };
-            Reply { status: 0, cas: row.numbers.cas, extras, key, value: row.value }.write(frame, out)
-        }
-        // "Its reply carries the new CAS." "The reply carries the stored CAS." Counters: "Reply value: 8 bytes."
+        Ok(Effect::Show { row, with_key }) => show(row, *with_key, frame, out),
+        // "Its reply carries the new CAS." "The reply carries the stored CAS." Counters: "Reply value: 8 bytes." Order 4:
+        // "Touch replies with a bare header, Get-and-touch as Get does."
         Ok(Effect::Store(Write { numbers, content, .. })) => match content {
-            Content::Bytes(_) => Reply { cas: numbers.cas, ..bare }.write(frame, out),
             Content::Number(number) => {
                 Reply { cas: numbers.cas, value: &number.to_be_bytes(), ..bare }.write(frame, out)
             }
+            _ => Reply { cas: numbers.cas, ..bare }.write(frame, out),
         },
+        Ok(Effect::StoreAndShow { row, .. }) => show(row, false, frame, out),
         // Order 1: "reply CAS 0"
         Ok(Effect::List(value)) => Reply { value, ..bare }.write(frame, out),
     }
+}
+
+/// "Reply: flags as 4 extras bytes, key for 0c/0d, value, CAS."
+fn show(row: &Row, with_key: bool, frame: &[u8], out: &mut [u8]) -> usize {
+    let extras = &row.numbers.flags.to_be_bytes();
+    let key = if with_key { row.key } else { &[] };
+    Reply { status: 0, cas: row.numbers.cas, extras, key, value: row.value }.write(frame, out)
 }
 
 struct Reply<'a> {
@@ -118,6 +122,15 @@ fn store(memory: &mut [u8], mark: Cas, write: &Write) {
         Content::Number(number) => {
             let digits = number.to_string();
             write_row(memory, place, &Row { kind, numbers, key, value: digits.as_bytes() });
+        }
+        Content::Kept => write_numbers(memory, place, numbers),
+        Content::Appended(value) => {
+            write_numbers(memory, place, numbers);
+            append(memory, place, value);
+        }
+        Content::Prepended(value) => {
+            write_numbers(memory, place, numbers);
+            prepend(memory, place, value);
         }
     }
     write_mark(memory, mark.max(numbers.cas));

@@ -18,6 +18,10 @@ pub enum Command {
     AddWithMeta,
     DeleteWithMeta,
     GetKeys,
+    Append,
+    Prepend,
+    Touch,
+    GetAndTouch,
 }
 
 #[derive(Clone, Copy, Debug, PartialEq, Eq)]
@@ -40,7 +44,8 @@ pub struct Shape {
 }
 
 /// The shape of an opcode, or status 1 of the list: "0x83: opcodes (hexadecimal) 07, 08, 0e, 0f, 10, 17 to 1a. 0x81:
-/// every other opcode not in the next section." Order 1: "This amends 01's opcode list and the 256-entry table."
+/// every other opcode not in the next section." Order 1: "This amends 01's opcode list and the 256-entry table." Order 4:
+/// "0x83 loses 0e, 0f, 19 and 1a from its list."
 pub fn shape(opcode: u8) -> Result<Shape, Status> {
     use Command::*;
     let (command, silent) = match opcode {
@@ -72,7 +77,14 @@ pub fn shape(opcode: u8) -> Result<Shape, Status> {
         0xa9 => (DeleteWithMeta, Some(0)),
         // Order 1: "Add Get Keys, opcode 0xb8"
         0xb8 => (GetKeys, None),
-        0x07 | 0x08 | 0x0e | 0x0f | 0x10 | 0x17..=0x1a => return Err(Status::Unbuilt),
+        // Order 4: "Add 0e/19, 0f/1a [...] and Touch 0x1c and Get-and-touch 0x1d"
+        0x0e => (Append, None),
+        0x19 => (Append, Some(0)),
+        0x0f => (Prepend, None),
+        0x1a => (Prepend, Some(0)),
+        0x1c => (Touch, None),
+        0x1d => (GetAndTouch, None),
+        0x07 | 0x08 | 0x10 | 0x17 | 0x18 => return Err(Status::Unbuilt),
         _ => return Err(Status::Unknown),
     };
     Ok(of_command(command, silent))
@@ -95,6 +107,10 @@ fn of_command(command: Command, silent: Option<u8>) -> Shape {
         DeleteWithMeta => (&[24, 26, 28, 30], Must, MustNot),
         // Order 1: "optional start key, optional 4-byte count [...] No value"
         GetKeys => (&[0, 4], May, MustNot),
+        // Order 4: "key and a value of any length, no extras"
+        Append | Prepend => (&[0], Must, May),
+        // Order 4: "4 extras: expiry"
+        Touch | GetAndTouch => (&[4], Must, MustNot),
     };
     Shape { command, extras, key, value, silent }
 }

@@ -9,6 +9,7 @@ pub enum Status {
     TooLarge = 0x03,
     NotMyVbucket = 0x07,
     NotFound = 0x01,
+    NotStored = 0x05,
     Exists = 0x02,
     NotANumber = 0x06,
     CannotGrow = 0x84,

@@ -2,7 +2,7 @@
 
 use super::bytes::{put, u16_at, u32_at, u64_at};
 use super::numbers::{Cas, Mode, Numbers, Revision};
-use std::ops::RangeInclusive;
+use std::ops::{Range, RangeInclusive};
 
 /// "The size is a fixed header plus a fixed row size times the rows."
 pub const HEADER: usize = 16;
@@ -178,12 +178,40 @@ pub fn write_row(memory: &mut [u8], place: usize, row: &Row) {
     put(bytes, 0, &kind.to_be_bytes());
     put(bytes, 2, &(row.key.len() as u16).to_be_bytes());
     put(bytes, 4, &(row.value.len() as u32).to_be_bytes());
-    put(bytes, 8, &row.numbers.flags.to_be_bytes());
-    put(bytes, 12, &row.numbers.expiry.to_be_bytes());
-    put(bytes, 16, &row.numbers.revision.0.to_be_bytes());
-    put(bytes, 24, &row.numbers.cas.0.to_be_bytes());
     put(bytes, KEY_AT, row.key);
     put(bytes, KEY_AT + row.key.len(), row.value);
+    write_numbers(memory, place, row.numbers);
+}
+
+/// A used row's numbers alone.
+pub fn write_numbers(memory: &mut [u8], place: usize, numbers: Numbers) {
+    let bytes = &mut memory[row_at(place)..][..ROW];
+    put(bytes, 8, &numbers.flags.to_be_bytes());
+    put(bytes, 12, &numbers.expiry.to_be_bytes());
+    put(bytes, 16, &numbers.revision.0.to_be_bytes());
+    put(bytes, 24, &numbers.cas.0.to_be_bytes());
+}
+
+/// Bytes after a document's value, which has room for them.
+pub fn append(memory: &mut [u8], place: usize, more: &[u8]) {
+    let (bytes, value) = grown(memory, place, more.len());
+    put(bytes, value.end, more);
+}
+
+/// Bytes before a document's value, which has room for them.
+pub fn prepend(memory: &mut [u8], place: usize, more: &[u8]) {
+    let (bytes, value) = grown(memory, place, more.len());
+    bytes.copy_within(value.clone(), value.start + more.len());
+    put(bytes, value.start, more);
+}
+
+/// A document's row whose value's length is raised, and where the value stood.
+fn grown(memory: &mut [u8], place: usize, by: usize) -> (&mut [u8], Range<usize>) {
+    let bytes = &mut memory[row_at(place)..][..ROW];
+    let start = KEY_AT + usize::from(u16_at(bytes, 2));
+    let length = u32_at(bytes, 4) as usize;
+    put(bytes, 4, &((length + by) as u32).to_be_bytes());
+    (bytes, start..start + length)
 }
 
 pub fn free_row(memory: &mut [u8], place: usize) {

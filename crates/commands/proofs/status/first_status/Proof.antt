@@ -26,19 +26,27 @@ first-requires-7 c κs = tt
 first-requires-8 : tie.Need-first-requires-8
 first-requires-8 c κs = tt
 
+first-requires-9 : tie.Need-first-requires-9
+first-requires-9 c κs = tt
+
+first-requires-10 : tie.Need-first-requires-10
+first-requires-10 c κs = tt
+
 returns : tie.Need-returns
 unfolding firstStatus firstFailure
 returns c =
-    let a = c .before .before .before .before in
+    let a = c .before .before .before .before .before in
     simp (
-      c .first8 .ensures,
-      c .before .first7 .ensures,
-      c .before .before .first6 .ensures,
-      c .before .before .before .first5 .ensures,
-      a .first4 .ensures,
-      a .before .first3 .ensures,
-      a .before .before .first2 .ensures,
-      a .before .before .before .first .ensures,
+      c .first10 .ensures,
+      c .before .first9 .ensures,
+      c .before .before .first8 .ensures,
+      c .before .before .before .first7 .ensures,
+      c .before .before .before .before .first6 .ensures,
+      a .first5 .ensures,
+      a .before .first4 .ensures,
+      a .before .before .first3 .ensures,
+      a .before .before .before .first2 .ensures,
+      a .before .before .before .before .first .ensures,
     )
 
 pub first-status-spec : {M : Type 1} → statement M
@@ -53,4 +61,6 @@ first-status-spec =
     first-requires-6
     first-requires-7
     first-requires-8
+    first-requires-9
+    first-requires-10
     returns)

@@ -1,6 +1,6 @@
 //! Asks both sides the same and compares what they answer.
 
-use std::collections::BTreeMap;
+use std::collections::{BTreeMap, HashSet};
 use std::io;
 
 use crate::differences::{Field, Seen, Side, DIFFERENCES};
@@ -26,6 +26,8 @@ pub struct Bench {
     ours: Ours,
     theirs: Theirs,
     pairs: Pairs,
+    /// The CAS numbers of ours that a touch replaced, where memcached's stayed.
+    touched: HashSet<u64>,
     opaque: u32,
     pub found: Found,
 }
@@ -35,6 +37,8 @@ struct Asked<'a> {
     request: &'a Request,
     opaque: u32,
     cas: u64,
+    /// Whether a touch has replaced that CAS.
+    outdated: bool,
     before: Before,
     answer: Answer,
 }
@@ -44,13 +48,15 @@ const FLUSH: u8 = 0x08;
 impl Bench {
     pub fn new(port: u16, table: &[u8]) -> io::Result<Bench> {
         let (ours, theirs) = (Ours::new(table), Theirs::connect(port)?);
-        Ok(Bench { ours, theirs, pairs: Pairs::default(), opaque: 0, found: Found::default() })
+        let (pairs, touched, found) = (Pairs::default(), HashSet::new(), Found::default());
+        Ok(Bench { ours, theirs, pairs, touched, opaque: 0, found })
     }
 
     /// Starts again from a table of ours without documents, and a memcached without.
     pub fn renew(&mut self, table: &[u8]) -> io::Result<()> {
         self.ours = Ours::new(table);
         self.pairs = Pairs::default();
+        self.touched.clear();
         self.theirs.ask(&[&bare(FLUSH).bytes(0, 0)])?;
         Ok(())
     }
@@ -99,9 +105,13 @@ impl Bench {
         let (cas, their_cas) = self.pairs.header(&request.key, request.cas);
         let before = self.ours.before(&request.key);
         let answer = self.ours.serve(&request.bytes(opaque, cas));
+        let outdated = self.touched.contains(&cas);
+        if request.is_touch() {
+            self.touched.extend(before.live.as_ref().map(|live| live.cas));
+        }
         let mut frame = request.bytes(opaque, their_cas);
         frame.resize(frame.len() + read_twice(request), 0);
-        (Asked { request, opaque, cas, before, answer }, frame)
+        (Asked { request, opaque, cas, outdated, before, answer }, frame)
     }
 
     /// Compares the answers to requests that were sent at once, and gives the keys on which the sides parted. The
@@ -148,6 +158,9 @@ impl Bench {
                 (Field::Value, o.value == t.value),
                 (Field::Cas, self.pairs.agree(&one.request.key, o.cas, t.cas)),
             ];
+            if one.request.is_touch() && o.status == 0 {
+                self.pairs.touch(&one.request.key, o.cas, t.cas);
+            }
             fields.extend(same.iter().filter(|(_, same)| !same).map(|(field, _)| *field));
         }
         fields
@@ -161,6 +174,7 @@ impl Bench {
                 field,
                 request: one.request,
                 cas: one.cas,
+                outdated: one.outdated,
                 before: &one.before,
                 ours: Side { status: status(one, &one.answer), reply: one.answer.replies.first() },
                 theirs: Side { status: status(one, theirs), reply: replies.first() },

@@ -32,6 +32,8 @@ pub struct Seen<'a> {
     pub request: &'a Request,
     /// The CAS in our request's header.
     pub cas: u64,
+    /// Whether a touch has replaced that CAS, and memcached's is still the document's.
+    pub outdated: bool,
     pub before: &'a Before,
     pub ours: Side<'a>,
     pub theirs: Side<'a>,
@@ -70,7 +72,7 @@ pub struct Difference {
 
 const BARE: &str = "Its reply is a bare header with that status, the opcode and opaque echoed, CAS 0.";
 
-pub const DIFFERENCES: [Difference; 23] = [
+pub const DIFFERENCES: [Difference; 27] = [
     Difference {
         name: "no error text",
         sentences: &[BARE],
@@ -97,6 +99,32 @@ pub const DIFFERENCES: [Difference; 23] = [
         explains: |seen| {
             seen.request.opcode == opcode::DELETE
                 && seen.in_reply(Field::Cas, |ours, theirs| ours.status == 0 && ours.cas != 0 && theirs.cas == 0)
+        },
+    },
+    Difference {
+        name: "Touch's extras",
+        sentences: &["Touch replies with a bare header, Get-and-touch as Get does."],
+        explains: |seen| {
+            seen.request.opcode == opcode::TOUCH
+                && seen.in_reply(Field::Extras, |ours, theirs| ours.extras.is_empty() && theirs.extras.len() == 4)
+        },
+    },
+    Difference {
+        name: "a touch's new CAS",
+        sentences: &["All are plain writes with new CAS and revision."],
+        explains: |seen| {
+            let replied =
+                seen.request.is_touch() && seen.in_reply(Field::Cas, |ours, theirs| ours.cas != 0 && theirs.cas != 0);
+            replied || seen.outdated && (seen.statuses(0x02, 0x00) || seen.statuses(0x02, 0x06))
+        },
+    },
+    Difference {
+        name: "joined value over 1,024",
+        sentences: &["a joined value over 1,024 is 0x03, tested right after header CAS"],
+        explains: |seen| {
+            seen.request.is_join()
+                && seen.live(|live| live.value.len() + seen.request.value.len() > VALUE_MAX)
+                && seen.statuses(0x03, 0x00)
         },
     },
     Difference {
@@ -151,7 +179,7 @@ pub const DIFFERENCES: [Difference; 23] = [
         name: "no padding of a counter",
         sentences: &["Stored as decimal without leading zeros; flags and expiry stay."],
         explains: |seen| {
-            seen.request.is_get()
+            (seen.request.is_get() || seen.request.opcode == opcode::GET_AND_TOUCH)
                 && seen.in_reply(Field::Value, |ours, theirs| {
                     is_number(&ours.value) && theirs.value.strip_prefix(&ours.value[..]).is_some_and(is_blank)
                 })
@@ -164,6 +192,11 @@ pub const DIFFERENCES: [Difference; 23] = [
             let said = seen.request.lengths();
             usize::from(said.extras) + usize::from(said.key) > seen.request.body() && seen.statuses(0x04, 0x81)
         },
+    },
+    Difference {
+        name: "a touch with a value",
+        sentences: &["key missing, forbidden or over 250; value missing or forbidden;"],
+        explains: |seen| seen.request.is_touch() && !seen.request.value.is_empty() && seen.our_status(0x04),
     },
     Difference {
         name: "datatype",
@@ -201,7 +234,10 @@ pub const DIFFERENCES: [Difference; 23] = [
     },
     Difference {
         name: "not built here",
-        sentences: &["0x83: opcodes (hexadecimal) 07, 08, 0e, 0f, 10, 17 to 1a."],
+        sentences: &[
+            "0x83: opcodes (hexadecimal) 07, 08, 0e, 0f, 10, 17 to 1a.",
+            "0x83 loses 0e, 0f, 19 and 1a from its list.",
+        ],
         explains: |seen| is_left_out(seen.request.opcode) && seen.our_status(0x83),
     },
     Difference {
@@ -262,12 +298,13 @@ fn number(value: &[u8]) -> Option<u64> {
 
 /// Opcodes that get 0x83.
 fn is_left_out(opcode: u8) -> bool {
-    matches!(opcode, 0x07 | 0x08 | 0x0e..=0x10 | 0x17..=0x1a)
+    matches!(opcode, 0x07 | 0x08 | 0x10 | 0x17 | 0x18)
 }
 
 /// Opcodes that are served.
 fn is_built(opcode: u8) -> bool {
-    matches!(opcode, 0x00..=0x06 | 0x09..=0x0d | 0x11..=0x16 | opcode::GET_KEYS) || is_with_meta(opcode)
+    matches!(opcode, 0x00..=0x06 | 0x09..=0x0f | 0x11..=0x16 | 0x19..=0x1a | 0x1c..=0x1d | opcode::GET_KEYS)
+        || is_with_meta(opcode)
 }
 
 fn is_with_meta(opcode: u8) -> bool {

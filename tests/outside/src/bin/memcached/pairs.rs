@@ -28,6 +28,15 @@ impl Pairs {
         *self.theirs.entry(ours).or_insert(theirs) == theirs && *self.ours.entry(theirs).or_insert(ours) == ours
     }
 
+    /// Lets our new CAS for a key stand for memcached's, which stays where a touch gives us another.
+    pub fn touch(&mut self, key: &[u8], ours: u64, theirs: u64) {
+        self.theirs.insert(ours, theirs);
+        self.ours.insert(theirs, ours);
+        let carried = self.carried.entry(key.to_vec()).or_default();
+        carried.retain(|(_, other)| *other != theirs);
+        carried.push((ours, theirs));
+    }
+
     /// The CAS of a request's header, for us and for memcached.
     pub fn header(&self, key: &[u8], cas: HeaderCas) -> (u64, u64) {
         let carried = self.carried.get(key).map_or(&[][..], Vec::as_slice);

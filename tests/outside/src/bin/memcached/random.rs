@@ -2,7 +2,7 @@
 
 use contacts::opcode;
 
-use crate::request::{bare, count, counted, store, stored, HeaderCas, Request};
+use crate::request::{bare, count, counted, join, store, stored, touch, HeaderCas, Request};
 use crate::script::{wrong_forms, VALUES};
 use crate::sides::now;
 
@@ -46,8 +46,9 @@ impl Random {
 
     /// A plain command of right form, loud or quiet.
     pub fn plain(&mut self) -> Request {
-        let key = self.pick(&KEYS);
-        let request = match self.pick(&COMMANDS) {
+        let command = self.pick(&COMMANDS);
+        let key = self.pick(keys_of(command));
+        let request = match command {
             stores @ opcode::SET..=opcode::REPLACE => {
                 let (value, expiry) = (self.value(), self.expiry());
                 store(stores, key, &value).extras(&stored(self.next() as u32, expiry))
@@ -56,6 +57,8 @@ impl Random {
                 let (delta, initial) = (self.number(), self.number());
                 count(counts, key, 0, 0, 0).extras(&counted(delta, initial, self.expiry()))
             }
+            joins @ opcode::APPEND..=opcode::PREPEND => join(joins, key, &self.value()),
+            touches @ opcode::TOUCH..=opcode::GET_AND_TOUCH => touch(touches, key, self.expiry()),
             simple @ (opcode::NOOP | opcode::VERSION) => bare(simple),
             keyed => bare(keyed).key(key),
         };
@@ -91,9 +94,19 @@ impl Random {
     }
 }
 
-const KEYS: [&[u8]; 5] = [b"sonar:1", b"sonar:2", b"n", b"\0\xff", &[b'k'; 250]];
+const KEYS: [&[u8]; 7] = [b"sonar:1", b"sonar:2", b"n", b"\0\xff", &[b'k'; 250], b"log", &[b'j'; 250]];
 
-const COMMANDS: [u8; 14] = [
+/// Counters have the first five keys and joins the others: memcached's counters leave blanks, which a join would put
+/// amid a value.
+fn keys_of(command: u8) -> &'static [&'static [u8]] {
+    match command {
+        opcode::INCREMENT | opcode::DECREMENT => &KEYS[..5],
+        opcode::APPEND | opcode::PREPEND => &KEYS[5..],
+        _ => &KEYS,
+    }
+}
+
+const COMMANDS: [u8; 20] = [
     opcode::GET,
     opcode::GET,
     opcode::GETK,
@@ -106,6 +119,12 @@ const COMMANDS: [u8; 14] = [
     opcode::INCREMENT,
     opcode::DECREMENT,
     opcode::DECREMENT,
+    opcode::APPEND,
+    opcode::APPEND,
+    opcode::PREPEND,
+    opcode::PREPEND,
+    opcode::TOUCH,
+    opcode::GET_AND_TOUCH,
     opcode::NOOP,
     opcode::VERSION,
 ];
@@ -122,4 +141,4 @@ const CASES: [HeaderCas; 8] = [
 ];
 
 /// Commands that aren't built, or not known, on one side or both.
-const ODD_OPCODES: [u8; 8] = [0x07, 0x0e, 0x17, 0x19, 0x1b, 0x40, 0xa2, 0xff];
+const ODD_OPCODES: [u8; 7] = [0x07, 0x17, 0x1b, 0x1e, 0x40, 0xa2, 0xff];

@@ -77,7 +77,7 @@ impl Request {
             opcode::GET => opcode::GETQ,
             opcode::GETK => opcode::GETKQ,
             loud @ 0x01..=0x08 => loud + 0x10,
-            loud @ 0x0e..=0x0f => loud + 0x0b,
+            loud @ opcode::APPEND..=opcode::PREPEND => loud + 0x0b,
             loud @ (0x1d | 0x23 | 0xa2 | 0xa4 | 0xa8) => loud + 1,
             other => other,
         };
@@ -118,6 +118,14 @@ impl Request {
 
     pub fn is_counter(&self) -> bool {
         matches!(self.opcode, opcode::INCREMENT | opcode::DECREMENT | opcode::INCREMENTQ | opcode::DECREMENTQ)
+    }
+
+    pub fn is_join(&self) -> bool {
+        matches!(self.opcode, opcode::APPEND | opcode::PREPEND | opcode::APPENDQ | opcode::PREPENDQ)
+    }
+
+    pub fn is_touch(&self) -> bool {
+        matches!(self.opcode, opcode::TOUCH | opcode::GET_AND_TOUCH)
     }
 
     pub fn is_get(&self) -> bool {
@@ -164,6 +172,16 @@ pub fn store(opcode: u8, key: &[u8], value: &[u8]) -> Request {
 /// The extras of Set, Add and Replace.
 pub fn stored(flags: u32, expiry: u32) -> Vec<u8> {
     [flags.to_be_bytes(), expiry.to_be_bytes()].concat()
+}
+
+/// Append or Prepend.
+pub fn join(opcode: u8, key: &[u8], value: &[u8]) -> Request {
+    bare(opcode).key(key).value(value)
+}
+
+/// Touch or Get-and-touch.
+pub fn touch(opcode: u8, key: &[u8], expiry: u32) -> Request {
+    bare(opcode).extras(&expiry.to_be_bytes()).key(key)
 }
 
 /// Increment or Decrement.

@@ -5,7 +5,7 @@ use std::slice::from_ref;
 
 use contacts::{opcode, State, KEY_MAX, ROWS_MAX, VALUE_MAX};
 
-use crate::request::{bare, count, counted, delete, get, getk, set, store, stored, HeaderCas, Request};
+use crate::request::{bare, count, counted, delete, get, getk, join, set, store, stored, touch, HeaderCas, Request};
 use crate::sides::{now, table};
 
 pub enum Step {
@@ -40,6 +40,7 @@ pub fn cases() -> Vec<Case> {
         reads(),
         writes(),
         counters(),
+        joins(),
         expiries(),
         forms(),
         fields(),
@@ -57,6 +58,8 @@ pub fn cases() -> Vec<Case> {
 const KEY: &[u8] = b"sonar:17";
 const STORES: [u8; 3] = [opcode::SET, opcode::ADD, opcode::REPLACE];
 const COUNTERS: [u8; 2] = [opcode::INCREMENT, opcode::DECREMENT];
+const JOINS: [u8; 2] = [opcode::APPEND, opcode::PREPEND];
+const TOUCHES: [u8; 2] = [opcode::TOUCH, opcode::GET_AND_TOUCH];
 /// An expiry that asks a counter for no initial number.
 const NO_INITIAL: u32 = 0xffff_ffff;
 
@@ -77,7 +80,10 @@ fn at_once(requests: Vec<Request>) -> Case {
 fn keyed() -> Vec<Request> {
     let stores = STORES.map(|opcode| store(opcode, KEY, b"143"));
     let counters = COUNTERS.map(|opcode| count(opcode, KEY, 1, 5, 0));
-    stores.into_iter().chain(counters).chain([get(KEY), getk(KEY), delete(KEY)]).collect()
+    let joins = JOINS.map(|opcode| join(opcode, KEY, b"0"));
+    let touches = TOUCHES.map(|opcode| touch(opcode, KEY, 100));
+    let others = joins.into_iter().chain(touches).chain([get(KEY), getk(KEY), delete(KEY)]);
+    stores.into_iter().chain(counters).chain(others).collect()
 }
 
 /// One of each plain command.
@@ -164,6 +170,37 @@ fn after_a_minus(opcode: u8) -> Case {
     case([set(KEY, b"xxxxxxxxxxxxxxxxxxxxxxx-"), number.clone(), number, count(opcode, KEY, 1, 7, 0), get(KEY)])
 }
 
+/// Every length that a value has or gets, and counters on what was joined.
+fn joins() -> Vec<Case> {
+    let lengths = [0, 1, 24, 25, 1000, 1023, 1024];
+    let mut cases = vec![];
+    for opcode in JOINS {
+        for held in lengths {
+            for added in lengths {
+                let join = join(opcode, KEY, &vec![b'a'; added]);
+                cases.push(case([set(KEY, &vec![b'h'; held]), get(KEY), join.clone(), get(KEY), join, get(KEY)]));
+            }
+        }
+        for (first, more) in [(&b"1"[..], &b"0"[..]), (b"", b"7"), (b"1", b""), (b"99", b"x"), (b"", b"")] {
+            for counter in COUNTERS {
+                let joined = [set(KEY, first), join(opcode, KEY, more)];
+                cases.push(case(joined.into_iter().chain([count(counter, KEY, 1, 5, 0), get(KEY)])));
+            }
+        }
+        for flags in [0, u32::MAX] {
+            let stored = set(KEY, b"143").extras(&stored(flags, 100));
+            cases.push(case([
+                stored,
+                join(opcode, KEY, b" degrees"),
+                get(KEY),
+                join(opcode, KEY, b"bearing"),
+                getk(KEY),
+            ]));
+        }
+    }
+    cases
+}
+
 fn expiries() -> Vec<Case> {
     let now = now();
     let expiries = [100, 2_592_000, 2_592_001, now - 100, now + 100, 0x8000_0000, 0xffff_ffff];
@@ -176,6 +213,15 @@ fn expiries() -> Vec<Case> {
         }
         for opcode in STORES {
             cases.push(case([set(KEY, b"1"), store(opcode, KEY, b"2").extras(&stored(7, expiry)), get(KEY)]));
+        }
+        for opcode in TOUCHES {
+            let touched = touch(opcode, KEY, expiry);
+            for cas in HeaderCas::ALL {
+                let touched = touched.clone().cas(cas);
+                cases.push(case([set(KEY, b"1"), get(KEY), touched.clone(), get(KEY), touched, get(KEY)]));
+            }
+            cases.push(case([dying.clone(), touched.clone(), get(KEY)]));
+            cases.push(case([touched.clone(), set(KEY, b"1"), delete(KEY), touched, get(KEY)]));
         }
         for opcode in COUNTERS {
             let counted = count(opcode, KEY, 1, 5, expiry);
@@ -201,7 +247,7 @@ pub fn wrong_forms(right: Request) -> Vec<Request> {
         wrong.extend([right.clone().extras(fewer), right.clone().extras(&[])]);
     }
     wrong.push(if key.is_empty() { right.clone().key(KEY) } else { right.clone().key(&[]) });
-    if !STORES.contains(&right.opcode) {
+    if !STORES.contains(&right.opcode) && !right.is_join() {
         wrong.push(right.clone().value(b"v"));
     }
     let (extras, body) = (extras.len() as u8, right.body() as u16);
@@ -233,8 +279,7 @@ fn opcodes() -> Vec<Case> {
 /// Commands that one side alone has, with all that they carry.
 fn with_bodies() -> Vec<Case> {
     const SECONDS: [u8; 4] = [0, 0, 0, 100];
-    let touches = [0x1c, 0x1d, 0x1e, 0x23, 0x24].map(|opcode| bare(opcode).extras(&SECONDS).key(KEY));
-    let joins = [0x0e, 0x0f].map(|opcode| bare(opcode).key(KEY).value(b"more"));
+    let touches = [0x1e, 0x23, 0x24].map(|opcode| bare(opcode).extras(&SECONDS).key(KEY));
     let numbers = [0, 0, 0, 0, 0, 0, 0, 0, 0, 0, 0, 0, 0, 0, 0, 20, 0, 0, 0, 0, 0, 0, 0, 30];
     let metas = [0xa2, 0xa4].map(|opcode| bare(opcode).extras(&numbers).key(KEY).value(b"v"));
     let unknown = [0x1b, 0x40, 0xa0, 0xff].map(|opcode| bare(opcode).extras(b"extras").key(KEY).value(b"value"));
@@ -248,23 +293,25 @@ fn with_bodies() -> Vec<Case> {
         bare(0x40).value(b"value"),
         bare(0x40).key(KEY).said(0, 9),
         bare(0x40).key(&[b'k'; KEY_MAX + 1]),
-        bare(0x0e).key(&[b'k'; KEY_MAX + 1]),
         bare(0x20).key(KEY),
         bare(0x21).key(b"PLAIN").value(b"\0boat\0secret"),
     ];
-    let all = touches.into_iter().chain(joins).chain(metas).chain(unknown).chain(others);
+    let all = touches.into_iter().chain(metas).chain(unknown).chain(others);
     all.flat_map(|request| [case([request.clone()]), case([set(KEY, b"1"), request])]).collect()
 }
 
 fn limits() -> Vec<Case> {
     let mut cases = vec![];
-    for opcode in STORES {
-        for size in [VALUE_MAX, VALUE_MAX + 1, 1400 - 8 - KEY.len(), 1401 - 8 - KEY.len(), 5000] {
-            let long = store(opcode, KEY, &vec![b'v'; size]);
-            cases.push(case([long.clone()]));
-            cases.push(case([set(KEY, b"1"), long.clone()]));
-            cases.push(case([set(KEY, b"1"), long.cas(HeaderCas::Other)]));
-        }
+    let longest = 1400 - KEY.len();
+    let value = |size| vec![b'v'; size];
+    let of_store = [VALUE_MAX, VALUE_MAX + 1, longest - 8, longest - 7, 5000].map(value);
+    let of_join = [VALUE_MAX, VALUE_MAX + 1, longest, longest + 1, 5000].map(value);
+    let stores = STORES.into_iter().flat_map(|opcode| of_store.iter().map(move |value| store(opcode, KEY, value)));
+    let joins = JOINS.into_iter().flat_map(|opcode| of_join.iter().map(move |value| join(opcode, KEY, value)));
+    for long in stores.chain(joins) {
+        cases.push(case([long.clone()]));
+        cases.push(case([set(KEY, b"1"), long.clone()]));
+        cases.push(case([set(KEY, b"1"), long.cas(HeaderCas::Other)]));
     }
     cases
 }
@@ -304,6 +351,8 @@ fn pipelines() -> Vec<Case> {
         store(opcode::REPLACE, b"b", b"0").quiet(),
         delete(b"c").quiet(),
         count(opcode::DECREMENT, b"d", 5, 3, 0).quiet(),
+        join(opcode::APPEND, b"a", b"0").quiet(),
+        join(opcode::PREPEND, b"b", b"0").quiet(),
     ];
     let refused = bare(0x40);
     [
@@ -321,7 +370,8 @@ fn pipelines() -> Vec<Case> {
 }
 
 fn pieces() -> Vec<Case> {
-    let whole = [set(KEY, b"bearing 143"), get(KEY), count(opcode::INCREMENT, b"n", 1, 5, 0)];
+    let (joined, touched) = (join(opcode::APPEND, KEY, b" degrees"), touch(opcode::GET_AND_TOUCH, KEY, 100));
+    let whole = [set(KEY, b"bearing 143"), get(KEY), count(opcode::INCREMENT, b"n", 1, 5, 0), joined, touched];
     let cut = |request: &Request| {
         let frame = 24 + request.body();
         [1, 23, 24, 25, frame - 1].map(|at| Step::Cut(request.clone(), at))
@@ -333,11 +383,11 @@ fn pieces() -> Vec<Case> {
 /// Documents that expire while both sides look on. memcached's clock may be a second behind.
 fn past_expiry() -> Case {
     let brief = |key: &[u8]| set(key, b"1").extras(&stored(0, 3));
-    let keys: Vec<Vec<u8>> = (b'a'..=b'h').map(|name| vec![name]).collect();
-    let born = keys.iter().map(|key| brief(key)).chain([bare(opcode::INCREMENT).key(b"i").extras(&counted(1, 5, 3))]);
-    let alive = keys.iter().map(|key| get(key)).chain([get(b"i")]);
+    let keys: Vec<Vec<u8>> = (b'a'..).take(keyed().len()).map(|name| vec![name]).collect();
+    let born = keys.iter().map(|key| brief(key)).chain([bare(opcode::INCREMENT).key(b"n").extras(&counted(1, 5, 3))]);
+    let alive = keys.iter().map(|key| get(key)).chain([get(b"n")]);
     let after = keyed().into_iter().zip(&keys).map(|(request, key)| request.key(key));
-    let end = keys.iter().map(|key| get(key)).chain([get(b"i")]);
+    let end = keys.iter().map(|key| get(key)).chain([get(b"n")]);
     let send = |requests: Vec<Request>| requests.into_iter().map(|request| Step::Send(vec![request]));
     let before = send(born.chain(alive).collect());
     let steps = before.chain([Step::Wait(6)]).chain(send(after.chain(end).collect())).collect();

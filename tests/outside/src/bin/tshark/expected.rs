@@ -98,9 +98,9 @@ fn extras_fields(written: &Written) -> Vec<Shown> {
     shown
 }
 
-/// Of the with-meta commands the dissector knows the extras of two, and it knows none of Get Keys.
+/// Of the with-meta commands the dissector knows the extras of two, and it knows none of Get Keys and the touches.
 fn takes_extras_apart(opcode: u8) -> bool {
-    opcode < opcode::SET_WITH_META || matches!(opcode, opcode::SET_WITH_META | opcode::DELETE_WITH_META)
+    opcode < opcode::TOUCH || matches!(opcode, opcode::SET_WITH_META | opcode::DELETE_WITH_META)
 }
 
 /// The bits of the options. A Delete has one that no request of ours sets.

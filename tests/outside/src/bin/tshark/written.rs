@@ -57,6 +57,15 @@ pub fn requests() -> Vec<Written> {
     for opcode in COUNTERS {
         requests.push(request(opcode, counted(), b"sonar:17", b""));
     }
+    for opcode in JOINS {
+        requests.push(request(opcode, vec![], b"sonar:17", b"bearing 143"));
+        requests.push(request(opcode, vec![], b"sonar:17", b""));
+        requests.push(request(opcode, vec![], &[b'k'; KEY_MAX], &[b'v'; VALUE_MAX]));
+    }
+    for opcode in [opcode::TOUCH, opcode::GET_AND_TOUCH] {
+        requests.push(request(opcode, vec![extra("expiration", 4, 0x5152_5354)], b"sonar:17", b""));
+        requests.push(request(opcode, vec![extra("expiration", 4, 0)], &[b'k'; KEY_MAX], b""));
+    }
     for opcode in WITH_META {
         requests.extend(with_meta(opcode));
     }
@@ -77,6 +86,7 @@ pub fn start_key() -> Written {
 const KEY_ALONE: [u8; 6] = [opcode::GET, opcode::GETQ, opcode::GETK, opcode::GETKQ, opcode::DELETE, opcode::DELETEQ];
 const STORES: [u8; 6] = [opcode::SET, opcode::SETQ, opcode::ADD, opcode::ADDQ, opcode::REPLACE, opcode::REPLACEQ];
 const COUNTERS: [u8; 4] = [opcode::INCREMENT, opcode::INCREMENTQ, opcode::DECREMENT, opcode::DECREMENTQ];
+const JOINS: [u8; 4] = [opcode::APPEND, opcode::APPENDQ, opcode::PREPEND, opcode::PREPENDQ];
 const WITH_META: [u8; 6] = [
     opcode::SET_WITH_META,
     opcode::SETQ_WITH_META,
