@@ -5,6 +5,7 @@
 //     row none                              sets the key's row: the key has none,
 //     row tomb REVISION CAS                 a tombstone,
 //     row doc FLAGS EXPIRY REVISION CAS 'VALUE'   or a document
+//     size SIZE                             sets the stored value's size, its bytes aside
 //     free yes | free no                    sets whether a row is free
 //     clock SECONDS                         sets the clock
 //     COMMAND VBUCKET CAS ..                a request with this header, answered by what is decided on all of this
@@ -12,7 +13,7 @@
 //
 // The commands, and what follows their CAS: get, getk, noop, version and delete nothing; set, add and replace FLAGS EXPIRY SIZE, the
 // size of the value; incr and decr DELTA INITIAL EXPIRY; setm, addm and delm, the with-meta writes, FLAGS EXPIRY REVISION CAS OPTIONS
-// SIZE. Numbers are decimal, or hexadecimal after 0x, and count by as many low bits as their field has. A request changes nothing for the
+// SIZE; append and prepend SIZE; touch and gat, Get-and-touch, EXPIRY. Numbers are decimal, or hexadecimal after 0x, and count by as many low bits as their field has. A request changes nothing for the
 // next line. Any other line is answered by `what?`.
 mod requests;
 mod setting;

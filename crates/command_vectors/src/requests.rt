@@ -8,6 +8,8 @@ use commands::Kind;
 use commands::Meta;
 use commands::MetaKind;
 use commands::Plain;
+use commands::Touching;
+use document::Side;
 use numbers::Cas;
 
 pub(crate) enum Decoded {
@@ -41,6 +43,22 @@ fn plain_opcode(word: &[u8]) -> u8 {
     0xff
 }
 
+fn joined_opcode(word: &[u8]) -> u8 {
+    if octets::same(word, b"append") {
+        return 0x0e;
+    }
+    if octets::same(word, b"prepend") {
+        return 0x0f;
+    }
+    if octets::same(word, b"touch") {
+        return 0x1c;
+    }
+    if octets::same(word, b"gat") {
+        return 0x1d;
+    }
+    plain_opcode(word)
+}
+
 fn opcode(word: &[u8]) -> u8 {
     if octets::same(word, b"noop") {
         return 0x0a;
@@ -63,7 +81,7 @@ fn opcode(word: &[u8]) -> u8 {
     if octets::same(word, b"keys") {
         return 0xb8;
     }
-    plain_opcode(word)
+    joined_opcode(word)
 }
 
 // How many fields a command's line has, with vbucket and header CAS.
@@ -71,7 +89,7 @@ fn width(opcode: u8) -> usize {
     match opcode {
         0x01 | 0x02 | 0x03 | 0x05 | 0x06 => 5,
         0xa2 | 0xa4 | 0xa8 => 8,
-        0xb8 => 3,
+        0x0e | 0x0f | 0x1c | 0x1d | 0xb8 => 3,
         _ => 2,
     }
 }
@@ -79,6 +97,7 @@ fn width(opcode: u8) -> usize {
 fn size(opcode: u8, f: Fields) -> usize {
     match opcode {
         0x01 | 0x02 | 0x03 => text::field(f, 4) as usize,
+        0x0e | 0x0f => text::field(f, 2) as usize,
         0xa2 | 0xa4 | 0xa8 => text::field(f, 7) as usize,
         _ => 0,
     }
@@ -123,6 +142,13 @@ fn with_meta(kind: MetaKind, f: Fields) -> Command {
     })
 }
 
+fn touch(shown: bool, f: Fields) -> Command {
+    Command::Touch(Touching {
+        expiry: text::low32(text::field(f, 2)),
+        shown,
+    })
+}
+
 fn command(opcode: u8, f: Fields) -> Command {
     match opcode {
         0x00 => Command::Get(false),
@@ -134,6 +160,10 @@ fn command(opcode: u8, f: Fields) -> Command {
         0x06 => counter(false, f),
         0x0b => Command::Version,
         0x0c => Command::Get(true),
+        0x0e => Command::Join(Side::Back),
+        0x0f => Command::Join(Side::Front),
+        0x1c => touch(false, f),
+        0x1d => touch(true, f),
         0xa2 => with_meta(MetaKind::Set, f),
         0xa4 => with_meta(MetaKind::Add, f),
         0xa8 => with_meta(MetaKind::Delete, f),

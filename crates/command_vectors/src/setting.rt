@@ -29,6 +29,7 @@ pub(crate) fn first() -> Context {
         free: true,
         clock: 0,
         number: Number::NoNumber,
+        size: 0,
     }
 }
 
@@ -54,17 +55,35 @@ fn with_head(t: Context, head: Head) -> Context {
         free: t.free,
         clock: t.clock,
         number,
+        size: t.size,
     }
 }
 
-fn with_row(t: Context, row: Stored, number: Number) -> Context {
+// value: the stored one
+fn with_row(t: Context, row: Stored, value: &[u8]) -> Context {
     let head = t.head;
     Context {
         head,
         row,
         free: t.free,
         clock: t.clock,
+        number: digits::parse(value),
+        size: value.len(),
+    }
+}
+
+// Another size of the stored value.
+fn with_size(t: Context, size: usize) -> Context {
+    let head = t.head;
+    let row = t.row;
+    let number = t.number;
+    Context {
+        head,
+        row,
+        free: t.free,
+        clock: t.clock,
         number,
+        size,
     }
 }
 
@@ -78,6 +97,7 @@ fn with_free(t: Context, free: bool) -> Context {
         free,
         clock: t.clock,
         number,
+        size: t.size,
     }
 }
 
@@ -91,6 +111,7 @@ fn with_clock(t: Context, clock: u32) -> Context {
         free: t.free,
         clock,
         number,
+        size: t.size,
     }
 }
 
@@ -130,24 +151,16 @@ fn change_row(line: &[u8], t: Context) -> Changed {
     let rest = text::after(line, b' ');
     if octets::same(word, b"tomb") {
         let f = text::spelled(rest);
-        return if_good(
-            text::are(f, 2),
-            with_row(t, tombstone(f), Number::NoNumber),
-            t,
-        );
+        return if_good(text::are(f, 2), with_row(t, tombstone(f), b""), t);
     }
     if octets::same(word, b"doc") {
         let f = text::spelled(text::before(rest, b'\''));
         let value = text::before(text::after(rest, b'\''), b'\'');
-        return if_good(
-            text::are(f, 4),
-            with_row(t, document(f), digits::parse(value)),
-            t,
-        );
+        return if_good(text::are(f, 4), with_row(t, document(f), value), t);
     }
     if_good(
         octets::same(line, b"none"),
-        with_row(t, Stored::Nothing, Number::NoNumber),
+        with_row(t, Stored::Nothing, b""),
         t,
     )
 }
@@ -169,6 +182,10 @@ pub(crate) fn change(line: &[u8], t: Context) -> Changed {
             with_clock(t, text::low32(text::field(f, 0))),
             t,
         );
+    }
+    if octets::same(word, b"size") {
+        let f = text::spelled(rest);
+        return if_good(text::are(f, 1), with_size(t, text::field(f, 0) as usize), t);
     }
     if octets::same(word, b"head") {
         let f = text::spelled(rest);

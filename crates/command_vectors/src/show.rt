@@ -2,6 +2,7 @@
 use decision::Decision;
 use document::Head;
 use document::Metadata;
+use document::Side;
 use document::Stored;
 use effects::Reply;
 use effects::Source;
@@ -32,11 +33,20 @@ fn counted(n: u64) {
     text(b"'");
 }
 
+fn joined(side: Side) {
+    match side {
+        Side::Front => text(b" value of the frame, then the stored one"),
+        Side::Back => text(b" value stored, then the frame's"),
+    }
+}
+
 fn source(s: Source) {
     match s {
         Source::Empty => text(b" value empty"),
         Source::Frame => text(b" value of the frame"),
         Source::Digits(n) => counted(n),
+        Source::Kept => text(b" value kept"),
+        Source::Joined(side) => joined(side),
     }
 }
 

@@ -238,7 +238,7 @@ fn answer_lines(input: &[u8], memory: &mut [u8], area: &mut [u8], space: &mut [u
 }
 
 fn main() {
-    let mut input = [0u8; 131072];
+    let mut input = [0u8; 262144];
     let n = io::read_full(0, &mut input);
     let mut memory = [0u8; 340000];
     let mut area = [0u8; 2048];
