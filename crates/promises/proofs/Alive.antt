@@ -44,13 +44,14 @@ use Rattle.serving.proofs.Formed.{no, by-cond}
 use Rattle.serving.proofs.Gated.{was-open}
 use Rattle.promises.specs.Merge.{docAt, modeAt}
 use Rattle.promises.specs.Kept.{laterAt, keptBy}
-use Rattle.promises.specs.Expiry.{opcode, headerCas, extrasIn, keyIn, gets, adds, replaces, deletes, keyed, needsLive, toldLive, readLive}
+use Rattle.promises.specs.Expiry.{opcode, headerCas, extrasIn, keyIn, gets, adds, replaces, deletes, withMetas, touches, joins, keyed, needsLive, toldLive, tells, readLive}
 use Rattle.promises.specs.Expiry.{NotLive, Answers, Reaches, OneLiveness, LiveIsFound, DeadIsCompared, GetKeeps}
 use Rattle.promises.specs.Clock.{readOnly}
 use Rattle.promises.proofs.Kept.{raised-bytes}
-use Rattle.promises.proofs.Asks.{Each, at-opcode, ask, reads, carries, added}
+use Rattle.promises.proofs.Asks.{Each, at-opcode, tested, ask, reads, carries, added}
 use Rattle.promises.proofs.Liveness.{and-false, or-false, dead-at, alive-at, status, answers, avoids, answered, without}
-use Rattle.promises.proofs.Dead.{seen, command, rule, instruction, tests, sought, unguarded, not-missing, without-missing, without-conflict, is-missing, is-conflict}
+use Rattle.promises.proofs.Dead.{seen, command, rule, instruction, tests, needs-keyed, sought, unguarded, not-missing, not-unstored, join-joins}
+use Rattle.promises.proofs.Dead.{without-unstored, without-missing, without-conflict, is-unstored, is-missing, is-conflict}
 
 -- ---- what the owner's read tells
 shown-live : (rows : List Row) (clock : ℕ) (k : Key) (d : Doc) → readLive (shown rows clock k (some d)) ≡ live (storedOf (some d)) clock
@@ -69,6 +70,10 @@ unfolding readOf
 read-live b clock k e = rw e (read-row (tableOf b .rows) (clockAt (tableOf b) clock) k (docAt b k))
 
 -- ---- what a frame's status tells
+add-keyed : (n : ℕ) → among n adds ≡ true → among n keyed ≡ true
+unfolding among
+add-keyed n e = tested (λ x. among x keyed) n adds refl e
+
 module _ (b : List ℕ) (clock : ℕ) (s : List ℕ) where
   abbrev lives : Bool
   lives = live (storedOf (docAt b (keyIn s))) (clockAt (tableOf b) clock)
@@ -81,6 +86,15 @@ module _ (b : List ℕ) (clock : ℕ) (s : List ℕ) where
   unfolding testsOf
   not-found e t = rw (sought b clock s e, t)
 
+  -- a join
+  stored : lives ≡ true → tests b clock s .unstored ≡ false
+  unfolding testsOf
+  stored t = rw t (and-false (rule b clock s .joins))
+
+  not-stored : among (opcode s) joins ≡ true → lives ≡ false → tests b clock s .unstored ≡ true
+  unfolding testsOf
+  not-stored e t = rw (join-joins b clock s e, t)
+
   -- an Add without a header CAS
   contest : rule b clock s .beaten ≡ false → rule b clock s .fresh ≡ true → headerCas s ≡ 0 → (x : Bool) → lives ≡ x → tests b clock s .conflict ≡ x
   unfolding testsOf
@@ -92,33 +106,38 @@ module _ (b : List ℕ) (clock : ℕ) (s : List ℕ) where
     needed-told e n z =
         cases lives
         (λ t. rw (t, ne-eqb n 0x01 (λ y. without 0x01 _ (without-missing b clock s (found t)) (z ∙ y))))
-        (λ t. rw (t, eq-eqb n 0x01 (sym z ∙ is-missing b clock s room r (not-found e t))))
+        (λ t. rw (t, eq-eqb n 0x01 (sym z ∙ is-missing b clock s room r (not-unstored b clock s (needs-keyed s e)) (not-found e t))))
+
+    joined-told : among (opcode s) joins ≡ true → (n : ℕ) → status b clock s room ≡ n → not (eqb n 0x05) ≡ lives
+    joined-told e n z =
+        cases lives
+        (λ t. rw (t, ne-eqb n 0x05 (λ y. without 0x05 _ (without-unstored b clock s (stored t)) (z ∙ y))))
+        (λ t. rw (t, eq-eqb n 0x05 (sym z ∙ is-unstored b clock s room r (not-stored e t))))
 
     added-told : among (opcode s) adds ≡ true → headerCas s ≡ 0 → (n : ℕ) → status b clock s room ≡ n → eqb n 0x02 ≡ lives
     unfolding requestOf
     added-told e c n z =
         let (needless, (unbeaten, fresh)) = added (seen b clock s) (extrasIn s) (opcode s) e in
         cases lives
-        (λ t. rw (t, eq-eqb n 0x02 (sym z ∙ is-conflict b clock s room r (not-missing b clock s needless c) (contest unbeaten fresh c true t))))
+        (λ t.
+        let first = is-conflict b clock s room r (not-unstored b clock s (add-keyed (opcode s) e)) (not-missing b clock s needless c) (contest unbeaten fresh c true t) in
+        rw (t, eq-eqb n 0x02 (sym z ∙ first)))
         (λ t. rw (t, ne-eqb n 0x02 (λ y. without 0x02 _ (without-conflict b clock s (contest unbeaten fresh c false t)) (z ∙ y))))
 
 -- where a document isn't needed, an Add has no header CAS
-add-keyed : (n : ℕ) → among n adds ≡ true → among n keyed ≡ true
-unfolding among
-add-keyed n e = at-opcode (λ x. among x keyed ≡ true) n adds (refl, (refl, tt)) e
-
 add-bare : (s : List ℕ) → among (opcode s) adds ≡ true → needsLive s ≡ false → headerCas s ≡ 0
 add-bare s e f =
-    let (_, g) = neither (among (opcode s) (gets ++ (replaces ++ deletes))) _ f in
+    let (_, g) = neither (among (opcode s) (gets ++ (replaces ++ (deletes ++ touches)))) _ f in
     let (h, _) = neither (among (opcode s) keyed && not (eqb (headerCas s) 0)) _ g in
     eqb-true (headerCas s) 0 (not-false (eqb (headerCas s) 0) (rw (add-keyed (opcode s) e) at h))
 
-told : (b : List ℕ) (clock : ℕ) (s : List ℕ) (room n : ℕ) → Reaches b clock s room → (needsLive s || among (opcode s) adds) ≡ true
-    → status b clock s room ≡ n → toldLive s n ≡ lives b clock s
+told : (b : List ℕ) (clock : ℕ) (s : List ℕ) (room n : ℕ) → Reaches b clock s room → tells s ≡ true → status b clock s room ≡ n → toldLive s n ≡ lives b clock s
 told b clock s room n r e z =
-    cases (needsLive s)
-    (λ t. rw t (needed-told b clock s room r t n z))
-    (λ t. let a : among (opcode s) adds ≡ true = rw t at e in rw t (added-told b clock s room r a (add-bare s a t) n z))
+    cases (among (opcode s) joins)
+    (λ j. rw j (joined-told b clock s room r j n z))
+    (λ j. cases (needsLive s)
+    (λ t. rw (j, t) (needed-told b clock s room r t n z))
+    (λ t. let a : among (opcode s) adds ≡ true = rw (j, t) at e in rw (j, t) (added-told b clock s room r a (add-bare s a t) n z)))
 
 pub one-liveness : OneLiveness
 one-liveness b clock s room n r e (len, a) =
@@ -127,7 +146,9 @@ one-liveness b clock s room n r e (len, a) =
 pub live-is-found : LiveIsFound
 live-is-found b clock s room d r at l e =
     let t : lives b clock s ≡ true = rw at (alive-at b clock d l) in
-    (avoids b clock s room 0x01 (without-missing b clock s (found b clock s t)), read-live b clock (keyIn s) (r .undamaged) ∙ t)
+    let missed = avoids b clock s room 0x01 (without-missing b clock s (found b clock s t)) in
+    let unstored = avoids b clock s room 0x05 (without-unstored b clock s (stored b clock s t)) in
+    ((missed, unstored), read-live b clock (keyIn s) (r .undamaged) ∙ t)
 
 -- ---- with-meta
 module _ (b : List ℕ) (clock : ℕ) (s : List ℕ) (d : Doc) (at : docAt b (keyIn s) ≡ some d) (n : NotLive (laterAt b clock) (some d)) (c : headerCas s ≡ 0)
@@ -151,13 +172,17 @@ module _ (b : List ℕ) (clock : ℕ) (s : List ℕ) (d : Doc) (at : docAt b (ke
   unfolding testsOf
   compared = rw (beaten, unguarded b clock s c, unfound, and-false (rule b clock s .fresh)) (or-false (not wins))
 
+meta-keyed : (n : ℕ) → among n withMetas ≡ true → among n keyed ≡ true
+unfolding among
+meta-keyed n e = tested (λ x. among x keyed) n withMetas refl e
+
 pub dead-is-compared : DeadIsCompared
 unfolding requestOf
 dead-is-compared b clock s room d r at n e c unforced unskipped =
     let (k, asks) = carries (seen b clock s) (extrasIn s) (opcode s) e in
     let needs = not-missing b clock s (needless b clock s d at n c k asks unforced unskipped) c in
     let x = compared b clock s d at n c k asks unforced unskipped in (
-      λ f. answers b clock s room r 0x02 (is-conflict b clock s room r needs (x ∙ ap not f)),
+      λ f. answers b clock s room r 0x02 (is-conflict b clock s room r (not-unstored b clock s (meta-keyed (opcode s) e)) needs (x ∙ ap not f)),
       λ t. (avoids b clock s room 0x01 (without-missing b clock s needs), avoids b clock s room 0x02 (without-conflict b clock s (x ∙ ap not t))),
     )
 

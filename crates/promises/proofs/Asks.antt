@@ -1,27 +1,29 @@
 -- How the commands of frames stand to the tests, by their opcodes.
 use Prim.Native.Nat.{ℕ}
-use mathlib.Core.Path.{_≡_, refl, sym, subst}
-use mathlib.Core.Bool.{Bool, true, false, _||_}
+use mathlib.Core.Path.{_≡_, refl, sym, ap, subst, _∙_}
+use mathlib.Core.Bool.{Bool, true, false, not, _&&_, _||_}
 use mathlib.Core.List.{List, [], _∷_, _++_}
 use mathlib.Core.Logic.{_⊎_, inl, inr}
 use lib.Dec.{eqb}
 use borrow.Author.Tests.{eqb-true}
 use Rattle.octets.specs.BigEndian.{num}
-use Rattle.octets.proofs.Choices.{cases, neither}
+use Rattle.octets.proofs.Choices.{cases, both, neither}
 use Rattle.shape.specs.declared.Shape.{Shape}
 use Rattle.shape.specs.Shapes.{commands, unbuilt, among, shapeBy, lookUp, shapeOf, Command as Known}
+use Rattle.document.specs.declared.Side.{Side}
+use Rattle.document.specs.declared.Side.the-variants.{Front, Back}
 use Rattle.with_meta.specs.WithMeta.{withMeta}
 use Rattle.commands.specs.declared.Kind.{Kind}
 use Rattle.commands.specs.declared.Kind.the-variants.{Set, Add, Replace}
 use Rattle.commands.specs.declared.MetaKind.{MetaKind}
 use Rattle.commands.specs.declared.MetaKind.the-variants.{Set as SetMeta, Add as AddMeta, Delete as DeleteMeta}
 use Rattle.commands.specs.declared.Command.{Command}
-use Rattle.commands.specs.declared.Command.the-variants.{Get, Write, Delete, Count, Noop, Version, WithMeta, GetKeys}
+use Rattle.commands.specs.declared.Command.the-variants.{Get, Write, Delete, Count, Noop, Version, WithMeta, GetKeys, Join, Touch}
 use Rattle.commands.specs.declared.Context.{Context}
 use Rattle.commands.specs.Rules.{ruleOf}
-use Rattle.decode.specs.Decode.{plainOf, counterOf, metaCommand, commandOf}
+use Rattle.decode.specs.Decode.{plainOf, counterOf, touchOf, metaCommand, commandOf}
 use Rattle.serving.proofs.Formed.{no}
-use Rattle.promises.specs.Expiry.{gets, sets, adds, replaces, deletes, counters, withMetas, keyed}
+use Rattle.promises.specs.Expiry.{gets, sets, adds, replaces, deletes, counters, withMetas, touches, appends, prepends, joins, keyed}
 
 -- ---- what holds of each opcode of a list
 module _ {ℓ} (P : ℕ → Type ℓ) where
@@ -34,73 +36,36 @@ module _ {ℓ} (P : ℕ → Type ℓ) where
   at-opcode n [] p e = no e
   at-opcode n (x ∷ l) p e = cases (eqb n x) (λ t. subst P (sym (eqb-true n x t)) (p .0)) (λ t. at-opcode n l (p .1) (rw t at e))
 
+-- a test that each of them passes, computed for all of them at once
+module _ (f : ℕ → Bool) where
+  abbrev pub allPass : List ℕ → Bool
+  allPass [] = true
+  allPass (n ∷ ns) = f n && allPass ns
+
+  pub tested : (n : ℕ) (l : List ℕ) → allPass l ≡ true → among n l ≡ true → f n ≡ true
+  unfolding among
+  tested n [] p e = no e
+  tested n (x ∷ l) p e =
+      let (here, there) = both (f x) (allPass l) p in
+      cases (eqb n x) (λ t. ap f (eqb-true n x t) ∙ here) (λ t. tested n l there (rw t at e))
+
 -- ---- the command of an opcode with these extras, as a decision sees it
 module _ (c : Context) (extras : List ℕ) where
   abbrev pub ask : ℕ → Command
   ask n = commandOf (shapeOf n .operation) extras
 
-  abbrev Needs : ℕ → Type 0
-  Needs n = ruleOf c (ask n) .needs ≡ true
+  pub needs : (n : ℕ) → among n (gets ++ (replaces ++ (deletes ++ touches))) ≡ true → ruleOf c (ask n) .needs ≡ true
+  unfolding shapeOf commandOf ruleOf plainOf touchOf
+  needs n e = tested (λ x. ruleOf c (ask x) .needs) n (gets ++ (replaces ++ (deletes ++ touches))) refl e
 
-  pub needs : (n : ℕ) → among n (gets ++ (replaces ++ deletes)) ≡ true → Needs n
-  unfolding shapeOf commandOf ruleOf plainOf
-  needs n e = at-opcode Needs n (gets ++ (replaces ++ deletes)) (refl, (refl, (refl, (refl, (refl, (refl, (refl, (refl, tt)))))))) e
+  pub guarded : (n : ℕ) → among n keyed ≡ true → (ruleOf c (ask n) .guarded || ruleOf c (ask n) .needs) ≡ true
+  unfolding shapeOf commandOf ruleOf plainOf counterOf touchOf metaCommand
+  guarded n e = tested (λ x. ruleOf c (ask x) .guarded || ruleOf c (ask x) .needs) n keyed refl e
 
-  abbrev Guarded : ℕ → Type 0
-  Guarded n = (ruleOf c (ask n) .guarded || ruleOf c (ask n) .needs) ≡ true
-
-  pub guarded : (n : ℕ) → among n keyed ≡ true → Guarded n
-  unfolding shapeOf commandOf ruleOf plainOf counterOf metaCommand
-  guarded n e =
-      at-opcode Guarded n keyed (
-        refl,
-        (
-          refl,
-          (
-            refl,
-            (
-              refl,
-              (
-                refl,
-                (
-                  refl,
-                  (
-                    refl,
-                    (
-                      refl,
-                      (
-                        refl,
-                        (
-                          refl,
-                          (
-                            refl,
-                            (
-                              refl,
-                              (
-                                refl,
-                                (
-                                  refl,
-                                  (
-                                    refl,
-                                    (
-                                      refl,
-                                      (refl, (refl, (refl, (refl, (refl, (refl, tt)))))),
-                                    ),
-                                  ),
-                                ),
-                              ),
-                            ),
-                          ),
-                        ),
-                      ),
-                    ),
-                  ),
-                ),
-              ),
-            ),
-          ),
-        ),
-      ) e
+  -- none of them joins
+  pub joinless : (n : ℕ) → among n keyed ≡ true → not (ruleOf c (ask n) .joins) ≡ true
+  unfolding shapeOf commandOf ruleOf plainOf counterOf touchOf metaCommand
+  joinless n e = tested (λ x. not (ruleOf c (ask x) .joins)) n keyed refl e
 
   -- a Get's whole rule
   abbrev Reads : ℕ → Type 0
@@ -155,6 +120,34 @@ module _ (c : Context) (extras : List ℕ) where
       at-opcode Carries n withMetas
       ((SetMeta, refl), ((SetMeta, refl), ((AddMeta, refl), ((AddMeta, refl), ((DeleteMeta, refl), ((DeleteMeta, refl), tt)))))) e
 
+  -- Append and Prepend, at the back and at the front of the stored value
+  abbrev JoinsAt : Side → ℕ → Type 0
+  JoinsAt side n = ask n ≡ Join side
+
+  pub appending : (n : ℕ) → among n appends ≡ true → JoinsAt Back n
+  unfolding shapeOf commandOf
+  appending n e = at-opcode (JoinsAt Back) n appends (refl, (refl, tt)) e
+
+  pub prepending : (n : ℕ) → among n prepends ≡ true → JoinsAt Front n
+  unfolding shapeOf commandOf
+  prepending n e = at-opcode (JoinsAt Front) n prepends (refl, (refl, tt)) e
+
+  -- either of them
+  abbrev JoinsAny : ℕ → Type 0
+  JoinsAny n = (side : Side) × JoinsAt side n
+
+  pub joining : (n : ℕ) → among n joins ≡ true → JoinsAny n
+  unfolding shapeOf commandOf
+  joining n e = at-opcode JoinsAny n joins ((Back, refl), ((Back, refl), ((Front, refl), ((Front, refl), tt)))) e
+
+  -- Touch and Get-and-touch
+  abbrev TouchesAt : ℕ → Type 0
+  TouchesAt n = (shown : Bool) × (ask n ≡ Touch (record { expiry = num extras 0 4; shown = shown }))
+
+  pub touching : (n : ℕ) → among n touches ≡ true → TouchesAt n
+  unfolding shapeOf commandOf touchOf
+  touching n e = at-opcode TouchesAt n touches ((false, refl), ((true, refl), tt)) e
+
 -- ---- commands but the with-meta ones
 abbrev pub IsPlain : Command → Type 0
 IsPlain (Get k) = Unit {0}
@@ -165,6 +158,8 @@ IsPlain Noop = Unit {0}
 IsPlain Version = Unit {0}
 IsPlain (WithMeta w) = ⊥
 IsPlain (GetKeys n) = Unit {0}
+IsPlain (Join side) = Unit {0}
+IsPlain (Touch t) = Unit {0}
 
 module _ (op : ℕ) (extras : List ℕ) where
   abbrev PlainShape : Shape → Type 0
@@ -183,7 +178,7 @@ module _ (op : ℕ) (extras : List ℕ) where
   looked-up (c ∷ cs) other (inr (l, k), e) p = rw (l, k) (looked-up cs other e p)
 
   pub plain-asked : among op withMetas ≡ false → PlainShape (shapeOf op)
-  unfolding shapeOf among commandOf plainOf counterOf
+  unfolding shapeOf among commandOf plainOf counterOf touchOf
   plain-asked e =
       let (a2, e) = neither (eqb op 0xa2) _ e in
       let (a3, e) = neither (eqb op 0xa3) _ e in
@@ -199,7 +194,7 @@ module _ (op : ℕ) (extras : List ℕ) where
             inl tt,
             (
               inl tt,
-              (inl tt, (inl tt, (inl tt, (inl tt, (inl tt, (inl tt, (inr (a2, rw a3), (inr (a4, rw a5), (inr (a8, rw a9), (inl tt, tt)))))))))),
+              (inl tt, (inl tt, (inl tt, (inl tt, (inl tt, (inl tt, (inr (a2, rw a3), (inr (a4, rw a5), (inr (a8, rw a9), (inl tt, (inl tt, (inl tt, (inl tt, (inl tt, tt)))))))))))))),
             ),
           ),
         ),

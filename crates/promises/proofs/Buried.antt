@@ -50,7 +50,7 @@ use Rattle.promises.specs.Expiry.{opcode, extrasIn, keyIn, withMetas, Ex
 use Rattle.promises.proofs.Kept.{raised-good, raised-bytes, good-later, kept-docs}
 use Rattle.promises.proofs.Asks.{plain-asked, IsPlain}
 use Rattle.promises.proofs.Liveness.{dead, dead-at}
-use Rattle.promises.proofs.Alike.{Blind, blind-reply, put-dead, same-decision}
+use Rattle.promises.proofs.Alike.{Blind, blind-effect, blind-reply, put-dead, same-decision}
 
 -- ---- rows
 pub found-good : (mark : ℕ) (ws : List Row) (k : Key) (d : Doc) → AllGood mark ws → findRow ws k ≡ some d → EntryGood mark (record { key = k; doc = d })
@@ -147,7 +147,7 @@ module _ (b : List ℕ) (clock : ℕ) (s : List ℕ) (d : Doc) (y : Bytes b) (z 
 
   -- ---- the decision
   abbrev Same : Decision → Decision → Type 0
-  Same x x′ = (x ≡ x′) × Blind (x .done .reply)
+  Same x x′ = (x ≡ x′) × Blind (x .done)
 
   plain-command : IsPlain (requestOf s h .command)
   unfolding requestOf
@@ -165,19 +165,21 @@ module _ (b : List ℕ) (clock : ℕ) (s : List ℕ) (d : Doc) (y : Bytes b) (z 
 
   rows-alike : Same (with (findRow (t .rows) k) (freeRows (t .rows))) (with (findRow (u .rows) k) (freeRows (u .rows)))
   rows-alike =
-      let alike = same-decision (t .head) (ltb 0 (freeRows (t .rows))) c (metadataOf d) (metadataOf (tombstoneOf d)) (numberOf (d .value)) (numberOf [])
+      let alike = same-decision (t .head) (ltb 0 (freeRows (t .rows))) c (metadataOf d) (metadataOf (tombstoneOf d)) (numberOf (d .value)) (numberOf []) (length (d .value)) 0
       dead-row dead-grave refl refl (instructionOf (requestOf s h)) plain-command in
       let e : with (findRow (t .rows) k) (freeRows (t .rows)) ≡ with (some d) (freeRows (t .rows)) = λ j. with (there j) (freeRows (t .rows)) in
       let f : with (findRow (u .rows) k) (freeRows (u .rows)) ≡ with (some (tombstoneOf d)) (freeRows (t .rows)) = λ j. with (grave-found j) (grave-free j) in
-      (e ∙ alike .0 ∙ sym f, subst (λ (x : Decision). Blind (x .done .reply)) (sym e) (alike .1))
+      (e ∙ alike .0 ∙ sym f, subst (λ (x : Decision). Blind (x .done)) (sym e) (alike .1))
 
   decided : Same (decisionOn t c s h) (decisionOn u c s h)
   unfolding decisionOn
-  decided = cases (reachesDecision (frameStatus s h)) (λ r. rw r rows-alike) (λ r. rw r (refl, tt))
+  decided = cases (reachesDecision (frameStatus s h)) (λ r. rw r rows-alike) (λ r. rw r (refl, (tt, tt)))
 
   effects : frameEffect t c s h ≡ frameEffect u c s h
   unfolding frameEffect
-  effects = ap (effectOf (requestOf s h)) (decided .0)
+  effects =
+      blind-effect (requestOf s h) (findRow (t .rows) k) (findRow (u .rows) k) (decisionOn t c s h) (decided .1)
+      ∙ ap (effectOf (requestOf s h) (findRow (u .rows) k)) (decided .0)
 
   -- ---- a whole frame
   replies : frameReply b clock s h ≡ frameReply grave clock s h

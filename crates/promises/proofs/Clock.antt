@@ -41,13 +41,13 @@ use Rattle.serving.specs.Serve.{gateAll, decisionOn, frameEffect, frameTable, s
 use Rattle.serving.proofs.Formed.{no}
 use Rattle.promises.specs.Merge.{docAt}
 use Rattle.promises.specs.Kept.{keptAt, laterAt}
-use Rattle.promises.specs.Expiry.{Expired, NotLive}
+use Rattle.promises.specs.Expiry.{Expired, NotLive, keyIn}
 use Rattle.promises.specs.Listing.{docsIn}
 use Rattle.promises.specs.Clock.{TableCall, Serve, Purge, Read, clockOf, tableCalled, memoryAfter, raises, AllGiven, clockAfter, writesKey, Unwritten}
 use Rattle.promises.specs.Clock.{KeepsLatest, ExpiredForGood, StaysExpired, ReadsAlone, SumsLater}
 use Rattle.promises.proofs.Kept.{kept-clock, kept-good}
 use Rattle.promises.proofs.Liveness.{dead, dead-at}
-use Rattle.promises.proofs.Dead.{dead-is-missing}
+use Rattle.promises.proofs.Dead.{dead-is-missing, dead-is-unstored}
 use Rattle.promises.proofs.Steps.{Left, Steps, purged-doc, purged-bytes, purged-good, step}
 
 -- ---- damaged memory: no call changes it, and none raises its clock
@@ -146,6 +146,9 @@ module _ (t : Table) (k : Key) (d : Doc) (o : Over t k d) where
   not-live : (clock : ℕ) → NotLive (laterAt b clock) (docAt b k)
   not-live clock = not-live-by clock (docAt b k) left
 
+  not-live-in : (clock : ℕ) (s : List ℕ) → keyIn s ≡ k → NotLive (laterAt b clock) (docAt b (keyIn s))
+  not-live-in clock s e = subst (λ (j : Key). NotLive (laterAt b clock) (docAt b j)) (sym e) (not-live clock)
+
   shown-over : (rows : List Row) (clock : ℕ) (x : Option Doc) → live (storedOf x) clock ≡ false → shown rows clock k x ≡ Missing
   shown-over rows clock none e = refl
   shown-over rows clock (some y) e = rw e
@@ -184,7 +187,8 @@ module _ (t : Table) (k : Key) (d : Doc) (o : Over t k d) where
     expired = past;
     read = unread;
     listed = unlisted;
-    frame = λ clock s room r e n. dead-is-missing b clock s room r (subst (λ (j : Key). NotLive (laterAt b clock) (docAt b j)) (sym e) (not-live clock)) n .0;
+    frame = λ clock s room r e n. dead-is-missing b clock s room r (not-live-in clock s e) n .0;
+    joined = λ clock s room r e n. dead-is-unstored b clock s room r (not-live-in clock s e) n .0;
     purge = freed;
   }
 

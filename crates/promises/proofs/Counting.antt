@@ -13,7 +13,7 @@ use Rattle.octets.proofs.Choices.{cases}
 use Rattle.octets.proofs.Tests.{same-refl}
 use Rattle.digits.specs.Decimal.{digits}
 use Rattle.numbers.specs.Expiry.{passes, absolute}
-use Rattle.document.specs.Documents.{Doc}
+use Rattle.document.specs.Documents.{Doc, docValue}
 use Rattle.document.specs.Stored.{live, numbersOf}
 use Rattle.header.specs.Header.{headerOf}
 use Rattle.request.specs.declared.Gate.the-variants.{Whole}
@@ -21,7 +21,8 @@ use Rattle.request.specs.Reading.{frameStatus}
 use Rattle.commands.specs.declared.Kind.{Kind}
 use Rattle.commands.specs.declared.Counter.{Counter}
 use Rattle.commands.specs.declared.Command.the-variants.{Write, Count}
-use Rattle.commands.specs.Rules.{ruleOf, testsOf}
+use Rattle.commands.specs.Rules.{ruleOf, testsOf, firstStatus}
+use Rattle.commands.proofs.Passed.{Passed, passed}
 use Rattle.effects.specs.Done.{doneOf, plainNumbers, sum}
 use Rattle.decision.specs.Decision.{decision}
 use Rattle.decision.specs.Decide.{docFrom, bytesFrom}
@@ -42,8 +43,8 @@ use Rattle.promises.specs.Kept.{laterAt}
 use Rattle.promises.specs.Expiry.{opcode, extrasIn, keyIn, initialIn, counterExpiry, NotLive, Live, PlainExpiry, BeginsAt, Answers, DeadCounts, LiveCounts, writtenExpiry, WritesUntil}
 use Rattle.promises.proofs.Kept.{good-later, later-clock}
 use Rattle.promises.proofs.Asks.{stores, counts}
-use Rattle.promises.proofs.Liveness.{all-pass, dead-at, alive-at, avoids, answered, was-whole}
-use Rattle.promises.proofs.Dead.{seen, command, rule, list, count-needs, without-missing, without-conflict, without-number, not-missing, no-conflict, no-number}
+use Rattle.promises.proofs.Liveness.{later, all-pass, dead-at, alive-at, avoids, answered, was-whole}
+use Rattle.promises.proofs.Dead.{seen, command, rule, tests, list, count-needs, without-missing, without-conflict, without-number, not-missing, no-conflict, no-number}
 
 -- ---- the plain rule
 plain-expiry : (given clock : ℕ) → passes given clock ≡ false → PlainExpiry given clock (absolute given clock)
@@ -59,17 +60,23 @@ plain-expiry given clock e =
     }
 
 -- at the later of the kept clock and a call's
-until-later : (b : List ℕ) (clock given : ℕ) → passes given (clockAt (tableOf b) clock) ≡ false
+pub until-later : (b : List ℕ) (clock given : ℕ) → passes given (clockAt (tableOf b) clock) ≡ false
     → PlainExpiry given (laterAt b clock) (absolute given (clockAt (tableOf b) clock))
 until-later b clock given e =
     subst (λ (c : ℕ). PlainExpiry given c (absolute given (clockAt (tableOf b) clock))) (later-clock b clock) (plain-expiry given (clockAt (tableOf b) clock) e)
 
--- a frame with status 0 breaks no rule that needs mode or clock
-faultless : (b : List ℕ) (clock : ℕ) (s : List ℕ) (room : ℕ) → Answers b clock s room 0 → rule b clock s .fault ≡ false
+-- a frame with status 0 fails no test
+pub unfailing : (b : List ℕ) (clock : ℕ) (s : List ℕ) (room : ℕ) → Answers b clock s room 0 → Passed (tests b clock s)
+unfolding firstStatus
+unfailing b clock s room (len, e) =
+    let zero = answered b clock s room 0 _ len e in
+    let p = all-pass (list b clock s) (refl, (refl, (refl, (refl, (refl, (refl, (refl, (refl, (refl, (refl, (refl, (refl, (refl, (refl, tt)))))))))))))) zero in
+    passed (tests b clock s) (sym (later 4 (list b clock s) (p .0, (p .1 .0, (p .1 .1 .0, (p .1 .1 .1 .0, tt))))) ∙ zero)
+
+-- so it breaks no rule that needs mode or clock
+pub faultless : (b : List ℕ) (clock : ℕ) (s : List ℕ) (room : ℕ) → Answers b clock s room 0 → rule b clock s .fault ≡ false
 unfolding testsOf
-faultless b clock s room (len, e) =
-    let p = all-pass (list b clock s) (refl, (refl, (refl, (refl, (refl, (refl, (refl, (refl, (refl, (refl, (refl, (refl, tt)))))))))))) (answered b clock s room 0 _ len e) in
-    p .1 .1 .1 .1 .0
+faultless b clock s room a = unfailing b clock s room a .fault
 
 -- what a served frame stores is what its key has then
 pub stored-at : (b : List ℕ) (clock : ℕ) (s : List ℕ) (room : ℕ) (d : Doc) → Bytes b → Bytes s → clock < 2 ^ 32 → gateAll b room s ≡ Whole (headerOf s)
@@ -89,14 +96,18 @@ stored-at b clock s room d y z c o e =
     ∙ plain-laws .find-put (t .rows) (keyIn s) d (g .keys) (storing .room) (keyIn s)
     ∙ rw (same-refl (keyIn s))
 
--- a frame with status 0 stores what its command does
-module _ (b : List ℕ) (clock : ℕ) (s : List ℕ) (room : ℕ) (d : Doc)
-    (does : docFrom (doneOf (seen b clock s) (command b clock s) .store)
-    (bytesFrom (doneOf (seen b clock s) (command b clock s) .source) (requestOf s (headerOf s) .value)) ≡ some d) where
+-- what a frame's command stores where no test fails
+abbrev pub does : List ℕ → ℕ → List ℕ → Option Doc
+does b clock s =
+    let done = doneOf (seen b clock s) (command b clock s) in
+    docFrom (done .store) (bytesFrom (done .source) (requestOf s (headerOf s) .value) (docValue (docAt b (keyIn s))))
+
+-- a frame with status 0 stores it
+module _ (b : List ℕ) (clock : ℕ) (s : List ℕ) (room : ℕ) (d : Doc) (stores : does b clock s ≡ some d) where
   reached : reachesDecision (frameStatus s (headerOf s)) ≡ true → decisionAt b clock s (headerOf s) .status ≡ 0
       → effectAt b clock s (headerOf s) .store ≡ some d
   unfolding frameEffect decisionOn decision
-  reached r e = rw (r, eq-eqb _ 0 (rw r at e)) does
+  reached r e = rw (r, eq-eqb _ 0 (rw r at e)) stores
 
   unreached : reachesDecision (frameStatus s (headerOf s)) ≡ false → decisionAt b clock s (headerOf s) .status ≡ 0 → ⊥
   unfolding decisionOn
@@ -117,16 +128,12 @@ module _ (b : List ℕ) (clock : ℕ) (s : List ℕ) (room : ℕ) (up : Bool)
   abbrev counting : ℕ → ℕ → ℕ → Doc
   counting n flags expiry = record { tomb = false; value = digits n; numbers = plainNumbers (seen b clock s) flags expiry }
 
-  abbrev does : Option Doc
-  does = docFrom (doneOf (seen b clock s) (command b clock s) .store)
-      (bytesFrom (doneOf (seen b clock s) (command b clock s) .source) (requestOf s (headerOf s) .value))
-
-  begins : NotLive (laterAt b clock) (docAt b (keyIn s)) → does ≡ some (counting (initialIn s) 0 (absolute (counterExpiry s) (clockAt (tableOf b) clock)))
+  begins : NotLive (laterAt b clock) (docAt b (keyIn s)) → does b clock s ≡ some (counting (initialIn s) 0 (absolute (counterExpiry s) (clockAt (tableOf b) clock)))
   unfolding doneOf
   begins n = rw (asks, dead-at b clock (docAt b (keyIn s)) n)
 
   goes-on : (d : Doc) → docAt b (keyIn s) ≡ some d → Live (laterAt b clock) d
-      → does ≡ some (counting (sum (seen b clock s .number) counter) (numbersOf (seen b clock s .row) .flags) (numbersOf (seen b clock s .row) .expiry))
+      → does b clock s ≡ some (counting (sum (seen b clock s .number) counter) (numbersOf (seen b clock s .row) .flags) (numbersOf (seen b clock s .row) .expiry))
   unfolding doneOf
   goes-on d at l = let t : live (seen b clock s .row) (clockAt (tableOf b) clock) ≡ true = rw at (alive-at b clock d l) in rw (asks, t)
 
@@ -165,8 +172,7 @@ module _ (b : List ℕ) (clock : ℕ) (s : List ℕ) (room : ℕ) (kind : Kind)
     numbers = plainNumbers (seen b clock s) (num (extrasIn s) 0 4) (absolute (writtenExpiry s) (clockAt (tableOf b) clock));
   }
 
-  writes : docFrom (doneOf (seen b clock s) (command b clock s) .store)
-      (bytesFrom (doneOf (seen b clock s) (command b clock s) .source) (requestOf s (headerOf s) .value)) ≡ some document
+  writes : does b clock s ≡ some document
   unfolding doneOf
   writes = rw asks
 

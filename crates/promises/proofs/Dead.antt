@@ -1,4 +1,4 @@
--- A key without a live document: what needs one is answered 0x01, and a Set or an Add is not refused for it.
+-- A key without a live document: what needs one is answered 0x01, an Append or a Prepend 0x05, and a Set or an Add is not refused for it.
 use Prim.Native.Nat.{ℕ, _+_}
 use native.Mathlib.Omega.{arith}
 use mathlib.Core.Path.{_≡_, refl, sym, ap, _∙_}
@@ -6,6 +6,7 @@ use mathlib.Core.Bool.{Bool, true, false, cond, not, _&&_, _||_}
 use mathlib.Core.List.{List, _++_}
 use mathlib.Core.Logic.{⊎-elim}
 use lib.Dec.{eqb}
+use borrow.Author.Tests.{not-true}
 use Rattle.octets.proofs.Choices.{both, either}
 use Rattle.header.specs.Header.{headerOf}
 use Rattle.shape.specs.Shapes.{among}
@@ -21,8 +22,9 @@ use Rattle.serving.specs.Serve.{contextOn}
 use Rattle.serving.specs.Statuses.{testsOn, statuses}
 use Rattle.promises.specs.Merge.{docAt}
 use Rattle.promises.specs.Kept.{laterAt}
-use Rattle.promises.specs.Expiry.{opcode, headerCas, extrasIn, keyIn, gets, replaces, deletes, keyed, counters, counterExpiry, needsLive, NotLive, Reaches, DeadIsMissing, DeadIsWritten}
-use Rattle.promises.proofs.Asks.{ask, needs, guarded, writes, counts}
+use Rattle.promises.specs.Expiry.{opcode, headerCas, extrasIn, keyIn, gets, replaces, deletes, touches, joins, keyed, counters, counterExpiry, needsLive}
+use Rattle.promises.specs.Expiry.{NotLive, Reaches, DeadIsMissing, DeadIsUnstored, DeadIsWritten}
+use Rattle.promises.proofs.Asks.{tested, ask, needs, guarded, joinless, writes, counts, joining}
 use Rattle.promises.proofs.Liveness.{and-false, or-true, dead-at, later, Without, status, answers, avoids}
 use Rattle.promises.proofs.Keeps.{status-keeps}
 
@@ -30,6 +32,24 @@ use Rattle.promises.proofs.Keeps.{status-keeps}
 asked-for : (g n x : Bool) → (g || n) ≡ true → x ≡ true → (n || (g && x)) ≡ true
 asked-for true n x e z = rw z (or-true n)
 asked-for false n x e z = rw e
+
+-- by what a frame needs a live document
+module _ {ℓ} {X : Type ℓ} (s : List ℕ) (command : among (opcode s) (gets ++ (replaces ++ (deletes ++ touches))) ≡ true → X)
+    (cas : among (opcode s) keyed ≡ true → not (eqb (headerCas s) 0) ≡ true → X) (expiry : among (opcode s) counters ≡ true → eqb (counterExpiry s) 0xffffffff ≡ true → X) where
+  needs-by : needsLive s ≡ true → X
+  needs-by e =
+      ⊎-elim command
+      (λ a. ⊎-elim (λ g. let p = both (among (opcode s) keyed) _ g in cas (p .0) (p .1))
+      (λ k. let p = both (among (opcode s) counters) _ k in expiry (p .0) (p .1))
+      (either (among (opcode s) keyed && not (eqb (headerCas s) 0)) _ a))
+      (either (among (opcode s) (gets ++ (replaces ++ (deletes ++ touches)))) _ e)
+
+-- none of the joins does
+pub needs-keyed : (s : List ℕ) → needsLive s ≡ true → among (opcode s) keyed ≡ true
+unfolding among
+needs-keyed s e =
+    let known : ℕ → Bool = λ x. among x keyed in
+    needs-by s (tested known (opcode s) (gets ++ (replaces ++ (deletes ++ touches))) refl) (λ k _. k) (λ k _. tested known (opcode s) counters refl k) e
 
 module _ (b : List ℕ) (clock : ℕ) (s : List ℕ) where
   abbrev pub seen : Context
@@ -68,11 +88,9 @@ module _ (b : List ℕ) (clock : ℕ) (s : List ℕ) where
   pub sought : needsLive s ≡ true → Sought
   unfolding requestOf
   sought e =
-      ⊎-elim (λ a. by-need (needs seen (extrasIn s) (opcode s) a))
-      (λ a. ⊎-elim (λ g. let p = both (among (opcode s) keyed) _ g in by-guard (guarded seen (extrasIn s) (opcode s) (p .0)) (p .1))
-      (λ k. let p = both (among (opcode s) counters) _ k in by-need (count-needs (p .0) ∙ p .1))
-      (either (among (opcode s) keyed && not (eqb (headerCas s) 0)) _ a))
-      (either (among (opcode s) (gets ++ (replaces ++ deletes))) _ e)
+      needs-by s (λ a. by-need (needs seen (extrasIn s) (opcode s) a))
+      (λ k c. by-guard (guarded seen (extrasIn s) (opcode s) k) c)
+      (λ k c. by-need (count-needs k ∙ c)) e
 
   pub unguarded : headerCas s ≡ 0 → guard instruction rule ≡ false
   unfolding requestOf
@@ -82,30 +100,50 @@ module _ (b : List ℕ) (clock : ℕ) (s : List ℕ) where
   unfolding testsOf
   not-missing e z = rw (e, unguarded z)
 
+  pub not-unstored : among (opcode s) keyed ≡ true → tests .unstored ≡ false
+  unfolding testsOf requestOf
+  not-unstored e = rw (not-true (rule .joins) (joinless seen (extrasIn s) (opcode s) e))
+
+  pub join-joins : among (opcode s) joins ≡ true → rule .joins ≡ true
+  unfolding requestOf ruleOf
+  join-joins e = let (side, z) = joining seen (extrasIn s) (opcode s) e in rw z
+
   -- where a test doesn't fail, its status isn't given
   abbrev pub list : List Check
   list = statuses (tableAt (tableOf b) clock) (clockAt (tableOf b) clock) s (headerOf s)
 
+  pub without-unstored : tests .unstored ≡ false → Without 0x05 list
+  without-unstored u = (refl, (refl, (refl, (refl, (refl, (refl, (refl, (u, (refl, (refl, (refl, (refl, (refl, (refl, refl))))))))))))))
+
   pub without-missing : tests .missing ≡ false → Without 0x01 list
-  without-missing m = (refl, (refl, (refl, (refl, (refl, (refl, (refl, (m, (refl, (refl, (refl, (refl, refl))))))))))))
+  without-missing m = (refl, (refl, (refl, (refl, (refl, (refl, (refl, (refl, (m, (refl, (refl, (refl, (refl, (refl, refl))))))))))))))
 
   pub without-conflict : tests .conflict ≡ false → Without 0x02 list
-  without-conflict k = (refl, (refl, (refl, (refl, (refl, (refl, (refl, (refl, (k, (refl, (refl, (refl, refl))))))))))))
+  without-conflict k = (refl, (refl, (refl, (refl, (refl, (refl, (refl, (refl, (refl, (k, (refl, (refl, (refl, (refl, refl))))))))))))))
 
   pub without-number : tests .number ≡ false → Without 0x06 list
-  without-number v = (refl, (refl, (refl, (refl, (refl, (refl, (refl, (refl, (refl, (v, (refl, (refl, refl))))))))))))
+  without-number v = (refl, (refl, (refl, (refl, (refl, (refl, (refl, (refl, (refl, (refl, (refl, (v, (refl, (refl, refl))))))))))))))
 
   -- where it is the first that fails, its status is
-  pub is-missing : (room : ℕ) → Reaches b clock s room → tests .missing ≡ true → status b clock s room ≡ 0x01
+  pub is-unstored : (room : ℕ) → Reaches b clock s room → tests .unstored ≡ true → status b clock s room ≡ 0x05
   unfolding firstFailure
-  is-missing room r m = later 7 list (r .earlier) ∙ rw m
+  is-unstored room r u = later 7 list (r .earlier) ∙ rw u
 
-  pub is-conflict : (room : ℕ) → Reaches b clock s room → tests .missing ≡ false → tests .conflict ≡ true → status b clock s room ≡ 0x02
+  pub is-missing : (room : ℕ) → Reaches b clock s room → tests .unstored ≡ false → tests .missing ≡ true → status b clock s room ≡ 0x01
   unfolding firstFailure
-  is-conflict room r m k = later 7 list (r .earlier) ∙ rw (m, k)
+  is-missing room r u m = later 7 list (r .earlier) ∙ rw (u, m)
 
-  -- the tests of 0x01, 0x02 and 0x06, where the row isn't live
+  pub is-conflict : (room : ℕ) → Reaches b clock s room → tests .unstored ≡ false → tests .missing ≡ false → tests .conflict ≡ true
+      → status b clock s room ≡ 0x02
+  unfolding firstFailure
+  is-conflict room r u m k = later 7 list (r .earlier) ∙ rw (u, m, k)
+
+  -- the tests of 0x05, 0x01, 0x02 and 0x06, where the row isn't live
   module _ (n : NotLive (laterAt b clock) (docAt b (keyIn s))) where
+    pub unstored : among (opcode s) joins ≡ true → tests .unstored ≡ true
+    unfolding testsOf
+    unstored e = rw (join-joins e, dead-at b clock (docAt b (keyIn s)) n)
+
     pub missing : needsLive s ≡ true → tests .missing ≡ true
     unfolding testsOf
     missing e = rw (sought e, dead-at b clock (docAt b (keyIn s)) n)
@@ -120,8 +158,14 @@ module _ (b : List ℕ) (clock : ℕ) (s : List ℕ) where
 
 pub dead-is-missing : DeadIsMissing
 dead-is-missing b clock s room r n e =
-    let (len, a) = answers b clock s room r 0x01 (is-missing b clock s room r (missing b clock s n e)) in
+    let first = is-missing b clock s room r (not-unstored b clock s (needs-keyed s e)) (missing b clock s n e) in
+    let (len, a) = answers b clock s room r 0x01 first in
     ((len, a), status-keeps b clock s room 0x01 (24 + headerOf s .body) len (r .bytes) a (λ y. absurd (omega arith)))
+
+pub dead-is-unstored : DeadIsUnstored
+dead-is-unstored b clock s room r n e =
+    let (len, a) = answers b clock s room r 0x05 (is-unstored b clock s room r (unstored b clock s n e)) in
+    ((len, a), status-keeps b clock s room 0x05 (24 + headerOf s .body) len (r .bytes) a (λ y. absurd (omega arith)))
 
 pub dead-is-written : DeadIsWritten
 unfolding requestOf

@@ -12,6 +12,7 @@ pub mod Steps
 pub mod Clock
 pub mod Alike
 pub mod Buried
+pub mod Joining
 pub mod Judged
 pub mod Worked
 pub mod Candidates

@@ -32,7 +32,7 @@ use Rattle.commands.specs.Rules.{ruleOf, statusBy}
 use Rattle.effects.specs.Done.{nothing}
 use Rattle.decision.specs.Decision.{decision}
 use Rattle.decision.specs.Decide.{instructionOf}
-use Rattle.decode.specs.Decode.{plainOf, counterOf, metaCommand, commandOf, requestOf}
+use Rattle.decode.specs.Decode.{plainOf, counterOf, metaCommand, touchOf, commandOf, requestOf}
 use Rattle.rows.specs.Table.{Table, tableOf, tableAt, clockAt}
 use Rattle.rows.specs.Find.{findRow}
 use Rattle.serving.specs.declared.Served.the-variants.{Done}
@@ -87,8 +87,8 @@ module _ (c : Context) (extras : List ℕ) (op st : ℕ) (z : eqb st 0 ≡ false
   speaks q = and-no q (eqb st 0) z
 
   others : Each Speaks op (drop 2 commands)
-  unfolding commands ruleOf commandOf plainOf counterOf metaCommand
-  others = (speaks, (speaks, (speaks, (speaks, (speaks, (speaks, (speaks, (speaks, (speaks, (speaks, (speaks, (speaks, tt))))))))))))
+  unfolding commands ruleOf commandOf plainOf counterOf metaCommand touchOf
+  others = (speaks, (speaks, (speaks, (speaks, (speaks, (speaks, (speaks, (speaks, (speaks, (speaks, (speaks, (speaks, (speaks, (speaks, (speaks, (speaks, tt))))))))))))))))
 
   silent-is : silentBy (shapeOf op) ≡ silentMiss op st
   unfolding shapeOf lookUp commands among unbuilt ruleOf commandOf

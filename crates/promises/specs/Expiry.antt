@@ -1,4 +1,4 @@
--- "Expiry holds in every command", on bytes. When a document is live is said here in 01's words and numbers, and not by the definitions that decide it: a store that decides it otherwise, in one command or in all, doesn't meet these. Order 2: the clock is the later of the kept one and the call's. Proved in proofs/Dead.antt, Counting.antt, Buried.antt and Alive.antt.
+-- "Expiry holds in every command", on bytes. When a document is live is said here in 01's words and numbers, and not by the definitions that decide it: a store that decides it otherwise, in one command or in all, doesn't meet these. Order 2: the clock is the later of the kept one and the call's. Proved in proofs/Dead.antt, Counting.antt, Joining.antt, Buried.antt and Alive.antt.
 use Prim.Native.Nat.{ℕ, _+_, _/_, _%_, _^_, _≤_, _<_}
 use mathlib.Core.Path.{_≡_}
 use mathlib.Core.Bool.{Bool, true, false, not, cond, _&&_, _||_}
@@ -268,10 +268,10 @@ pub record PlainlyWritten (mark : ℕ) (d e : Doc) : Type 0 where
   pub cas : e .numbers .cas .0 ≡ mark + 1
 
 -- "Append and prepend keep flags and expiry."; the values in the order that their names say
-pub record Joins (mark : ℕ) (value : List ℕ) (d e : Doc) : Type 0 where
+pub record Joins (mark : ℕ) (bytes : List ℕ) (d e : Doc) : Type 0 where
   pub written : PlainlyWritten mark d e
   pub expiry : e .numbers .expiry ≡ d .numbers .expiry
-  pub value : e .value ≡ value
+  pub value : e .value ≡ bytes
 
 abbrev pub markIn : List ℕ → ℕ
 markIn b = num b 8 8

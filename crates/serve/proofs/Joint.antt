@@ -61,7 +61,7 @@ use Rattle.serving.proofs.Change.{Storing, changing, unchanged, raised, raised-
 use Rattle.reply.specs.Fitting.{bareHeader}
 use Rattle.reply.proofs.Frames.{bare-reply, refused-is, refused-reply, refused-length, key-short}
 use Rattle.serve.specs.Answer.{replyFrom, ReplyWritten}
-use Rattle.serve.specs.Change.{storedFrom, changed, changedBy}
+use Rattle.serve.specs.Change.{storedFrom, changedWith, changedBy}
 
 -- ---- the kept clock
 -- its bytes written alone leave the table at the call's clock
@@ -171,7 +171,7 @@ module _ (b s : List ℕ) (clock : ℕ) (h : Header) (y : Bytes b) (z : Bytes s)
   value = bytesFrom source v (docValue (findRow (t .rows) asked))
 
   changed-is : (w : Bool) (store : Stored) → docFrom store value ≡ effect .store → (w ≡ false → effect .store ≡ none)
-      → changed b (lookupOf w b asked) asked store source (effect .head) v ≡ frameTable b clock s h
+      → changedWith b (lookupOf w b asked) asked store source (effect .head) v ≡ frameTable b clock s h
   unfolding frameTable
   changed-is w NoRow e none-if =
       let kept = changing u then s h (clock-good t clock (sound-good b y sb .1) small) z inside .keeps (sym e) in
@@ -269,7 +269,7 @@ module _ (b s : List ℕ) (clock : ℕ) (h : Header) (y : Bytes b) (z : Bytes s)
   formed-by v r n b′ out out′ ev reply er eb =
       record {
         answer = er ∙ (λ i. Done (status-is i) (24 + h .body) ((reply .size ∙ ap length reply-is) i));
-        table = eb ∙ (λ i. changed b (found i) (ek i) (d .done .store) (d .done .source) (head-is i) v)
+        table = eb ∙ (λ i. changedWith b (found i) (ek i) (d .done .store) (d .done .source) (head-is i) v)
             ∙ changed-is b s clock h y z small inside sb (d .done .source) v w (d .done .store) (store-is v ev) (store-none v ev);
         reply = reply .bytes ∙ ap (written out 0) reply-is;
       }

@@ -27,9 +27,9 @@ storedFrom b l key m Kept value = joinedBy b l key m Back []
 storedFrom b l key m (Joined side) value = joinedBy b l key m side value
 
 -- a row for a key after a new head; where nothing is stored, the head's clock alone
-abbrev pub changed : List ℕ → Lookup → Key → Stored → Source → Head → List ℕ → List ℕ
-changed b l key Nothing source head value = written b 4 (bytesOf 4 (head .clock))
-changed b l key (Used m) source head value = storedFrom (written b 0 (headBytes head)) l key m source value
+abbrev pub changedWith : List ℕ → Lookup → Key → Stored → Source → Head → List ℕ → List ℕ
+changedWith b l key Nothing source head value = written b 4 (bytesOf 4 (head .clock))
+changedWith b l key (Used m) source head value = storedFrom (written b 0 (headBytes head)) l key m source value
 
 abbrev pub changedBy : List ℕ → Lookup → Key → Done → List ℕ → List ℕ
-changedBy b l key d value = changed b l key (d .store) (d .source) (d .head) value
+changedBy b l key d value = changedWith b l key (d .store) (d .source) (d .head) value
