@@ -1,15 +1,15 @@
 -- The difference of two naturals as an integer: its size and its sign, and that the machine's numbers of 32 bits read as themselves.
 use Prim.Native.Nat.{ℕ, zero, suc, _+_, _-_, _≤_, _<_, _^_}
 use native.Mathlib.Omega.{arith}
-use mathlib.Core.Path.{_≡_, refl}
-use mathlib.Core.Bool.{Bool, true, false}
-use lib.Dec.{ltb, leb}
-use lib.IntN.{ℤ, pos, subℕ, _-ℤ_}
-use lib.Signed.{mag, leZ}
+use mathlib.Core.Path.{_≡_, refl, ap, _∙_}
+use mathlib.Core.Bool.{Bool, true, false, false≢true}
+use lib.Dec.{T, ltb, leb}
+use lib.IntN.{ℤ, pos, negsuc, subℕ, _-ℤ_, natAbs, +ℤ-comm, -ℤ-one}
+use lib.Signed.{mag, leZ, nonNeg}
 use mir.Syntax.{w64}
-use mir.Val.{toZ, ofZ, SFits}
+use mir.Val.{toZ, ofZ, Fits, SFits}
 use mir.Facts.{toZ-ofZ}
-use borrow.Author.Tests.{lt-ltb, ltb-true, ltb-false, le-leb, leb-true}
+use borrow.Author.Tests.{lt-ltb, ltb-true, ltb-false, le-leb, leb-true, leb-false}
 
 mag-subℕ : (t : Bool) (a b : ℕ) → ltb a b ≡ t → mag (subℕ a b) ≤ a + b
 mag-subℕ true a b e = rw e (omega arith)
@@ -47,3 +47,20 @@ sub-fits a b ha hb = record { sfits = omega (arith, mag-sub a b) }
 -- a signed number that fits is kept by the machine
 pub kept : (z : ℤ) → mag z < 2 ^ 63 → toZ w64 (ofZ w64 z) ≡ z
 kept z h = toZ-ofZ {w = w64} {z = z} (record { sfits = h })
+
+-- ---- a number without its sign
+-- one of zero or more is its own magnitude
+pub cast-up : (z : ℤ) → mag z < 2 ^ 63 → leZ (pos 0) z ≡ true → T (nonNeg z) × Fits w64 (natAbs z)
+cast-up (pos n) h e = (tt, record { fits = omega arith })
+cast-up (negsuc n) h e = absurd (false≢true e)
+
+-- -1 less a negative number, which is one less than its magnitude
+pub record Below (z : ℤ) : Type 0 where
+  pub less : ℕ
+  pub is : negsuc 0 -ℤ z ≡ pos less
+  pub one-more : less + 1 ≡ natAbs z
+  pub fits : less < 2 ^ 63
+
+pub below : (z : ℤ) → mag z < 2 ^ 63 → leZ (pos 0) z ≡ false → Below z
+below (pos n) h e = absurd (omega (arith, leb-false 0 n e))
+below (negsuc n) h e = record { less = n; is = +ℤ-comm (negsuc 0) (pos (suc n)) ∙ -ℤ-one (pos (suc n)); one-more = omega arith; fits = h }

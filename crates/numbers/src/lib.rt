@@ -1,6 +1,7 @@
 // The numbers of a document: their kinds, the published order, expiry and growth. CAS and revision are two kinds of
 // number that can't be exchanged.
 ghost use mathlib.Core.Path.{_≡_};
+ghost use lib.IntN.{natAbs};
 ghost use Rattle.numbers.specs.Order.{modeOf, above, lead, second, greater};
 ghost use Rattle.numbers.specs.Expiry.{later, secondsLeft, isPast, secondsIn, expired, passes, absolute};
 ghost use Rattle.numbers.specs.Growth.{next, casAfter, largerCas, revisionAfter, incremented, decremented};
@@ -108,6 +109,17 @@ pub fn seconds_in(left: Left) -> i64
         Left::Never => 0,
         Left::Seconds(n) => n,
     }
+}
+
+// A number without its sign.
+pub fn magnitude(n: i64) -> u64
+    ensures { λ r. ⌜ r ≡ natAbs n ⌝ }
+{
+    if 0 <= n {
+        return n as u64;
+    }
+    let less = -1 - n;
+    less as u64 + 1
 }
 
 // The one test of an expiry.
