@@ -126,6 +126,21 @@ fn begins() {
     tried(b"Decrement, else from 5", any(0x06), &extras, b"");
 }
 
+fn joins() {
+    tried(b"Append", any(0x0e), b"", b" m");
+    tried(b"AppendQ", any(0x19), b"", b" m");
+    tried(b"Prepend", any(0x0f), b"", b"at ");
+    tried(b"PrependQ", any(0x1a), b"", b"at ");
+}
+
+// Another minute to live.
+fn touches() {
+    let mut extras = [0u8; 4];
+    octets::put_be(&mut extras, 0, 4, 60);
+    tried(b"Touch", any(0x1c), &extras, b"");
+    tried(b"Get-and-touch", any(0x1d), &extras, b"");
+}
+
 fn copied(extras: &[u8]) {
     tried(b"SetWithMeta by CAS", by_cas(0xa2), extras, b"36");
     tried(b"SetQWithMeta by CAS", by_cas(0xa3), extras, b"36");
@@ -204,6 +219,8 @@ pub(crate) fn chapter() {
     writes();
     counts();
     begins();
+    joins();
+    touches();
     copies();
     owner_reads();
     owner_purges();

@@ -60,6 +60,7 @@ pub(crate) fn put_status(line: &mut [u8], at: usize, status: u8) -> usize {
         0x00 => put(line, end, b" done"),
         0x01 => put(line, end, b" no such contact"),
         0x02 => put(line, end, b" what is held stands"),
+        0x05 => put(line, end, b" nothing to join it to"),
         _ => put(line, end, b" refused"),
     }
 }
