@@ -148,6 +148,14 @@ module _ (c : Context) (extras : List ℕ) where
   unfolding shapeOf commandOf touchOf
   touching n e = at-opcode TouchesAt n touches ((false, refl), ((true, refl), tt)) e
 
+  -- the second one's reply shows the document
+  abbrev ShowsAt : ℕ → Type 0
+  ShowsAt n = ask n ≡ Touch (record { expiry = num extras 0 4; shown = eqb n 0x1d })
+
+  pub showing : (n : ℕ) → among n touches ≡ true → ShowsAt n
+  unfolding shapeOf commandOf touchOf
+  showing n e = at-opcode ShowsAt n touches (refl, (refl, tt)) e
+
 -- ---- commands but the with-meta ones
 abbrev pub IsPlain : Command → Type 0
 IsPlain (Get k) = Unit {0}

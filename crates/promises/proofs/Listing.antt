@@ -24,9 +24,11 @@ use Rattle.rules.specs.Rules.{countOf}
 use Rattle.request.specs.Reading.{frameStatus}
 use Rattle.commands.specs.declared.Context.{Context}
 use Rattle.commands.specs.declared.Instruction.{Instruction}
+use Rattle.commands.specs.declared.Command.{Command}
 use Rattle.commands.specs.declared.Command.the-variants.{GetKeys}
 use Rattle.commands.specs.Rules.{ruleOf, testsOf, firstFailure}
 use Rattle.effects.specs.declared.Reply.the-variants.{Bare, Keys}
+use Rattle.effects.specs.declared.Done.{Done as Doing}
 use Rattle.effects.specs.Done.{nothing, doneOf}
 use Rattle.decision.specs.declared.Decision.{Decision}
 use Rattle.decision.specs.Decision.{decision}
@@ -39,7 +41,7 @@ use Rattle.plain.proofs.TableLaws.{sound-good}
 use Rattle.serving.specs.declared.Served.{Served}
 use Rattle.serving.specs.declared.Served.the-variants.{Done}
 use Rattle.serving.specs.Reply.{replyShows, replyHeader, replyBytes}
-use Rattle.serving.specs.Serve.{reachesDecision, decisionOn, frameEffect, frameReply, answerBy, replyBy, served, servedReply}
+use Rattle.serving.specs.Serve.{reachesDecision, decisionOn, decisionAt, frameEffect, frameReply, answerBy, replyBy, served, servedReply}
 use Rattle.serving.proofs.Formed.{no}
 use Rattle.promises.specs.Merge.{docAt}
 use Rattle.promises.specs.Kept.{laterAt, keptBy}
@@ -68,14 +70,31 @@ lists-asked c extras = ap GetKeys (count-said extras)
 abbrev listDecision : Head → ℕ → Decision
 listDecision h count = record { status = 0; silent = false; done = nothing h (Keys count) (record { 0 = 0 }) }
 
+-- any loud command's
+abbrev pub loudly : Doing → Decision
+loudly x = record { status = 0; silent = false; done = x }
+
+pub loud-decision : (c : Context) (i : Instruction) → i .quiet ≡ false → decision c i .status ≡ 0 → decision c i ≡ loudly (doneOf c (i .command))
+unfolding decision
+loud-decision c i loud zero =
+    let silent : decision c i .silent ≡ false = rw loud in
+    let done : decision c i .done ≡ doneOf c (i .command) =
+    ap (λ (t : Bool). cond t (doneOf c (i .command)) (nothing (c .head) Bare (record { 0 = 0 }))) (eq-eqb _ 0 zero) in
+    λ j. record { status = zero j; silent = silent j; done = done j }
+
 list-decision : (c : Context) (i : Instruction) (count : ℕ) → i .command ≡ GetKeys count → i .quiet ≡ false → decision c i .status ≡ 0
     → decision c i ≡ listDecision (c .head) count
-unfolding decision doneOf
-list-decision c i count asks loud zero =
-    let silent : decision c i .silent ≡ false = rw loud in
-    let done : decision c i .done ≡ nothing (c .head) (Keys count) (record { 0 = 0 }) =
-    ap (λ (t : Bool). cond t (doneOf c (i .command)) (nothing (c .head) Bare (record { 0 = 0 }))) (eq-eqb _ 0 zero) ∙ ap (doneOf c) asks in
-    λ j. record { status = zero j; silent = silent j; done = done j }
+unfolding doneOf
+list-decision c i count asks loud zero = loud-decision c i loud zero ∙ ap (λ (x : Command). loudly (doneOf c x)) asks
+
+-- a frame with status 0 was decided
+pub reached : (b : List ℕ) (clock : ℕ) (s : List ℕ) → decisionAt b clock s (headerOf s) .status ≡ 0
+    → decisionAt b clock s (headerOf s) ≡ decision (seen b clock s) (instruction b clock s)
+unfolding decisionOn
+reached b clock s z =
+    cases (reachesDecision (frameStatus s (headerOf s)))
+    (λ t. rw t)
+    (λ f. let e : frameStatus s (headerOf s) ≡ 0 = rw f at z in no (sym f ∙ ap reachesDecision e))
 
 module _ (b : List ℕ) (clock : ℕ) (s : List ℕ) (o : opcode s ≡ 0xb8) where
   abbrev t : Table
@@ -96,21 +115,13 @@ module _ (b : List ℕ) (clock : ℕ) (s : List ℕ) (o : opcode s ≡ 0xb8) whe
   unfolding firstFailure testsOf ruleOf
   no-status room r = later 7 (list b clock s) (r .earlier) ∙ rw asks
 
-  -- a frame with status 0 was decided
-  reached : decisionOn t now s (headerOf s) .status ≡ 0 → decisionOn t now s (headerOf s) ≡ decision (seen b clock s) (instruction b clock s)
-  unfolding decisionOn
-  reached z =
-      cases (reachesDecision (frameStatus s (headerOf s)))
-      (λ t. rw t)
-      (λ f. let e : frameStatus s (headerOf s) ≡ 0 = rw f at z in no (sym f ∙ ap reachesDecision e))
-
   module _ (room : ℕ) (r : Reaches b clock s room) where
     zero-status : decisionOn t now s (headerOf s) .status ≡ 0
     zero-status = listed b clock s room ∙ no-status room r
 
     decides : decisionOn t now s (headerOf s) ≡ listDecision (t .head) (countIn s)
     decides =
-        let e = reached zero-status in
+        let e = reached b clock s zero-status in
         e ∙ list-decision (seen b clock s) (instruction b clock s) (countIn s) asks loud (ap (λ (d : Decision). d .status) (sym e) ∙ zero-status)
 
     replies : frameReply b clock s (headerOf s) ≡ listingReply b clock s

@@ -1,15 +1,20 @@
--- The reply area under serving, whatever the table, the clock and the received bytes: a reply fits the room that serving asks for, and the reply to another status than 0 is a bare header.
-use Prim.Native.Nat.{ℕ, _≤_}
+-- The reply area under serving, whatever the table, the clock and the received bytes: a reply fits the room that serving asks for, the reply to another status than 0 is a bare header, and a touch and a join are answered what order 4 says. Proved in proofs/Replies.antt and Touched.antt.
+use Prim.Native.Nat.{ℕ, _+_, _^_, _≤_, _<_}
 use mathlib.Core.Path.{_≡_}
-use mathlib.Core.Bool.{Bool, cond, _&&_}
+use mathlib.Core.Bool.{Bool, true, false, cond, _&&_}
 use mathlib.Core.List.{List, [], _∷_, _++_}
+use mathlib.Core.Option.{some}
 use lib.ListN.{length, drop, replicate}
 use lib.Dec.{eqb}
 use Rattle.octets.specs.Parts.{Bytes, part}
 use Rattle.octets.specs.BigEndian.{num, bytesOf}
+use Rattle.document.specs.Documents.{Doc}
 use Rattle.shape.specs.Shapes.{among}
+use Rattle.header.specs.Header.{headerOf}
 use Rattle.serving.specs.declared.Served.the-variants.{Done}
-use Rattle.serving.specs.Serve.{served, servedReply}
+use Rattle.serving.specs.Serve.{served, servedTable, servedReply}
+use Rattle.promises.specs.Merge.{docAt}
+use Rattle.promises.specs.Expiry.{opcode, keyIn, touches, joins}
 
 -- "reply length, maybe 0; reply bytes past it unchanged": the area after a reply of so many bytes
 pub record Fits (out : List ℕ) (len : ℕ) (out′ : List ℕ) : Type 0 where
@@ -47,3 +52,39 @@ abbrev pub StatusReply : Type 0
 StatusReply =
     (b : List ℕ) (clock : ℕ) (s out : List ℕ) (status used len : ℕ) → Bytes s → served b clock s (length out) ≡ Done status used len → (status ≡ 0 → ⊥)
     → (len ≡ length (statusReply status s)) × (servedReply b clock s out ≡ statusReply status s ++ drop len out)
+
+-- ---- order 4: "Touch replies with a bare header, Get-and-touch as Get does."
+-- what follows the header: of a document that is shown, "flags as 4 extras bytes, [..] value"
+abbrev pub shownBody : Bool → ℕ → List ℕ → List ℕ
+shownBody shown flags value = cond shown (bytesOf 4 flags ++ value) []
+
+-- byte by byte, to the received bytes
+abbrev pub touchReply : List ℕ → Bool → ℕ → List ℕ → ℕ → List ℕ
+touchReply s shown flags value cas =
+    -- magic, opcode, key length
+    ((0x81 ∷ part s 1 1 ++ (0 ∷ 0 ∷ []))
+    -- extras length, datatype, status
+    ++ ((cond shown 4 0 ∷ 0 ∷ 0 ∷ 0 ∷ [])
+    -- body length, opaque, CAS
+    ++ (bytesOf 4 (length (shownBody shown flags value)) ++ (part s 12 4 ++ bytesOf 8 cas))))
+    ++ shownBody shown flags value
+
+-- "Its reply carries the new CAS.": that of the document which the key has then, with the flags and the value that it had. It rules out a Get-and-touch whose reply has the CAS from before it, and one that shows nothing
+abbrev pub TouchReplies : Type 0
+TouchReplies =
+    (b : List ℕ) (clock : ℕ) (s out : List ℕ) (d : Doc) (len : ℕ) → Bytes b → Bytes s → clock < 2 ^ 32 → docAt b (keyIn s) ≡ some d
+    → among (opcode s) touches ≡ true → served b clock s (length out) ≡ Done 0 (24 + headerOf s .body) len
+    → (e : Doc) × ((docAt (servedTable b clock s (length out)) (keyIn s) ≡ some e)
+    × ((len ≡ length (touchReply s (eqb (opcode s) 0x1d) (d .numbers .flags) (d .value) (e .numbers .cas .0)))
+    × (servedReply b clock s out ≡ touchReply s (eqb (opcode s) 0x1d) (d .numbers .flags) (d .value) (e .numbers .cas .0) ++ drop len out)))
+
+-- Append and Prepend: a bare header with the CAS stored, and nothing to the quiet two: "Quiet writes send nothing on status 0."
+abbrev pub joinReply : List ℕ → ℕ → List ℕ
+joinReply s cas = cond (among (opcode s) (0x19 ∷ 0x1a ∷ [])) [] (touchReply s false 0 [] cas)
+
+abbrev pub JoinReplies : Type 0
+JoinReplies =
+    (b : List ℕ) (clock : ℕ) (s out : List ℕ) (d : Doc) (len : ℕ) → Bytes b → Bytes s → clock < 2 ^ 32 → docAt b (keyIn s) ≡ some d
+    → among (opcode s) joins ≡ true → served b clock s (length out) ≡ Done 0 (24 + headerOf s .body) len
+    → (e : Doc) × ((docAt (servedTable b clock s (length out)) (keyIn s) ≡ some e)
+    × ((len ≡ length (joinReply s (e .numbers .cas .0))) × (servedReply b clock s out ≡ joinReply s (e .numbers .cas .0) ++ drop len out)))
