@@ -1,5 +1,5 @@
 /*
- * A first table: a contact stored and read, then three calls that are refused.
+ * A first table: a contact stored and read, how long it is good for, then three calls that are refused.
  *
  *   gcc -I include examples/first.c target/staticlib/libcontacts.a -o first && ./first
  */
@@ -8,7 +8,7 @@
 
 #include "contacts.h"
 
-enum { ROWS = 4, VBUCKET = 3, NOW = 1000000 };
+enum { ROWS = 4, VBUCKET = 3, NOW = 1000000, HOUR = 3600 };
 
 static const uint8_t key[] = "sonar:17", value[] = "bearing 143";
 enum { KEY = sizeof key - 1, VALUE = sizeof value - 1 };
@@ -36,6 +36,22 @@ static contacts_served serve(size_t len)
     return contacts_serve(table, sizeof table, NOW, frame, len, reply, sizeof reply, &tally);
 }
 
+/* The seconds left, also of a contact that is past. */
+static void tell(const char *when, uint32_t clock)
+{
+    contacts_document found = contacts_read(table, sizeof table, clock, key, KEY);
+    switch (found.lifetime) {
+    case CONTACTS_LIFETIME_SECONDS:
+        printf("%s: %" PRId64 " seconds left\n", when, found.left);
+        break;
+    case CONTACTS_LIFETIME_NEVER:
+        printf("%s: it never expires\n", when);
+        break;
+    default:
+        printf("%s: no such contact\n", when);
+    }
+}
+
 int main(void)
 {
     if (contacts_make(table, sizeof table, ROWS, CONTACTS_STATE_ACTIVE, CONTACTS_MODE_REVISION, VBUCKET) != 0)
@@ -53,6 +69,9 @@ int main(void)
     printf("read: flags %" PRIu32 ", expiry %" PRIu32 ", revision %" PRIu64 ", CAS %" PRIu64 ", value \"%.*s\"\n",
            found.flags, found.expiry, found.revision, found.cas, (int)found.value.len,
            (const char *)table + found.value.at);
+    tell("now", NOW);
+    tell("an hour later", NOW + HOUR);
+    tell("a minute after that", NOW + HOUR + 60);
 
     contacts_served cut = serve(write_get(VBUCKET, KEY).len - 1);
     printf("a byte short: outcome %d, %zu bytes needed\n", cut.outcome, cut.needed);

@@ -211,6 +211,10 @@ extern "C" {
  * table. Serving, reading and purging go by the later of the kept clock and the call's. Below, that is the later clock:
  * it decides what is expired, and a relative expiry is added to it. So a clock that goes back brings no contact back.
  *
+ * A document has its expiry minus the later clock in seconds left: 0 exactly at the expiry, fewer once it is past. It is
+ * expired where that is 0 or less; one whose expiry is 0 never is. Every call decides from this number, and
+ * contacts_read tells it.
+ *
  * The kept clock is raised to the later clock by contacts_serve with outcome 0, whatever the status, so by each frame
  * that contacts_serve_run serves, and by contacts_purge with outcome 0, whether or not it frees a row. Outcomes 1 to 5,
  * contacts_read and contacts_sound leave it. Nothing lowers it but contacts_make, which makes it 0.
@@ -252,29 +256,41 @@ uint8_t contacts_make(uint8_t *table, size_t table_len, size_t rows, uint8_t sta
  */
 bool contacts_sound(const uint8_t *table, size_t table_len);
 
-/* A live document: one that isn't expired. It is expired where its expiry isn't 0 and the later clock is at or past it;
- * its row then stays until it is purged or written. */
+/* What a read tells of a document's lifetime. */
+#define CONTACTS_LIFETIME_NONE 0      /* nothing: there is no document; left is 0 */
+#define CONTACTS_LIFETIME_NEVER 1     /* the document never expires; left is 0 */
+#define CONTACTS_LIFETIME_SECONDS 2   /* left has the seconds */
+
+/* A live document: one that isn't expired. Where the key's document is expired, lifetime and left alone are told of it;
+ * its row stays until it is purged or written. */
 typedef struct contacts_document {
     uint8_t outcome;
     uint8_t status;
+    uint8_t lifetime;      /* CONTACTS_LIFETIME_NONE .. CONTACTS_LIFETIME_SECONDS: what left means */
     uint32_t flags;
     uint32_t expiry;       /* seconds since 1970, 0 never */
     uint64_t revision;
     uint64_t cas;
+    int64_t left;          /* seconds from the later clock to the expiry, -4,294,967,294 to 4,294,967,295 */
     contacts_part value;   /* in the table's memory; place and length where the value is empty too */
 } contacts_document;
 
 /*
- * Reads a key's live document. Changes nothing, and minds neither vbucket nor state. Since the kept clock stays too, a
- * later read with an earlier clock may find what this one didn't.
+ * Reads a key's live document, and how long it lives; of an expired one, how long it is past. Changes nothing, and minds
+ * neither vbucket nor state. Since the kept clock stays too, a later read with an earlier clock may find what this one
+ * didn't, and tell more seconds.
  *
  *   clock   seconds since 1970; the later clock decides
  *   key     any bytes; one of 0 or over 250 bytes is never found
  *
  * Answers
  *   outcome 5                   the table is damaged; all else is 0
- *   outcome 0, status 0x01      no live document with this key; all else is 0
+ *   outcome 0, status 0x01      no live document with this key; all else is 0, but for the two of an expired document:
+ *     lifetime SECONDS          it is expired; left is 0 or less: 0 at its expiry, -60 a minute after it
+ *     lifetime NONE             the key has no row or a tombstone, or is of 0 or over 250 bytes
  *   outcome 0, status 0         the document. The value's bytes are table + value.at, until a call changes the table.
+ *     lifetime SECONDS          left is above 0: the document expires in so many seconds
+ *     lifetime NEVER            it never expires: its expiry is 0
  */
 contacts_document contacts_read(const uint8_t *table, size_t table_len, uint32_t clock, const uint8_t *key,
                                 size_t key_len);

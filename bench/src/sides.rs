@@ -20,7 +20,7 @@ fn reading(case: &Case, rounds: usize) -> Times {
     let rendered = rendering::read(&memory, clock, &key);
     assert_eq!((rendered.outcome, rendered.status), (0, case.request.status().number()), "{case:?}");
     let read = contacts::read(&memory, clock, &key).expect("the table is sound");
-    let shown = read.map(|document| (document.cas.0, document.value));
+    let shown = read.live().map(|document| (document.cas.0, document.value));
     let rendered_shown = (rendered.status == 0).then(|| (rendered.cas, rendered.value.of(&memory)));
     assert_eq!(shown, rendered_shown, "{case:?}");
     race(

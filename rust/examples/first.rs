@@ -1,13 +1,14 @@
-//! A first table: a contact stored and read, then three calls that are refused.
+//! A first table: a contact stored and read, how long it is good for, then three calls that are refused.
 //!
 //! `cargo run --example first`
 
-use contacts::{opcode, Fields, Mode, State, Status, Tally, WriteRefusal};
+use contacts::{opcode, Fields, Left, Mode, State, Status, Tally, WriteRefusal};
 use std::error::Error;
 
 const ROWS: usize = 4;
 const VBUCKET: u16 = 3;
 const NOW: u32 = 1_000_000;
+const HOUR: u32 = 3_600;
 const KEY: &[u8] = b"sonar:17";
 
 fn frame(opcode: u8, vbucket: u16, extras: &[u8], key: &[u8], value: &[u8]) -> Result<Vec<u8>, WriteRefusal> {
@@ -42,7 +43,7 @@ fn main() -> Result<(), Box<dyn Error>> {
     let value = &body[usize::from(header[4])..]; // after the extras
     println!("get: status 0x{:02x}, value \"{}\"", served.status.number(), value.escape_ascii());
 
-    let found = contacts::read(&table, NOW, KEY)?.expect("a live document");
+    let found = contacts::read(&table, NOW, KEY)?.live().expect("a live document");
     println!(
         "read: flags {}, expiry {}, revision {}, CAS {}, value \"{}\"",
         found.flags,
@@ -51,6 +52,13 @@ fn main() -> Result<(), Box<dyn Error>> {
         found.cas.0,
         found.value.escape_ascii()
     );
+    for (when, clock) in [("now", NOW), ("an hour later", NOW + HOUR), ("a minute after that", NOW + HOUR + 60)] {
+        match contacts::read(&table, clock, KEY)?.left() {
+            Some(Left::Seconds(seconds)) => println!("{when}: {seconds} seconds left"),
+            Some(Left::Never) => println!("{when}: it never expires"),
+            None => println!("{when}: no such contact"),
+        }
+    }
 
     let cut = &get[..get.len() - 1];
     if let Err(stop) = contacts::serve(&mut table, NOW, cut, &mut reply, &mut tally) {

@@ -10,6 +10,9 @@
 //! alone lowers it, to 0. So a clock that is too late stays: after one of 2^32 - 1 every relative expiry is
 //! [`Status::Invalid`], until the table is made anew. Check the clock before the first call.
 //!
+//! [`read`] tells how long a document lives: the seconds [`Left`] to its expiry by that later clock, also for one that is
+//! past, or that it never expires. A document is expired where they are zero or less; every command goes by this number.
+//!
 //! `include/contacts.h` says what every command does, `docs/LAYOUT.md` how tables and frames are laid out.
 //!
 //! ```
@@ -28,7 +31,7 @@
 //! let served = contacts::serve(&mut table, clock, &frame[..len], &mut reply, &mut Tally::default())?;
 //! assert_eq!(served.status, Status::Success);
 //!
-//! let document = contacts::read(&table, clock, b"sonar:17")?.unwrap();
+//! let document = contacts::read(&table, clock, b"sonar:17")?.live().unwrap();
 //! assert_eq!(document.value, b"bearing 143");
 //! # Ok::<(), Box<dyn std::error::Error>>(())
 //! ```
@@ -47,7 +50,7 @@ pub use answers::{Damaged, Outcome, Refusal, Status, Stop, WriteRefusal};
 pub use raw::Tally;
 pub use request::{read_request, write_request, Fields, Request};
 pub use serve::{serve, serve_run, Ran, Served};
-pub use table::{make, purge, read, size, sound, Cas, Document, Mode, Revision, State};
+pub use table::{make, purge, read, size, sound, Cas, Document, Found, Left, Mode, Revision, State};
 
 /// The most rows of a table.
 pub const ROWS_MAX: usize = 256;

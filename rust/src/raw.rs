@@ -52,12 +52,18 @@ pub struct RanAnswer {
 pub struct DocumentAnswer {
     pub outcome: u8,
     pub status: u8,
+    pub lifetime: u8,
     pub flags: u32,
     pub expiry: u32,
     pub revision: u64,
     pub cas: u64,
+    pub left: i64,
     pub value: Part,
 }
+
+/// What a [`DocumentAnswer`]'s lifetime may be but 0: the document never expires, or `left` has its seconds.
+pub const LIFETIME_NEVER: u8 = 1;
+pub const LIFETIME_SECONDS: u8 = 2;
 
 #[repr(C)]
 pub struct PurgedAnswer {
@@ -220,7 +226,8 @@ mod tests {
         assert_eq!((size_of::<RanAnswer>(), offset_of!(RanAnswer, used)), (32, 8));
         assert_eq!((size_of::<PurgedAnswer>(), offset_of!(PurgedAnswer, freed)), (16, 8));
         assert_eq!((size_of::<WrittenAnswer>(), offset_of!(WrittenAnswer, len)), (16, 8));
-        assert_eq!((size_of::<DocumentAnswer>(), offset_of!(DocumentAnswer, value)), (48, 32));
+        assert_eq!((size_of::<DocumentAnswer>(), offset_of!(DocumentAnswer, value)), (56, 40));
+        assert_eq!((offset_of!(DocumentAnswer, lifetime), offset_of!(DocumentAnswer, left)), (2, 32));
         assert_eq!((offset_of!(DocumentAnswer, flags), offset_of!(DocumentAnswer, revision)), (4, 16));
         assert_eq!((size_of::<RequestAnswer>(), offset_of!(RequestAnswer, meta)), (80, 72));
         assert_eq!((offset_of!(RequestAnswer, opaque), offset_of!(RequestAnswer, extras)), (8, 24));

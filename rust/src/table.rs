@@ -48,7 +48,24 @@ impl Mode {
     }
 }
 
-/// A live document: one whose expiry is 0 or after the later of the table's kept clock and the call's.
+/// What is left of a document's time, by the later of the table's kept clock and the call's.
+#[derive(Clone, Copy, Debug, PartialEq, Eq, Hash)]
+pub enum Left {
+    /// It never expires: its expiry is 0.
+    Never,
+    /// The seconds to its expiry: above 0 for a live document, 0 exactly at the expiry, negative once it is past. They
+    /// are -4,294,967,294 to 4,294,967,295.
+    Seconds(i64),
+}
+
+impl Left {
+    /// Whether a document that has this left is expired: zero seconds or less. Every command goes by this.
+    pub const fn is_expired(self) -> bool {
+        matches!(self, Left::Seconds(..=0))
+    }
+}
+
+/// A live document: one that never expires, or has seconds left.
 #[derive(Clone, Copy, Debug, PartialEq, Eq, Hash)]
 pub struct Document<'t> {
     /// Flags, the client's own.
@@ -59,8 +76,43 @@ pub struct Document<'t> {
     pub revision: Revision,
     /// The number of the key's last change.
     pub cas: Cas,
+    /// How long it lives by the clock of this read: never expiring, or seconds above 0.
+    pub left: Left,
     /// The value, in the table's memory.
     pub value: &'t [u8],
+}
+
+/// What a read finds for a key.
+#[derive(Clone, Copy, Debug, PartialEq, Eq, Hash)]
+pub enum Found<'t> {
+    /// A live document.
+    Live(Document<'t>),
+    /// An expired document, whose row stays until it is purged or written. Every command finds it missing.
+    Expired {
+        /// The seconds left, 0 or less: 0 at its expiry, -60 a minute after it.
+        left: i64,
+    },
+    /// No document: the key has no row or is erased, or no key is so long or so short.
+    Nothing,
+}
+
+impl<'t> Found<'t> {
+    /// The live document, if there is one.
+    pub const fn live(self) -> Option<Document<'t>> {
+        match self {
+            Found::Live(document) => Some(document),
+            Found::Expired { .. } | Found::Nothing => None,
+        }
+    }
+
+    /// What is left of the document's time, live or expired; none where there is no document.
+    pub const fn left(self) -> Option<Left> {
+        match self {
+            Found::Live(document) => Some(document.left),
+            Found::Expired { left } => Some(Left::Seconds(left)),
+            Found::Nothing => None,
+        }
+    }
 }
 
 /// The bytes that a table of 1 to 256 rows takes; none for other counts.
@@ -89,27 +141,55 @@ pub fn sound(table: &[u8]) -> bool {
     raw::sound(table)
 }
 
-/// Reads a key's live document at the later of the kept clock and this one, in seconds since 1970, whatever the table's
-/// vbucket and state. It leaves the kept clock, so that a read at an earlier clock may find what this one didn't.
+/// Reads a key's document at the later of the kept clock and this one, in seconds since 1970, whatever the table's vbucket
+/// and state: the live document with the seconds that it has left, or how long it is past. It leaves the kept clock, so
+/// that a read at an earlier clock may find what this one didn't, and tell more seconds.
+///
+/// ```
+/// # use contacts::{opcode, Fields, Found, Left, Mode, State, Tally};
+/// # let mut table = vec![0; contacts::size(1).unwrap()];
+/// # contacts::make(&mut table, 1, State::Active, Mode::Revision, 0)?;
+/// # let set = Fields { opcode: opcode::SET, ..Fields::default() };
+/// # let mut frame = [0; contacts::FRAME_MAX];
+/// # let hour = [0, 0, 0, 0, 0, 0, 0x0e, 0x10];
+/// # let len = contacts::write_request(&set, &hour, b"sonar:17", b"bearing 143", &mut frame)?;
+/// # let clock = 1_000_000;
+/// # let mut reply = [0; contacts::REPLY_ROOM];
+/// # contacts::serve(&mut table, clock, &frame[..len], &mut reply, &mut Tally::default())?;
+/// // a contact that was stored for an hour, ten minutes ago
+/// match contacts::read(&table, clock + 600, b"sonar:17")? {
+///     Found::Live(contact) => assert_eq!(contact.left, Left::Seconds(3_000)),
+///     Found::Expired { left } => println!("past for {} seconds", -left),
+///     Found::Nothing => println!("no such contact"),
+/// }
+/// # Ok::<(), Box<dyn std::error::Error>>(())
+/// ```
 ///
 /// # Errors
 ///
 /// [`Damaged`] where the table is.
-pub fn read<'t>(table: &'t [u8], clock: u32, key: &[u8]) -> Result<Option<Document<'t>>, Damaged> {
+pub fn read<'t>(table: &'t [u8], clock: u32, key: &[u8]) -> Result<Found<'t>, Damaged> {
     let answer = raw::read(table, clock, key);
     if answer.outcome != 0 {
         return Err(Damaged);
     }
-    if answer.status != 0 {
-        return Ok(None);
-    }
-    Ok(Some(Document {
-        flags: answer.flags,
-        expiry: answer.expiry,
-        revision: Revision(answer.revision),
-        cas: Cas(answer.cas),
-        value: answer.value.of(table),
-    }))
+    let left = match answer.lifetime {
+        raw::LIFETIME_NEVER => Some(Left::Never),
+        raw::LIFETIME_SECONDS => Some(Left::Seconds(answer.left)),
+        _ => None,
+    };
+    Ok(match (answer.status, left) {
+        (0, left) => Found::Live(Document {
+            flags: answer.flags,
+            expiry: answer.expiry,
+            revision: Revision(answer.revision),
+            cas: Cas(answer.cas),
+            left: left.expect("the library tells what a live document has left"),
+            value: answer.value.of(table),
+        }),
+        (_, Some(Left::Seconds(left))) => Found::Expired { left },
+        _ => Found::Nothing,
+    })
 }
 
 /// Frees exactly the tombstones and the documents expired at the later of the kept clock and this one whose CAS is at or

@@ -4,7 +4,7 @@ mod common;
 
 use common::*;
 use contacts::{
-    make, opcode, purge, read, serve_run, sound, Cas, Mode, State, Status, Tally, REPLY_ROOM, TABLE_AT_KEPT,
+    make, opcode, purge, read, serve_run, sound, Cas, Found, Mode, State, Status, Tally, REPLY_ROOM, TABLE_AT_KEPT,
 };
 
 const DAY: u32 = 86_400;
@@ -15,7 +15,7 @@ fn set_for(seconds: u32, key: &[u8]) -> Vec<u8> {
 }
 
 fn expiry(table: &[u8], clock: u32, key: &[u8]) -> Option<u32> {
-    read(table, clock, key).unwrap().map(|document| document.expiry)
+    read(table, clock, key).unwrap().live().map(|document| document.expiry)
 }
 
 #[test]
@@ -25,7 +25,7 @@ fn yesterdays_contact_stays_past() {
     assert_eq!(status_at(&mut table, NOW, &get(b"k")), Status::NotFound);
     for earlier in [NOW - DAY, NOW - 1, 0] {
         assert_eq!(status_at(&mut table, earlier, &get(b"k")), Status::NotFound);
-        assert_eq!(read(&table, earlier, b"k"), Ok(None));
+        assert_eq!(read(&table, earlier, b"k"), Ok(Found::Expired { left: 60 - i64::from(DAY) }));
         assert_eq!(kept(&table), NOW);
     }
     assert_eq!(purge(&mut table, NOW - DAY, ALL), Ok(1));

@@ -3,7 +3,7 @@
 mod common;
 
 use common::*;
-use contacts::{opcode, read, Cas, Fields, Revision, Status, Tally, KEY_MAX, REPLY_ROOM, VALUE_MAX};
+use contacts::{opcode, read, Cas, Fields, Found, Revision, Status, Tally, KEY_MAX, REPLY_ROOM, VALUE_MAX};
 
 fn touch(opcode: u8, key: &[u8], expiry: u32) -> Vec<u8> {
     frame_of(&fields(opcode), &expiry.to_be_bytes(), key, &[])
@@ -15,7 +15,7 @@ fn a_value_grows_at_either_end_and_all_else_stays() {
     done(&mut table, &set(b"k", b"143"));
     done(&mut table, &append(b"k", b" degrees"));
     done(&mut table, &frame_of(&fields(opcode::PREPENDQ), &[], b"k", b"bearing "));
-    let document = read(&table, NOW, b"k").unwrap().unwrap();
+    let document = read(&table, NOW, b"k").unwrap().live().unwrap();
     assert_eq!(document.value, b"bearing 143 degrees");
     assert_eq!((document.flags, document.expiry, document.revision, document.cas), (7, 0, Revision(3), Cas(3)));
 }
@@ -29,7 +29,7 @@ fn a_joined_value_ends_where_every_value_does() {
     done(&mut table, &append(&key, b"w"));
     assert_eq!(status(&mut table, &append(&key, b"w")), Status::TooLarge);
     done(&mut table, &append(&key, b""));
-    assert_eq!(read(&table, NOW, &key).unwrap().unwrap().value.len(), VALUE_MAX);
+    assert_eq!(read(&table, NOW, &key).unwrap().live().unwrap().value.len(), VALUE_MAX);
 }
 
 #[test]
@@ -50,10 +50,10 @@ fn a_touch_moves_the_expiry_and_shows_the_document_if_asked() {
     let mut reply = [0; REPLY_ROOM];
     let answer = served(&mut table, &touch(opcode::TOUCH, b"k", 60), &mut reply, &mut Tally::default());
     assert_eq!((answer.status, answer.reply.len(), answer.reply[23]), (Status::Success, 24, 2));
-    assert_eq!(read(&table, NOW, b"k").unwrap().unwrap().expiry, NOW + 60);
+    assert_eq!(read(&table, NOW, b"k").unwrap().live().unwrap().expiry, NOW + 60);
     let answer = served(&mut table, &touch(opcode::GET_AND_TOUCH, b"k", 90), &mut reply, &mut Tally::default());
     assert_eq!((answer.status, answer.reply[23], &answer.reply[24..]), (Status::Success, 3, &b"\0\0\0\x07v"[..]));
-    assert_eq!(read(&table, NOW + 89, b"k").unwrap().unwrap().cas, Cas(3));
-    assert!(read(&table, NOW + 90, b"k").unwrap().is_none());
+    assert_eq!(read(&table, NOW + 89, b"k").unwrap().live().unwrap().cas, Cas(3));
+    assert_eq!(read(&table, NOW + 90, b"k"), Ok(Found::Expired { left: 0 }));
     assert_eq!(status_at(&mut table, NOW + 90, &touch(opcode::TOUCH, b"k", 90)), Status::NotFound);
 }

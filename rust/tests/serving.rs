@@ -123,7 +123,7 @@ fn a_forced_with_meta_write_is_taken_by_a_replica() {
     let extras = [meta(1, 0, 20, Cas(30)), options.to_vec()].concat();
     done(&mut table, &frame_of(&fields(opcode::SET_WITH_META), &extras, b"k", b"v"));
     assert_eq!(status(&mut table, &set(b"k", b"w")), Status::NotMyVbucket);
-    assert_eq!(contacts::read(&table, NOW, b"k").unwrap().unwrap().cas, Cas(30));
+    assert_eq!(contacts::read(&table, NOW, b"k").unwrap().live().unwrap().cas, Cas(30));
 }
 
 #[test]

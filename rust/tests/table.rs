@@ -3,7 +3,7 @@
 mod common;
 
 use common::*;
-use contacts::{make, opcode, purge, read, size, sound, Cas, Damaged, Document, Mode, Revision, State};
+use contacts::{make, opcode, purge, read, size, sound, Cas, Damaged, Document, Found, Left, Mode, Revision, State};
 
 const HOUR: u32 = 3600;
 
@@ -58,8 +58,9 @@ fn reading_shows_the_live_document_in_the_tables_memory() {
     done(&mut table, &set(b"a", b"one"));
     done(&mut table, &set(b"b", b"two"));
     done(&mut table, &set(b"b", b"three"));
-    let found = read(&table, NOW, b"b").unwrap().unwrap();
-    assert_eq!(found, Document { flags: 7, expiry: 0, revision: Revision(2), cas: Cas(3), value: b"three" });
+    let found = read(&table, NOW, b"b").unwrap().live().unwrap();
+    let (revision, cas, left) = (Revision(2), Cas(3), Left::Never);
+    assert_eq!(found, Document { flags: 7, expiry: 0, revision, cas, left, value: b"three" });
     assert_eq!(found.value.as_ptr(), table[ROW + 1312 + 32 + 1..].as_ptr());
 }
 
@@ -67,7 +68,7 @@ fn reading_shows_the_live_document_in_the_tables_memory() {
 fn reading_shows_an_empty_value() {
     let mut table = table(1);
     done(&mut table, &set(b"k", b""));
-    assert_eq!(read(&table, NOW, b"k").unwrap().unwrap().value, b"");
+    assert_eq!(read(&table, NOW, b"k").unwrap().live().unwrap().value, b"");
 }
 
 #[test]
@@ -75,12 +76,12 @@ fn reading_finds_no_other_key_and_no_dead_document() {
     let mut table = table(2);
     done(&mut table, &set_for_an_hour(b"k"));
     for key in [b"other".as_slice(), b"", &[b'k'; 251]] {
-        assert_eq!(read(&table, NOW, key), Ok(None));
+        assert_eq!(read(&table, NOW, key), Ok(Found::Nothing));
     }
-    assert!(read(&table, NOW + HOUR - 1, b"k").unwrap().is_some());
-    assert_eq!(read(&table, NOW + HOUR, b"k"), Ok(None));
+    assert!(read(&table, NOW + HOUR - 1, b"k").unwrap().live().is_some());
+    assert_eq!(read(&table, NOW + HOUR, b"k"), Ok(Found::Expired { left: 0 }));
     done(&mut table, &delete(b"k"));
-    assert_eq!(read(&table, NOW, b"k"), Ok(None));
+    assert_eq!(read(&table, NOW, b"k"), Ok(Found::Nothing));
 }
 
 #[test]
@@ -104,7 +105,7 @@ fn purging_frees_tombstones_and_expired_documents_up_to_the_bound() {
     assert_eq!(but_for_the_kept_clock(&table), but_for_the_kept_clock(&before));
     assert_eq!(purge(&mut table, NOW + HOUR, Cas(3)), Ok(1));
     assert_eq!(purge(&mut table, NOW + HOUR, Cas(u64::MAX)), Ok(1));
-    assert_eq!(read(&table, NOW + HOUR, b"live").unwrap().unwrap().value, b"v");
+    assert_eq!(read(&table, NOW + HOUR, b"live").unwrap().live().unwrap().value, b"v");
     assert_eq!(table[MARK..16], 4u64.to_be_bytes());
     assert!(table[ROW..ROW + 1312].iter().all(|&b| b == 0));
 }

@@ -1,6 +1,10 @@
 -- The answers as C takes them: a struct of numbers for each, in which outcomes and statuses are document 01's. What an answer doesn't have is 0.
 use Prim.Native.Nat.{ℕ}
+use lib.IntN.{ℤ, pos}
 use Rattle.numbers.specs.declared.Numbers.{Numbers}
+use Rattle.numbers.specs.declared.Left.{Left}
+use Rattle.numbers.specs.declared.Left.the-variants.{Never, Seconds}
+use Rattle.numbers.specs.Expiry.{secondsIn}
 use Rattle.request.specs.declared.Span.{Span}
 use Rattle.request.specs.declared.Frame.{Frame}
 use Rattle.request.specs.declared.Fields.{Fields}
@@ -13,7 +17,7 @@ use Rattle.request_writer.specs.Writing.{statusNo, outcomeNo}
 use Rattle.serving.specs.declared.Served.{Served}
 use Rattle.serving.specs.Serve.{servedOutcome, servedStatus, servedUsed, servedLength, servedNeeded}
 use Rattle.owner.specs.declared.Document.{Document}
-use Rattle.owner.specs.declared.Document.the-variants.{Damaged, Missing, Live}
+use Rattle.owner.specs.declared.Document.the-variants.{Damaged, Missing, Expired, Live}
 use Rattle.owner.specs.declared.Purged.{Purged}
 use Rattle.owner.specs.Owner.{readOutcome, readStatus, purgeOutcome, purgedCount}
 use Rattle.run.specs.declared.Ran.{Ran}
@@ -43,33 +47,43 @@ partOf p = record { at = p .at; len = p .len }
 abbrev pub noPart : Part
 noPart = record { at = 0; len = 0 }
 
--- a document's four numbers and where its value stands
-abbrev pub liveAnswer : Numbers → ℕ → ℕ → DocumentAnswer
-liveAnswer n at len = record {
-  outcome = readOutcome (Live n at len);
-  status = readStatus (Live n at len);
+-- order 5, what `left` is: 1, the document never expires and `left` is 0; 2, so many seconds are left. 0: there is none to tell
+abbrev pub lifetimeOf : Left → ℕ
+lifetimeOf Never = 1
+lifetimeOf (Seconds n) = 2
+
+-- a document's four numbers, the time that is left and where its value stands
+abbrev pub liveAnswer : Numbers → Left → ℕ → ℕ → DocumentAnswer
+liveAnswer n left at len = record {
+  outcome = readOutcome (Live n left at len);
+  status = readStatus (Live n left at len);
+  lifetime = lifetimeOf left;
   flags = n .flags;
   expiry = n .expiry;
   revision = n .revision .0;
   cas = n .cas .0;
+  left = secondsIn left;
   value = record { at = at; len = len };
 }
 
-abbrev pub noDocument : ℕ → ℕ → DocumentAnswer
-noDocument outcome status = record {
+abbrev pub noDocument : ℕ → ℕ → ℕ → ℤ → DocumentAnswer
+noDocument outcome status lifetime left = record {
   outcome = outcome;
   status = status;
+  lifetime = lifetime;
   flags = 0;
   expiry = 0;
   revision = 0;
   cas = 0;
+  left = left;
   value = noPart;
 }
 
 abbrev pub documentAnswer : Document → DocumentAnswer
-documentAnswer Damaged = noDocument (readOutcome Damaged) (readStatus Damaged)
-documentAnswer Missing = noDocument (readOutcome Missing) (readStatus Missing)
-documentAnswer (Live n at len) = liveAnswer n at len
+documentAnswer Damaged = noDocument (readOutcome Damaged) (readStatus Damaged) 0 (pos 0)
+documentAnswer Missing = noDocument (readOutcome Missing) (readStatus Missing) 0 (pos 0)
+documentAnswer (Expired s) = noDocument (readOutcome (Expired s)) (readStatus (Expired s)) (lifetimeOf (Seconds s)) s
+documentAnswer (Live n left at len) = liveAnswer n left at len
 
 abbrev pub purgedAnswer : Purged → PurgedAnswer
 purgedAnswer p = record { outcome = purgeOutcome p; freed = purgedCount p }

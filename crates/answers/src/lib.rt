@@ -1,7 +1,8 @@
 // The answers as C takes them: structs of numbers, in which outcomes and statuses are document 01's. What an answer
 // doesn't have is 0.
 ghost use mathlib.Core.Path.{_≡_};
-ghost use Rattle.answers.specs.Answers.{servedAnswer, ranAnswer, partOf, liveAnswer, noDocument, documentAnswer, purgedAnswer, requestRefused, requestShown, requestAnswer, writtenAnswer};
+ghost use Rattle.answers.specs.Answers.{servedAnswer, ranAnswer, partOf, lifetimeOf, liveAnswer, noDocument, documentAnswer, purgedAnswer, requestRefused, requestShown, requestAnswer, writtenAnswer};
+use numbers::Left;
 use numbers::Numbers;
 use owner::Document;
 use owner::Purged;
@@ -42,10 +43,13 @@ pub struct RanAnswer {
 pub struct DocumentAnswer {
     pub outcome: u8,
     pub status: u8,
+    // 1: the document never expires; 2: left has the seconds, none or fewer where it has expired; 0: there is none to tell
+    pub lifetime: u8,
     pub flags: u32,
     pub expiry: u32,
     pub revision: u64,
     pub cas: u64,
+    pub left: i64,
     pub value: Part,
 }
 
@@ -128,30 +132,43 @@ fn part_of(p: Span) -> Part
     }
 }
 
-fn live_answer(n: Numbers, at: usize, len: usize) -> DocumentAnswer
-    ensures { λ a. ⌜ a ≡ liveAnswer n at len ⌝ }
+fn lifetime_of(left: Left) -> u8
+    ensures { λ r. ⌜ r ≡ lifetimeOf left ⌝ }
+{
+    match left {
+        Left::Never => 1,
+        Left::Seconds(_) => 2,
+    }
+}
+
+fn live_answer(n: Numbers, left: Left, at: usize, len: usize) -> DocumentAnswer
+    ensures { λ a. ⌜ a ≡ liveAnswer n left at len ⌝ }
 {
     DocumentAnswer {
         outcome: 0,
         status: 0,
+        lifetime: lifetime_of(left),
         flags: n.flags,
         expiry: n.expiry,
         revision: n.revision.0,
         cas: n.cas.0,
+        left: numbers::seconds_in(left),
         value: Part { at, len },
     }
 }
 
-fn no_document(outcome: u8, status: u8) -> DocumentAnswer
-    ensures { λ a. ⌜ a ≡ noDocument outcome status ⌝ }
+fn no_document(outcome: u8, status: u8, lifetime: u8, left: i64) -> DocumentAnswer
+    ensures { λ a. ⌜ a ≡ noDocument outcome status lifetime left ⌝ }
 {
     DocumentAnswer {
         outcome,
         status,
+        lifetime,
         flags: 0,
         expiry: 0,
         revision: 0,
         cas: 0,
+        left,
         value: Part { at: 0, len: 0 },
     }
 }
@@ -160,9 +177,10 @@ pub fn document_answer(d: Document) -> DocumentAnswer
     ensures { λ a. ⌜ a ≡ documentAnswer d ⌝ }
 {
     match d {
-        Document::Damaged => no_document(5, 0),
-        Document::Missing => no_document(0, 0x01),
-        Document::Live(n, at, len) => live_answer(n, at, len),
+        Document::Damaged => no_document(5, 0, 0, 0),
+        Document::Missing => no_document(0, 0x01, 0, 0),
+        Document::Expired(seconds) => no_document(0, 0x01, 2, seconds),
+        Document::Live(n, left, at, len) => live_answer(n, left, at, len),
     }
 }
 

@@ -3,6 +3,7 @@ use crate::frames;
 use crate::frames::Call;
 use crate::tell;
 use numbers::Cas;
+use numbers::Left;
 use owner::Document;
 use owner::Purged;
 
@@ -165,11 +166,45 @@ fn put_read(line: &mut [u8], at: usize, clock: u32) -> usize {
     match owner::read(&boat, clock, b"wreck:north-bank") {
         Document::Damaged => tell::put_outcome(line, at, 5),
         Document::Missing => tell::put_status(line, at, 0x01),
-        Document::Live(_, place, len) => {
+        Document::Expired(_) => tell::put_status(line, at, 0x01),
+        Document::Live(_, _, place, len) => {
             let end = tell::put_status(line, at, 0x00);
             tell::put_found(line, end, octets::part(&boat, place, len))
         }
     }
+}
+
+// What the owner's read tells of the time that is left.
+fn put_left(line: &mut [u8], at: usize, d: Document) -> usize {
+    match d {
+        Document::Damaged => tell::put_outcome(line, at, 5),
+        Document::Missing => tell::put_status(line, at, 0x01),
+        Document::Expired(n) => tell::put_left(line, at, Left::Seconds(n)),
+        Document::Live(_, left, _, _) => tell::put_left(line, at, left),
+    }
+}
+
+fn aged(clock: u32) {
+    let mut boat = [0u8; frames::SIZE];
+    let mut reply = [0u8; frames::ROOM];
+    let mut line = [b' '; 128];
+    set_contact(&mut boat, &mut reply);
+    tell::put_clock(&mut line, NAME_COLUMN, clock);
+    let end = put_left(
+        &mut line,
+        BEFORE_COLUMN,
+        owner::read(&boat, clock, b"wreck:north-bank"),
+    );
+    tell::line(&line, end);
+}
+
+// A skipper asks how old the contact is: the read tells the seconds that are left, and those since it expired.
+fn ages() {
+    tell::text(b"\nHow long the contact is still good, as the owner's read tells it:\n\n");
+    aged(SET_AT);
+    aged(BEFORE);
+    aged(EXPIRY);
+    aged(EXPIRY + 3600);
 }
 
 fn put_purged(line: &mut [u8], at: usize, clock: u32) -> usize {
@@ -224,4 +259,5 @@ pub(crate) fn chapter() {
     copies();
     owner_reads();
     owner_purges();
+    ages();
 }

@@ -1,5 +1,6 @@
 // What is printed: texts, and lines whose parts stand in columns.
 use header::Header;
+use numbers::Left;
 use serving::Served;
 
 pub(crate) fn text(s: &[u8]) {
@@ -73,6 +74,20 @@ pub(crate) fn put_outcome(line: &mut [u8], at: usize, outcome: u8) -> usize {
 pub(crate) fn put_found(line: &mut [u8], at: usize, found: &[u8]) -> usize {
     let end = put(line, at, b": ");
     put(line, end, found)
+}
+
+// How long a contact is still good, or how long ago it expired.
+pub(crate) fn put_left(line: &mut [u8], at: usize, left: Left) -> usize {
+    match left {
+        Left::Never => put(line, at, b"never expires"),
+        Left::Seconds(n) => {
+            let end = put_number(line, at, numbers::magnitude(n));
+            if n <= 0 {
+                return put(line, end, b" s past");
+            }
+            put(line, end, b" s left")
+        }
+    }
 }
 
 fn is_counter(opcode: u8) -> bool {

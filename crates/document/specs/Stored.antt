@@ -32,6 +32,11 @@ unfoldable pub live : Stored → ℕ → Bool
 live Nothing clock = false
 live (Used d) clock = alive (d .tomb) (d .numbers .expiry) clock
 
+-- a document, expired or not
+abbrev pub isDocument : Stored → Bool
+isDocument Nothing = false
+isDocument (Used d) = not (d .tomb)
+
 abbrev pub hasRow : Stored → Bool
 hasRow Nothing = false
 hasRow (Used d) = true

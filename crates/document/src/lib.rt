@@ -1,7 +1,7 @@
 // What a store of documents is, apart from how memory holds it.
 ghost use mathlib.Core.Path.{_≡_};
 ghost use Rattle.document.specs.Head.{raised, atClock};
-ghost use Rattle.document.specs.Stored.{alive, live, hasRow, numbersOf, accepted, gone};
+ghost use Rattle.document.specs.Stored.{alive, live, isDocument, hasRow, numbersOf, accepted, gone};
 use numbers::Cas;
 use numbers::Mode;
 use numbers::Numbers;
@@ -79,6 +79,16 @@ pub fn live(s: Stored, clock: u32) -> bool
     match s {
         Stored::Nothing => false,
         Stored::Used(d) => alive(d.tomb, d.numbers.expiry, clock),
+    }
+}
+
+// Whether a key's row is a document, expired or not.
+pub fn is_document(s: Stored) -> bool
+    ensures { λ r. ⌜ r ≡ isDocument s ⌝ }
+{
+    match s {
+        Stored::Nothing => false,
+        Stored::Used(d) => !d.tomb,
     }
 }
 

@@ -1,1 +1,3 @@
+pub mod Differences
 pub mod OrderLaws
+pub mod LeftLaws

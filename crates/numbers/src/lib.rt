@@ -1,8 +1,9 @@
 // The numbers of a document: their kinds, the published order, expiry and growth. CAS and revision are two kinds of
 // number that can't be exchanged.
 ghost use mathlib.Core.Path.{_≡_};
+ghost use lib.IntN.{natAbs};
 ghost use Rattle.numbers.specs.Order.{modeOf, above, lead, second, greater};
-ghost use Rattle.numbers.specs.Expiry.{later, expired, passes, absolute};
+ghost use Rattle.numbers.specs.Expiry.{later, secondsLeft, isPast, secondsIn, expired, passes, absolute};
 ghost use Rattle.numbers.specs.Growth.{next, casAfter, largerCas, revisionAfter, incremented, decremented};
 
 pub struct Cas(pub u64);
@@ -75,11 +76,57 @@ pub fn later(kept: u32, clock: u32) -> u32
     if kept < clock { clock } else { kept }
 }
 
-// The one place where expiry is decided: every command and the owner's calls go through it.
+// The time that is left to a document: it never expires, or so many seconds, none or fewer once it has expired.
+pub enum Left {
+    Never,
+    Seconds(i64),
+}
+
+// The time that is left from a clock on. Every command, listing, purge and the owner's read decide from it.
+pub fn seconds_left(expiry: u32, clock: u32) -> Left
+    ensures { λ r. ⌜ r ≡ secondsLeft expiry clock ⌝ }
+{
+    if expiry == 0 {
+        return Left::Never;
+    }
+    Left::Seconds(expiry as i64 - clock as i64)
+}
+
+pub fn is_past(left: Left) -> bool
+    ensures { λ r. ⌜ r ≡ isPast left ⌝ }
+{
+    match left {
+        Left::Never => false,
+        Left::Seconds(n) => n <= 0,
+    }
+}
+
+// The seconds that are left, 0 where there is no end.
+pub fn seconds_in(left: Left) -> i64
+    ensures { λ r. ⌜ r ≡ secondsIn left ⌝ }
+{
+    match left {
+        Left::Never => 0,
+        Left::Seconds(n) => n,
+    }
+}
+
+// A number without its sign.
+pub fn magnitude(n: i64) -> u64
+    ensures { λ r. ⌜ r ≡ natAbs n ⌝ }
+{
+    if 0 <= n {
+        return n as u64;
+    }
+    let less = -1 - n;
+    less as u64 + 1
+}
+
+// The one test of an expiry.
 pub fn expired(expiry: u32, clock: u32) -> bool
     ensures { λ r. ⌜ r ≡ expired expiry clock ⌝ }
 {
-    (expiry != 0) & (expiry <= clock)
+    is_past(seconds_left(expiry, clock))
 }
 
 // Whether a plain expiry's sum with the clock passes 2^32 - 1.

@@ -7,11 +7,13 @@ use mathlib.Core.Option.{Option, none, some}
 use lib.ListN.{length}
 use Rattle.octets.specs.Parts.{Bytes, written}
 use Rattle.octets.specs.BigEndian.{bytesOf}
-use Rattle.numbers.specs.Expiry.{later}
+use Rattle.octets.proofs.Choices.{cases}
+use Rattle.numbers.specs.declared.Left.{Left}
+use Rattle.numbers.specs.Expiry.{later, secondsLeft, isPast, secondsIn}
 use Rattle.document.specs.declared.Head.{Head}
 use Rattle.document.specs.Documents.{Key, Doc, docValue}
-use Rattle.document.specs.Stored.{metadataOf, storedOf, live, numbersOf, goneDoc}
-use Rattle.document.specs.declared.Stored.the-variants.{Used}
+use Rattle.document.specs.Stored.{storedOf, isDocument, numbersOf, goneDoc}
+use Rattle.document.specs.declared.Stored.{Stored}
 use Rattle.rows.specs.Row.{Row}
 use Rattle.rows.specs.Table.{Table, headOf, tableOf, tableAt, clockAt, tableBytes}
 use Rattle.rows.specs.Find.{findRow, valuePlace}
@@ -25,27 +27,38 @@ use Rattle.table.specs.Calls.{lookupOf}
 use Rattle.table.proofs.Looking.{finds-sound}
 use Rattle.table.proofs.Keeping.{clock-put, clock-good, purges-good}
 use Rattle.owner.specs.declared.Document.{Document}
-use Rattle.owner.specs.declared.Document.the-variants.{Damaged, Missing, Live}
+use Rattle.owner.specs.declared.Document.the-variants.{Damaged, Missing, Expired, Live}
 use Rattle.owner.specs.declared.Purged.the-variants.{Damaged as NotPurged, Freed}
 use Rattle.owner.specs.Owner.{shown, readOf, purgeOf, purgedBytes}
 use Rattle.owner.specs.Shown.{shownBy}
 
--- a lookup, by whether its document is live
+-- a lookup, by whether its row is a document, and by the time that is left to it
 module _ (clock : ℕ) (l : Lookup) where
-  pub shown-over : live (l .stored) clock ≡ false → Missing ≡ shownBy clock l
-  unfolding shownBy
-  shown-over e = rw e
+  abbrev pub left : Left
+  left = secondsLeft (numbersOf (l .stored) .expiry) clock
 
-  pub shown-live : live (l .stored) clock ≡ true → Live (numbersOf (l .stored)) (l .at) (l .len) ≡ shownBy clock l
+  pub shown-none : isDocument (l .stored) ≡ false → Missing ≡ shownBy clock l
   unfolding shownBy
-  shown-live e = rw e
+  shown-none e = rw e
+
+  pub shown-past : isDocument (l .stored) ≡ true → isPast left ≡ true → Expired (secondsIn left) ≡ shownBy clock l
+  unfolding shownBy
+  shown-past e p = rw (e, p)
+
+  pub shown-live : isDocument (l .stored) ≡ true → isPast left ≡ false → Live (numbersOf (l .stored)) left (l .at) (l .len) ≡ shownBy clock l
+  unfolding shownBy
+  shown-live e p = rw (e, p)
+
+-- what a row with its value at a place shows
+abbrev told : ℕ → Stored → ℕ → ℕ → Document
+told clock s at len =
+    let left = secondsLeft (numbersOf s .expiry) clock in
+    cond (isDocument s) (cond (isPast left) (Expired (secondsIn left)) (Live (numbersOf s) left at len)) Missing
 
 -- by what the table's rows have for the key
-by-doc : (rows : List Row) (clock : ℕ) (key : Key) (o : Option Doc)
-    → cond (live (storedOf o) clock) (Live (numbersOf (storedOf o)) (valuePlace rows key 16) (length (docValue o))) Missing ≡ shown rows clock key o
-unfolding live
+by-doc : (rows : List Row) (clock : ℕ) (key : Key) (o : Option Doc) → told clock (storedOf o) (valuePlace rows key 16) (length (docValue o)) ≡ shown rows clock key o
 by-doc rows clock key none = refl
-by-doc rows clock key (some d) = refl
+by-doc rows clock key (some d) = cases (d .tomb) (λ t. rw t) (λ t. rw t)
 
 -- the later of the head's clock and the call's
 pub later-at : (b : List ℕ) (clock : ℕ) (h : Head) (now : ℕ) → h ≡ headOf b → now ≡ later (h .clock) clock → now ≡ clockAt (tableOf b) clock
@@ -70,7 +83,7 @@ module _ (b : List ℕ) (clock : ℕ) where
         let g = finds-sound b key false y s in
         let o = findRow (tableOf b .rows) key in
         f ∙ (λ i. shownBy (n i) (e i))
-        ∙ (λ i. cond (live (g .stored i) at) (Live (numbersOf (g .stored i)) (g .stands i) (g .size i)) Missing)
+        ∙ (λ i. told at (g .stored i) (g .stands i) (g .size i))
         ∙ by-doc (tableOf b .rows) at key o ∙ sym (read-sound s)
 
   module _ (bound : ℕ) where

@@ -1,18 +1,25 @@
 -- The claims of specs/Claims.antt.
 use native.Mathlib.Omega.{arith}
 use mathlib.Core.Path.{_≡_, refl, sym, ap, _∙_}
-use mathlib.Core.Bool.{Bool, true, false, cond}
+use mathlib.Core.Bool.{Bool, true, false, cond, not, false≢true, true≢false}
 use mathlib.Core.List.{List}
 use mathlib.Core.Option.{Option, none, some}
 use Prim.Native.Nat.{ℕ, _+_, _≤_}
 use lib.ListN.{length}
+use lib.Dec.{eqb}
+use lib.IntN.{pos, _-ℤ_}
+use lib.Signed.{leZ}
+use borrow.Author.Tests.{not-true, not-false}
 use Rattle.octets.specs.Parts.{part}
-use Rattle.octets.proofs.Choices.{cases}
+use Rattle.octets.proofs.Choices.{cases, both}
 use Rattle.octets.proofs.Options.{options, none-some}
-use Rattle.numbers.specs.declared.Numbers.{Numbers}
-use Rattle.document.specs.Documents.{Doc, docValue}
-use Rattle.document.specs.Stored.{metadataOf, storedOf, live, goneDoc}
+use Rattle.numbers.specs.declared.Left.{Left}
+use Rattle.numbers.specs.declared.Left.the-variants.{Never, Seconds}
+use Rattle.numbers.specs.Expiry.{secondsLeft, isPast, secondsIn, expired}
+use Rattle.document.specs.Documents.{Key, Doc, docValue}
+use Rattle.document.specs.Stored.{metadataOf, storedOf, live, isDocument, goneDoc}
 use Rattle.document.specs.declared.Stored.the-variants.{Used}
+use Rattle.rows.specs.Row.{Row}
 use Rattle.rows.specs.Table.{tableOf, tableAt, clockAt, fresh}
 use Rattle.rows.specs.Find.{findRow, valuePlace}
 use Rattle.plain.specs.Damage.{sound}
@@ -21,9 +28,9 @@ use Rattle.plain.proofs.ChangeLaws.{fresh-good}
 use Rattle.table.proofs.Looking.{finds-sound}
 use Rattle.table.proofs.Keeping.{clock-good, purges-good}
 use Rattle.owner.specs.declared.Document.{Document}
-use Rattle.owner.specs.declared.Document.the-variants.{Missing, Live}
-use Rattle.owner.specs.Owner.{shown, purgedBytes, makeOk}
-use Rattle.owner.specs.Claims.{ReadShows, ReadMisses, NoSuchKey, PurgeSound, MakeSound}
+use Rattle.owner.specs.declared.Document.the-variants.{Missing, Expired, Live}
+use Rattle.owner.specs.Owner.{shown, shownLeft, purgedBytes, makeOk}
+use Rattle.owner.specs.Claims.{ReadShows, ReadMisses, ReadExpired, NoSuchKey, PurgeSound, MakeSound}
 use Rattle.owner.proofs.Making.{accepted, refused, in-range}
 use Rattle.owner.proofs.Reading.{read-sound}
 
@@ -39,6 +46,28 @@ kept-over clock d t = ap (λ (c : Bool). cond c (some d) none) t
 kept-none : (clock : ℕ) → kept clock none ≡ none
 unfolding live
 kept-none clock = refl
+
+-- ---- the time that is left
+-- a live document isn't past, and one that isn't live is
+shown-live : (rows : List Row) (clock : ℕ) (key : Key) (d : Doc) → live (Used (metadataOf d)) clock ≡ true
+    → shown rows clock key (some d) ≡ Live (d .numbers) (secondsLeft (d .numbers .expiry) clock) (valuePlace rows key 16) (length (d .value))
+unfolding live expired
+shown-live rows clock key d t =
+    let (tomb, past) = both (not (d .tomb)) (not (isPast (secondsLeft (d .numbers .expiry) clock))) t in
+    rw (not-true (d .tomb) tomb, not-true (isPast (secondsLeft (d .numbers .expiry) clock)) past)
+
+past-over : (clock : ℕ) (d : Doc) → d .tomb ≡ false → live (storedOf (some d)) clock ≡ false → isPast (secondsLeft (d .numbers .expiry) clock) ≡ true
+unfolding live expired
+past-over clock d e f = not-false (isPast (secondsLeft (d .numbers .expiry) clock)) (rw e at f)
+
+past-difference : (expiry clock : ℕ) → isPast (secondsLeft expiry clock) ≡ true → secondsIn (secondsLeft expiry clock) ≡ pos expiry -ℤ pos clock
+unfolding secondsLeft
+past-difference expiry clock p =
+    cases (eqb expiry 0) (λ z. absurd (false≢true (rw z at p))) (λ z. rw z)
+
+past-least : (left : Left) → isPast left ≡ true → leZ (secondsIn left) (pos 0) ≡ true
+past-least Never p = absurd (false≢true p)
+past-least (Seconds n) p = p
 
 pub read-shows : ReadShows
 read-shows b call key d y s e =
@@ -58,8 +87,8 @@ read-shows b call key d y s e =
       at = l;
       len = length (x .value);
       answer =
-          read-sound b call key s ∙ ap (shown rows clock key) o ∙ ap (λ (c : Bool). cond c (Live (x .numbers) l (length (x .value))) Missing) t
-          ∙ ap (λ (w : Doc). Live (w .numbers) l (length (x .value))) q;
+          read-sound b call key s ∙ ap (shown rows clock key) o ∙ shown-live rows clock key x t
+          ∙ ap (λ (w : Doc). Live (w .numbers) (secondsLeft (w .numbers .expiry) clock) l (length (x .value))) q;
       inside = omega (arith, f .inside, at, size);
       value = (λ i. part b (sym at i) (sym size i)) ∙ f .value ∙ ap docValue o ∙ ap (λ (w : Doc). w .value) q;
     })
@@ -73,14 +102,25 @@ read-misses b call key y s e =
     ∙ options (findRow rows key)
     (λ n. ap (shown rows clock key) n)
     (λ x o.
-    let missing : live (Used (metadataOf x)) clock ≡ false =
-    cases (live (Used (metadataOf x)) clock) (λ t. none-some x (sym e ∙ ap (kept clock) o ∙ kept-live clock x t)) (λ t. t) in
-    ap (shown rows clock key) o ∙ ap (λ (c : Bool). cond c (Live (x .numbers) (valuePlace rows key 16) (length (x .value))) Missing) missing)
+    let tomb = not-false (x .tomb) (sym (ap (λ (w : Option Doc). isDocument (storedOf w)) o) ∙ e) in
+    ap (shown rows clock key) o ∙ ap (λ (c : Bool). cond c Missing (shownLeft rows key x (secondsLeft (x .numbers .expiry) clock))) tomb)
+
+pub read-expired : ReadExpired
+read-expired b call key d y s o document over =
+    let clock = clockAt (tableOf b) call in
+    let rows = tableOf b .rows in
+    let left = secondsLeft (d .numbers .expiry) clock in
+    let past = past-over clock d document over in
+    record {
+      seconds = secondsIn left;
+      answer = read-sound b call key s ∙ ap (shown rows clock key) o ∙ rw (document, past);
+      difference = past-difference (d .numbers .expiry) clock past;
+      past = past-least left past;
+    }
 
 pub no-such-key : NoSuchKey
 no-such-key b clock key y s h =
-    let now = clockAt (tableOf b) clock in
-    read-misses b clock key y s (ap (kept now) (no-key (tableOf b .head .mark .0) (tableOf b .rows) key (sound-good b y s .1 .rows) h) ∙ kept-none now)
+    read-misses b clock key y s (ap (λ (o : Option Doc). isDocument (storedOf o)) (no-key (tableOf b .head .mark .0) (tableOf b .rows) key (sound-good b y s .1 .rows) h))
 
 pub purge-sound : PurgeSound
 unfolding purgedBytes

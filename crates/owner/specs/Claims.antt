@@ -2,36 +2,54 @@
 use Prim.Native.Nat.{ℕ, _+_, _^_, _≤_, _<_}
 use mathlib.Core.Path.{_≡_}
 use mathlib.Core.List.{List}
-use mathlib.Core.Bool.{true, cond}
+use mathlib.Core.Bool.{true, false, cond}
 use mathlib.Core.Logic.{_⊎_}
 use mathlib.Core.Option.{Option, none, some}
 use lib.ListN.{length}
+use lib.IntN.{ℤ, pos, _-ℤ_}
+use lib.Signed.{leZ}
 use Rattle.octets.specs.Parts.{Bytes, part}
 use Rattle.document.specs.Documents.{Key, Doc}
-use Rattle.document.specs.Stored.{storedOf, live}
+use Rattle.numbers.specs.Expiry.{secondsLeft}
+use Rattle.document.specs.Stored.{storedOf, isDocument, live}
 use Rattle.rows.specs.Table.{tableOf, clockAt}
 use Rattle.plain.specs.Damage.{sound}
 use Rattle.rows.specs.Find.{findRow}
-use Rattle.owner.specs.declared.Document.the-variants.{Missing, Live}
+use Rattle.owner.specs.declared.Document.the-variants.{Missing, Expired, Live}
 use Rattle.owner.specs.Owner.{readOf, purgedBytes, made, makeOutcome}
 
 -- the live document of a key, at the later of the kept clock and the call's
 abbrev pub liveDoc : List ℕ → ℕ → Key → Option Doc
 liveDoc b clock key = cond (live (storedOf (findRow (tableOf b .rows) key)) (clockAt (tableOf b) clock)) (findRow (tableOf b .rows) key) none
 
--- reading shows a document: its numbers, and its value as a part of the table memory
+-- reading shows a document: its numbers, the time that is left to it, and its value as a part of the table memory
 pub record Shows (b : List ℕ) (clock : ℕ) (key : Key) (d : Doc) : Type 0 where
   pub at : ℕ
   pub len : ℕ
-  pub answer : readOf b clock key ≡ Live (d .numbers) at len
+  pub answer : readOf b clock key ≡ Live (d .numbers) (secondsLeft (d .numbers .expiry) (clockAt (tableOf b) clock)) at len
   pub inside : at + len ≤ length b
   pub value : part b at len ≡ d .value
 
 abbrev pub ReadShows : Type 0
 ReadShows = (b : List ℕ) (clock : ℕ) (key : Key) (d : Doc) → Bytes b → sound b ≡ true → liveDoc b clock key ≡ some d → Shows b clock key d
 
+-- no row, or a tombstone
 abbrev pub ReadMisses : Type 0
-ReadMisses = (b : List ℕ) (clock : ℕ) (key : Key) → Bytes b → sound b ≡ true → liveDoc b clock key ≡ none → readOf b clock key ≡ Missing
+ReadMisses =
+    (b : List ℕ) (clock : ℕ) (key : Key) → Bytes b → sound b ≡ true → isDocument (storedOf (findRow (tableOf b .rows) key)) ≡ false
+    → readOf b clock key ≡ Missing
+
+-- order 5, an expired document: the seconds left are shown, and they are zero or less
+pub record ShowsPast (b : List ℕ) (clock : ℕ) (key : Key) (d : Doc) : Type 0 where
+  pub seconds : ℤ
+  pub answer : readOf b clock key ≡ Expired seconds
+  pub difference : seconds ≡ pos (d .numbers .expiry) -ℤ pos (clockAt (tableOf b) clock)
+  pub past : leZ seconds (pos 0) ≡ true
+
+abbrev pub ReadExpired : Type 0
+ReadExpired =
+    (b : List ℕ) (clock : ℕ) (key : Key) (d : Doc) → Bytes b → sound b ≡ true → findRow (tableOf b .rows) key ≡ some d → d .tomb ≡ false
+    → live (storedOf (some d)) (clockAt (tableOf b) clock) ≡ false → ShowsPast b clock key d
 
 -- "so for a key of 0 or over 250 bytes too"
 abbrev pub NoSuchKey : Type 0

@@ -6,8 +6,9 @@ use mathlib.Core.Option.{Option, none, some}
 use lib.ListN.{length}
 use lib.Dec.{leb}
 use Rattle.document.specs.Documents.{Key, Doc}
-use Rattle.document.specs.Stored.{metadataOf, live, goneDoc}
-use Rattle.document.specs.declared.Stored.the-variants.{Used}
+use Rattle.numbers.specs.declared.Left.{Left}
+use Rattle.numbers.specs.Expiry.{secondsLeft, isPast, secondsIn}
+use Rattle.document.specs.Stored.{goneDoc}
 use Rattle.rows.specs.Row.{Row}
 use Rattle.rows.specs.Table.{Table, tableOf, tableAt, clockAt, tableBytes, fresh}
 use Rattle.rows.specs.RowRules.{sizeOk}
@@ -17,7 +18,7 @@ use Rattle.plain.specs.Damage.{sound, checkedOutcome}
 use Rattle.plain.specs.Plain.{plain}
 use Rattle.plain.specs.Purge.{goneCount}
 use Rattle.owner.specs.declared.Document.{Document}
-use Rattle.owner.specs.declared.Document.the-variants.{Damaged, Missing, Live}
+use Rattle.owner.specs.declared.Document.the-variants.{Damaged, Missing, Expired, Live}
 use Rattle.owner.specs.declared.Purged.{Purged}
 use Rattle.owner.specs.declared.Purged.the-variants.{Damaged as NotPurged, Freed}
 
@@ -25,12 +26,14 @@ use Rattle.owner.specs.declared.Purged.the-variants.{Damaged as NotPurge
 abbrev pub readOutcome : Document → ℕ
 readOutcome Damaged = checkedOutcome NotSound
 readOutcome Missing = 0
-readOutcome (Live n at len) = 0
+readOutcome (Expired s) = 0
+readOutcome (Live n left at len) = 0
 
 abbrev pub readStatus : Document → ℕ
 readStatus Damaged = 0
 readStatus Missing = 0x01
-readStatus (Live n at len) = 0
+readStatus (Expired s) = 0x01
+readStatus (Live n left at len) = 0
 
 abbrev pub purgeOutcome : Purged → ℕ
 purgeOutcome NotPurged = checkedOutcome NotSound
@@ -57,10 +60,14 @@ unfoldable pub made : List ℕ → ℕ → ℕ → ℕ → ℕ → List ℕ
 unfolding makeOk
 made b n state mode vbucket = cond (makeOk (length b) n state mode) (tableBytes (fresh n state mode vbucket)) b
 
--- "the live document's four numbers and where its value stands in the table memory, or status 0x01 exactly if there is none"
+-- "the live document's four numbers and where its value stands in the table memory, or status 0x01 exactly if there is none"; order 5, of the seconds left:
+-- "The owner's read shows it, beside 0x01 for an expired document too."
+abbrev pub shownLeft : List Row → Key → Doc → Left → Document
+shownLeft rows key d left = cond (isPast left) (Expired (secondsIn left)) (Live (d .numbers) left (valuePlace rows key 16) (length (d .value)))
+
 abbrev pub shown : List Row → ℕ → Key → Option Doc → Document
 shown rows clock key none = Missing
-shown rows clock key (some d) = cond (live (Used (metadataOf d)) clock) (Live (d .numbers) (valuePlace rows key 16) (length (d .value))) Missing
+shown rows clock key (some d) = cond (d .tomb) Missing (shownLeft rows key d (secondsLeft (d .numbers .expiry) clock))
 
 -- at the later of the two clocks; it takes the memory as it is, and so raises none
 unfoldable pub readOf : List ℕ → ℕ → Key → Document

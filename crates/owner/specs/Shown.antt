@@ -1,10 +1,15 @@
 -- For the code alone: what reading shows of a lookup.
 use Prim.Native.Nat.{ℕ}
 use mathlib.Core.Bool.{cond}
-use Rattle.document.specs.Stored.{live, numbersOf}
+use Rattle.numbers.specs.declared.Left.{Left}
+use Rattle.numbers.specs.Expiry.{secondsLeft, isPast, secondsIn}
+use Rattle.document.specs.Stored.{isDocument, numbersOf}
 use Rattle.table.specs.declared.Lookup.{Lookup}
 use Rattle.owner.specs.declared.Document.{Document}
-use Rattle.owner.specs.declared.Document.the-variants.{Missing, Live}
+use Rattle.owner.specs.declared.Document.the-variants.{Missing, Expired, Live}
+
+abbrev pub leftBy : Lookup → Left → Document
+leftBy l left = cond (isPast left) (Expired (secondsIn left)) (Live (numbersOf (l .stored)) left (l .at) (l .len))
 
 unfoldable pub shownBy : ℕ → Lookup → Document
-shownBy clock l = cond (live (l .stored) clock) (Live (numbersOf (l .stored)) (l .at) (l .len)) Missing
+shownBy clock l = cond (isDocument (l .stored)) (leftBy l (secondsLeft (numbersOf (l .stored) .expiry) clock)) Missing

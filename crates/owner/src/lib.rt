@@ -8,16 +8,19 @@ ghost use Rattle.owner.specs.Shown.{shownBy};
 use document::Head;
 use engine::Checked;
 use numbers::Cas;
+use numbers::Left;
 use numbers::Numbers;
 use rows::HEADER;
 use rows::ROW;
 use table::Lookup;
 
-// Outcome 5, status 0x01, or the live document's four numbers and where its value stands: a place and a length.
+// Outcome 5; status 0x01, for an expired document with the seconds that are left; or the live document's four numbers, the time that
+// is left, and where its value stands: a place and a length.
 pub enum Document {
     Damaged,
     Missing,
-    Live(Numbers, usize, usize),
+    Expired(i64),
+    Live(Numbers, Left, usize, usize),
 }
 
 // Outcome 5, or how many rows were freed.
@@ -76,11 +79,15 @@ fn shown(l: Lookup, clock: u32) -> Document
     ensures { λ r. ⌜ r ≡ shownBy clock l ⌝ }
 {
     let stored = l.stored;
-    if !document::live(stored, clock) {
+    if !document::is_document(stored) {
         return Document::Missing;
     }
     let numbers = document::numbers_of(stored);
-    Document::Live(numbers, l.at, l.len)
+    let left = numbers::seconds_left(numbers.expiry, clock);
+    if numbers::is_past(left) {
+        return Document::Expired(numbers::seconds_in(left));
+    }
+    Document::Live(numbers, left, l.at, l.len)
 }
 
 // Reads a key's live document, at the later of the kept clock and this one. Nothing changes.

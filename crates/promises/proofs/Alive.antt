@@ -11,6 +11,7 @@ use Rattle.octets.specs.Parts.{Bytes}
 use Rattle.octets.proofs.Choices.{cases, neither}
 use Rattle.numbers.specs.declared.Numbers.{Numbers}
 use Rattle.numbers.specs.Order.{greater}
+use Rattle.numbers.specs.Expiry.{secondsLeft, isPast, expired}
 use Rattle.document.specs.Documents.{Key, Doc}
 use Rattle.document.specs.Stored.{storedOf, live, accepted}
 use Rattle.document.specs.declared.Stored.the-variants.{Nothing}
@@ -55,7 +56,10 @@ use Rattle.promises.proofs.Dead.{without-unstored, without-missing, wit
 
 -- ---- what the owner's read tells
 shown-live : (rows : List Row) (clock : ℕ) (k : Key) (d : Doc) → readLive (shown rows clock k (some d)) ≡ live (storedOf (some d)) clock
-shown-live rows clock k d = cases (live (storedOf (some d)) clock) (λ t. rw t) (λ t. rw t)
+unfolding live expired
+shown-live rows clock k d =
+    let past = isPast (secondsLeft (d .numbers .expiry) clock) in
+    cases (d .tomb) (λ t. rw t) (λ t. cases past (λ p. rw (t, p)) (λ p. rw (t, p)))
 
 shown-none : (clock : ℕ) → live (storedOf none) clock ≡ false
 unfolding live

@@ -1,6 +1,7 @@
 -- Order 2: the kept clock ends as the latest of those that raise it, and a document that was once expired to a frame or a purge stays expired.
 use Prim.Native.Nat.{ℕ, _^_, _≤_, _<_, max}
 use native.Mathlib.Omega.{arith}
+use lib.IntN.{pos, _-ℤ_}
 use mathlib.Core.Path.{_≡_, refl, sym, ap, subst, _∙_}
 use mathlib.Core.Bool.{Bool, true, false, cond}
 use mathlib.Core.List.{List, [], _∷_}
@@ -11,7 +12,7 @@ use Rattle.octets.specs.Parts.{pasted, written}
 use Rattle.octets.specs.BigEndian.{beFrom, be, bytesOf}
 use Rattle.octets.specs.Compare.{zeros, same}
 use Rattle.octets.proofs.Choices.{cases}
-use Rattle.numbers.specs.Expiry.{expired, passes, absolute}
+use Rattle.numbers.specs.Expiry.{secondsLeft, expired, passes, absolute}
 use Rattle.document.specs.Documents.{Key, Doc}
 use Rattle.document.specs.Stored.{storedOf, live, gone, goneDoc}
 use Rattle.shape.specs.Shapes.{commands, unbuilt, lookUp, among, shapeOf}
@@ -35,8 +36,8 @@ use Rattle.plain.specs.Plain.{Distinct}
 use Rattle.plain.specs.Claims.{Good}
 use Rattle.plain.proofs.TableLaws.{sound-good, good-sound}
 use Rattle.plain.proofs.PlainLaws.{plain-laws}
-use Rattle.owner.specs.declared.Document.the-variants.{Missing}
-use Rattle.owner.specs.Owner.{shown, readOf, purgeOf, purgedBytes}
+use Rattle.owner.specs.declared.Document.the-variants.{Expired as ExpiredBy}
+use Rattle.owner.specs.Owner.{readOf, readStatus, purgeOf, purgedBytes}
 use Rattle.serving.specs.Serve.{gateAll, decisionOn, frameEffect, frameTable, served, servedTable}
 use Rattle.serving.proofs.Formed.{no}
 use Rattle.promises.specs.Merge.{docAt}
@@ -46,7 +47,8 @@ use Rattle.promises.specs.Listing.{docsIn}
 use Rattle.promises.specs.Clock.{TableCall, Serve, Purge, Read, clockOf, tableCalled, memoryAfter, raises, AllGiven, clockAfter, writesKey, Unwritten}
 use Rattle.promises.specs.Clock.{KeepsLatest, ExpiredForGood, StaysExpired, ReadsAlone, SumsLater}
 use Rattle.promises.proofs.Kept.{kept-clock, kept-good}
-use Rattle.promises.proofs.Liveness.{dead, dead-at}
+use Rattle.promises.proofs.Liveness.{is-expired, dead}
+use Rattle.promises.proofs.Reading.{dead-read, read-tells}
 use Rattle.promises.proofs.Dead.{dead-is-missing, dead-is-unstored}
 use Rattle.promises.proofs.Steps.{Left, Steps, purged-doc, purged-bytes, purged-good, step}
 
@@ -149,13 +151,14 @@ module _ (t : Table) (k : Key) (d : Doc) (o : Over t k d) where
   not-live-in : (clock : ℕ) (s : List ℕ) → keyIn s ≡ k → NotLive (laterAt b clock) (docAt b (keyIn s))
   not-live-in clock s e = subst (λ (j : Key). NotLive (laterAt b clock) (docAt b j)) (sym e) (not-live clock)
 
-  shown-over : (rows : List Row) (clock : ℕ) (x : Option Doc) → live (storedOf x) clock ≡ false → shown rows clock k x ≡ Missing
-  shown-over rows clock none e = refl
-  shown-over rows clock (some y) e = rw e
+  undamaged : sound b ≡ true
+  undamaged = good-sound t (o .good) .0
 
-  unread : (clock : ℕ) → readOf b clock k ≡ Missing
-  unfolding readOf
-  unread clock = rw (good-sound t (o .good) .0) (shown-over (tableOf b .rows) (clockAt (tableOf b) clock) (docAt b k) (dead-at b clock (docAt b k) (not-live clock)))
+  unread : (clock : ℕ) → readStatus (readOf b clock k) ≡ 0x01
+  unread clock = dead-read b clock k undamaged (not-live clock)
+
+  told : (clock : ℕ) → docAt b k ≡ some d → readOf b clock k ≡ ExpiredBy (pos (d .numbers .expiry) -ℤ pos (laterAt b clock))
+  told clock at = read-tells b clock k undamaged .1 d at .past (past clock)
 
   unlisted : (clock : ℕ) (start : Key) (count : ℕ) → OneOf k (listedKeys (docsIn b) (laterAt b clock) start count) → ⊥
   unlisted clock start count m =
@@ -165,10 +168,10 @@ module _ (t : Table) (k : Key) (d : Doc) (o : Over t k d) where
       no (sym (dead (laterAt b clock) (docAt b k) (not-live clock)) ∙ ap (λ (x : Option Doc). live (storedOf x) (laterAt b clock)) there ∙ l .live)
 
   goes : (clock bound : ℕ) → d .numbers .cas .0 ≤ bound → goneDoc (clockAt t clock) bound d ≡ true
-  unfolding goneDoc gone expired
+  unfolding goneDoc gone
   goes clock bound l =
       let e = expired-later (t .head .clock) (clockAt t clock) d (omega arith) (o .expired) in
-      rw (e .document, ne-eqb (d .numbers .expiry) 0 (e .ends), le-leb (d .numbers .expiry) (clockAt t clock) (e .past), le-leb (d .numbers .cas .0) bound l)
+      rw (e .document, is-expired (d .numbers .expiry) (clockAt t clock) (e .ends) (e .past), le-leb (d .numbers .cas .0) bound l)
 
   freed-by : (p : Doc → Bool) (x : Option Doc) → p d ≡ true → Left (some d) x → afterPurge p x ≡ none
   freed-by p x e (inl f) = ap (afterPurge p) f ∙ rw e
@@ -186,6 +189,7 @@ module _ (t : Table) (k : Key) (d : Doc) (o : Over t k d) where
     left = left;
     expired = past;
     read = unread;
+    told = told;
     listed = unlisted;
     frame = λ clock s room r e n. dead-is-missing b clock s room r (not-live-in clock s e) n .0;
     joined = λ clock s room r e n. dead-is-unstored b clock s room r (not-live-in clock s e) n .0;
@@ -211,7 +215,7 @@ stays-expired b x xs k d p e w =
 
 -- ---- what is computed: reads alone, and the plain expiry sum
 computed : ReadsAlone × SumsLater
-unfolding pasted written beFrom be bytesOf zeros same expired live gone goneDoc commands unbuilt lookUp among shapeOf headerOf formOk fieldRulesOk metaSize
+unfolding pasted written beFrom be bytesOf zeros same secondsLeft expired live gone goneDoc commands unbuilt lookUp among shapeOf headerOf formOk fieldRulesOk metaSize
     judged status gateOf extrasSpan keySpan valueSpan frameStatus ruleOf testsOf firstStatus firstFailure decision doneOf commandOf bareValue requestOf
     slotOf sizeBytes shortBytes longBytes slotBytes docOf keyOf rowOf slotFor usedBytes rowBytes headOf tableOf headBytes tableBytes sizeOk headOk
     usedOk rowSound sound readOf purgedBytes gateAll decisionOn frameEffect frameTable served servedTable absolute passes

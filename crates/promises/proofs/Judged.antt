@@ -5,7 +5,7 @@ use Rattle.octets.specs.BigEndian.{beFrom, be, bytesOf}
 use Rattle.octets.specs.Compare.{zeros, same}
 use Rattle.digits.specs.Decimal.{digits, digitsIn, numberOf, numberFrom, allDigits, isDigit, valueFrom}
 use Rattle.numbers.specs.Order.{greater, above, lead, second}
-use Rattle.numbers.specs.Expiry.{expired, passes, absolute}
+use Rattle.numbers.specs.Expiry.{secondsLeft, expired, passes, absolute}
 use Rattle.document.specs.Stored.{accepted, live}
 use Rattle.shape.specs.Shapes.{commands, unbuilt, lookUp, among, shapeOf}
 use Rattle.header.specs.Header.{headerOf, frontBytes, middleBytes, backBytes, headerBytes}
@@ -28,7 +28,7 @@ use Rattle.promises.specs.Judged.{Judged}
 
 pub judged-examples : Judged
 unfolding pasted written beFrom be bytesOf zeros same digits digitsIn numberOf numberFrom allDigits isDigit valueFrom greater above lead second
-    expired passes absolute accepted live commands unbuilt lookUp among shapeOf headerOf frontBytes middleBytes backBytes headerBytes carriedNumbers
+    secondsLeft expired passes absolute accepted live commands unbuilt lookUp among shapeOf headerOf frontBytes middleBytes backBytes headerBytes carriedNumbers
     optionsOf sectionOf withMeta fieldOk fieldSize walk fieldsOk sectionOk formOk numbersOk bodyOk withMetaOk metaSize fieldRulesOk judged status
     gateOf extrasSpan keySpan valueSpan frameStatus ruleOf testsOf firstStatus firstFailure decision doneOf plainOf counterOf metaCommand commandOf
     bareValue requestOf slotOf sizeBytes shortBytes longBytes slotBytes docOf keyOf rowOf slotFor usedBytes rowBytes headOf tableOf headBytes

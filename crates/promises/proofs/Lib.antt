@@ -5,6 +5,7 @@ pub mod Demand3
 pub mod Keeps
 pub mod Asks
 pub mod Liveness
+pub mod Reading
 pub mod Dead
 pub mod Counting
 pub mod Alive

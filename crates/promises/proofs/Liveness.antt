@@ -11,6 +11,7 @@ use lib.Dec.{eqb, ltb, leb}
 use borrow.Author.Tests.{eqb-true, eq-eqb, ne-eqb, le-leb, lt-leb, le-ltb, leb-false, not-true}
 use Rattle.octets.proofs.Choices.{cases, both}
 use Rattle.numbers.specs.Expiry.{expired}
+use Rattle.numbers.proofs.LeftLaws.{expired-said}
 use Rattle.document.specs.Documents.{Doc}
 use Rattle.document.specs.Stored.{storedOf, live}
 use Rattle.header.specs.declared.Header.{Header}
@@ -32,11 +33,14 @@ use Rattle.promises.specs.Expiry.{NotLive, Live, Passes, Reaches, Answer
 use Rattle.promises.proofs.Kept.{at-later}
 
 -- ---- liveness
+pub is-expired : (expiry clock : ℕ) → (expiry ≡ 0 → ⊥) → expiry ≤ clock → expired expiry clock ≡ true
+is-expired expiry clock z l = expired-said expiry clock ∙ rw (ne-eqb expiry 0 z, le-leb expiry clock l)
+
 pub dead : (clock : ℕ) (row : Option Doc) → NotLive clock row → live (storedOf row) clock ≡ false
-unfolding live expired
+unfolding live
 dead clock none n = refl
 dead clock (some d) (inl t) = rw t
-dead clock (some d) (inr e) = rw (e .document, ne-eqb (d .numbers .expiry) 0 (e .ends), le-leb (d .numbers .expiry) clock (e .past))
+dead clock (some d) (inr e) = rw (e .document, is-expired (d .numbers .expiry) clock (e .ends) (e .past))
 
 pub and-false : (a : Bool) → (a && false) ≡ false
 and-false true = refl
@@ -51,9 +55,11 @@ or-false true = refl
 or-false false = refl
 
 alive-by : (clock : ℕ) (d : Doc) → d .tomb ≡ false → (d .numbers .expiry ≡ 0) ⊎ (clock < d .numbers .expiry) → live (storedOf (some d)) clock ≡ true
-unfolding live expired
-alive-by clock d e (inl z) = rw (e, z)
-alive-by clock d e (inr l) = rw (e, lt-leb (d .numbers .expiry) clock l, and-false (not (eqb (d .numbers .expiry) 0)))
+unfolding live
+alive-by clock d e (inl z) = let s = expired-said (d .numbers .expiry) clock in rw (e, s, z)
+alive-by clock d e (inr l) =
+    let s = expired-said (d .numbers .expiry) clock in
+    rw (e, s, lt-leb (d .numbers .expiry) clock l, and-false (not (eqb (d .numbers .expiry) 0)))
 
 pub alive : (clock : ℕ) (d : Doc) → Live clock d → live (storedOf (some d)) clock ≡ true
 alive clock d a = alive-by clock d (a .document) (a .unexpired)
@@ -67,10 +73,10 @@ alive-at b clock d a = alive (clockAt (tableOf b) clock) d (at-later (λ (c : �
 
 -- and the other way round: what the test takes for live is so by 01's words
 pub live-said : (clock : ℕ) (d : Doc) → live (storedOf (some d)) clock ≡ true → Live clock d
-unfolding live expired
+unfolding live
 live-said clock d e =
     let (t, n) = both (not (d .tomb)) _ e in
-    let past = not-true (not (eqb (d .numbers .expiry) 0) && leb (d .numbers .expiry) clock) n in
+    let past = sym (expired-said (d .numbers .expiry) clock) ∙ not-true (expired (d .numbers .expiry) clock) n in
     record {
       document = not-true (d .tomb) t;
       unexpired =

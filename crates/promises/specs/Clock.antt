@@ -7,6 +7,7 @@ use mathlib.Core.Logic.{_⊎_}
 use mathlib.Core.Option.{none, some}
 use lib.Dec.{eqb}
 use lib.ListN.{replicate}
+use lib.IntN.{pos, _-ℤ_}
 use Rattle.octets.specs.Parts.{Bytes}
 use Rattle.octets.specs.Compare.{same}
 use Rattle.numbers.specs.declared.Numbers.{Numbers}
@@ -15,8 +16,9 @@ use Rattle.listing.specs.Listing.{listedKeys}
 use Rattle.listing.specs.Claims.{OneOf}
 use Rattle.shape.specs.Shapes.{among}
 use Rattle.rows.specs.Table.{tableBytes}
-use Rattle.owner.specs.declared.Document.the-variants.{Missing, Live}
-use Rattle.owner.specs.Owner.{readOf, readOutcome, purgeOf, purgeOutcome, purgedBytes}
+use Rattle.numbers.specs.declared.Left.the-variants.{Seconds}
+use Rattle.owner.specs.declared.Document.the-variants.{Expired as ExpiredBy, Live}
+use Rattle.owner.specs.Owner.{readOf, readOutcome, readStatus, purgeOf, purgeOutcome, purgedBytes}
 use Rattle.serving.specs.Serve.{servedOutcome, servedStatus}
 use Rattle.promises.specs.Calls.{Call, servedBy, tableServed}
 use Rattle.promises.specs.Merge.{docAt}
@@ -106,8 +108,9 @@ pub record ExpiredForGood (b : List ℕ) (k : Key) (d : Doc) : Type 0 where
   -- its row is as it was, or a purge freed it
   pub left : (docAt b k ≡ some d) ⊎ (docAt b k ≡ none)
   pub expired : (clock : ℕ) → Expired (laterAt b clock) d
-  -- a read doesn't show it
-  pub read : (clock : ℕ) → readOf b clock k ≡ Missing
+  -- a read doesn't show it; order 5: where its row is left, it tells the seconds
+  pub read : (clock : ℕ) → readStatus (readOf b clock k) ≡ 0x01
+  pub told : (clock : ℕ) → docAt b k ≡ some d → readOf b clock k ≡ ExpiredBy (pos (d .numbers .expiry) -ℤ pos (laterAt b clock))
   -- a listing doesn't show its key
   pub listed : (clock : ℕ) (start : Key) (count : ℕ) → OneOf k (listedKeys (docsIn b) (laterAt b clock) start count) → ⊥
   -- a frame that needs a live document doesn't find it
@@ -143,12 +146,12 @@ abbrev noop : List ℕ
 noop = 0x80 ∷ 0x0a ∷ replicate 22 0
 
 pub record ReadsAlone : Type 0 where
-  pub missed : readOf shortLived 50 key ≡ Missing
+  pub missed : readOf shortLived 50 key ≡ ExpiredBy (pos 0)
   -- a second earlier it is there again
-  pub shown-again : readOf (memoryAfter shortLived (Read 50 key ∷ [])) 49 key ≡ Live numbers 49 1
+  pub shown-again : readOf (memoryAfter shortLived (Read 50 key ∷ [])) 49 key ≡ Live numbers (Seconds (pos 1)) 49 1
   -- but not once a frame was served at 50, be it a Noop, or a purge answered, be it one that frees no row
-  pub after-frame : readOf (memoryAfter shortLived (Serve (at 50 noop) ∷ [])) 49 key ≡ Missing
-  pub after-purge : readOf (memoryAfter shortLived (Purge 50 0 ∷ [])) 49 key ≡ Missing
+  pub after-frame : readOf (memoryAfter shortLived (Serve (at 50 noop) ∷ [])) 49 key ≡ ExpiredBy (pos 0)
+  pub after-purge : readOf (memoryAfter shortLived (Purge 50 0 ∷ [])) 49 key ≡ ExpiredBy (pos 0)
 
 -- ---- the plain expiry sum: "A Set of 10 s given clock 50 on a table that kept 110 stores 120."
 -- a table of one free row that keeps a clock

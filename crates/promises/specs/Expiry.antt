@@ -7,11 +7,14 @@ use mathlib.Core.Logic.{_⊎_}
 use mathlib.Core.Option.{Option, none, some}
 use lib.ListN.{length, take}
 use lib.Dec.{eqb}
+use lib.IntN.{pos, _-ℤ_}
 use Rattle.octets.specs.Parts.{Bytes}
 use Rattle.octets.specs.BigEndian.{num}
 use Rattle.octets.specs.Compare.{same}
 use Rattle.digits.specs.Decimal.{digits}
 use Rattle.numbers.specs.Order.{greater}
+use Rattle.numbers.specs.declared.Left.{Left}
+use Rattle.numbers.specs.declared.Left.the-variants.{Never, Seconds}
 use Rattle.document.specs.Documents.{Key, Doc}
 use Rattle.shape.specs.Shapes.{among}
 use Rattle.header.specs.Header.{headerOf}
@@ -23,6 +26,7 @@ use Rattle.rows.specs.Table.{tableOf, tableAt, clockAt, tableBytes}
 use Rattle.plain.specs.Plain.{plain}
 use Rattle.plain.specs.Damage.{sound}
 use Rattle.owner.specs.declared.Document.{Document}
+use Rattle.owner.specs.declared.Document.the-variants.{Missing, Expired as Past, Live as Shown}
 use Rattle.owner.specs.Owner.{readOf, readStatus}
 use Rattle.serving.specs.declared.Served.the-variants.{Done}
 use Rattle.serving.specs.Serve.{served, servedTable, servedReply}
@@ -254,6 +258,24 @@ LiveCounts =
     → among (opcode s) counters ≡ true → Answers b clock s room 0
     → (e : Doc) × ((docAt (servedTable b clock s room) (keyIn s) ≡ some e)
     × ((e .numbers .flags ≡ d .numbers .flags) × (e .numbers .expiry ≡ d .numbers .expiry)))
+
+-- ---- order 5: what the owner's read tells of the time left, in the expiry and the clock alone
+-- the read shows the document, with this time left to it
+abbrev pub ShowsLeft : List ℕ → ℕ → Key → Doc → Left → Type 0
+ShowsLeft b clock k d left = (at len : ℕ) × (readOf b clock k ≡ Shown (d .numbers) left at len)
+
+-- "negative once the contact is past, zero exactly at the expiry, and a separate answer for a document that never expires": of a key with a row
+pub record TellsLeft (b : List ℕ) (clock : ℕ) (k : Key) (d : Doc) : Type 0 where
+  pub never : Live (laterAt b clock) d → d .numbers .expiry ≡ 0 → ShowsLeft b clock k d Never
+  pub left : Live (laterAt b clock) d → (d .numbers .expiry ≡ 0 → ⊥) → ShowsLeft b clock k d (Seconds (pos (d .numbers .expiry) -ℤ pos (laterAt b clock)))
+  -- "beside 0x01 for an expired document too"
+  pub past : Expired (laterAt b clock) d → readOf b clock k ≡ Past (pos (d .numbers .expiry) -ℤ pos (laterAt b clock))
+  pub tombstone : d .tomb ≡ true → readOf b clock k ≡ Missing
+
+abbrev pub ReadTells : Type 0
+ReadTells =
+    (b : List ℕ) (clock : ℕ) (k : Key) → sound b ≡ true
+    → (docAt b k ≡ none → readOf b clock k ≡ Missing) × ((d : Doc) → docAt b k ≡ some d → TellsLeft b clock k d)
 
 -- ---- order 4, on a live document
 -- what follows a frame's key

@@ -6,6 +6,7 @@ use document::Head;
 use document::Metadata;
 use engine::Place;
 use numbers::Cas;
+use numbers::Left;
 use numbers::Numbers;
 use numbers::Revision;
 use owner::Document;
@@ -191,8 +192,9 @@ pub(crate) fn store(g: Given, spelled: &[u8], s: &mut [u8], space: &mut [u8]) {
     }
 }
 
-fn show_live(s: &[u8], n: Numbers, at: usize, len: usize) {
+fn show_live(s: &[u8], n: Numbers, left: Left, at: usize, len: usize) {
     show::numbers(n);
+    show::left(left);
     show::decimal(b" value=", at as u64);
     show::decimal(b"+", len as u64);
     show::text(b" ");
@@ -203,7 +205,11 @@ fn show_document(s: &[u8], d: Document) {
     match d {
         Document::Damaged => show::text(b"outcome 5"),
         Document::Missing => show::text(b"status 0x01"),
-        Document::Live(n, at, len) => show_live(s, n, at, len),
+        Document::Expired(seconds) => {
+            show::text(b"status 0x01");
+            show::seconds(seconds);
+        }
+        Document::Live(n, left, at, len) => show_live(s, n, left, at, len),
     }
 }
 

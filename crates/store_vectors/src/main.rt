@@ -12,7 +12,7 @@
 //     store TOMB FLAGS EXPIRY REVISION CAS MARK / KEY / VALUE
 //                     stores an entry at its key's place, and the mark
 //     read CLOCK / KEY
-//                     reads a document
+//                     reads a document, with the seconds that are left to it
 //     purge CLOCK BOUND
 //                     purges the table
 //     room N          the reply area is N bytes from now on

@@ -1,4 +1,5 @@
 // What is printed.
+use numbers::Left;
 use numbers::Numbers;
 
 const PRIME: u64 = 36028797018963913;
@@ -29,6 +30,21 @@ pub(crate) fn numbers(n: Numbers) {
     decimal(b" expiry=", n.expiry as u64);
     decimal(b" revision=", n.revision.0);
     decimal(b" cas=", n.cas.0);
+}
+
+pub(crate) fn seconds(n: i64) {
+    text(b" left=");
+    if n < 0 {
+        text(b"-");
+    }
+    io::print_decimal(1, numbers::magnitude(n));
+}
+
+pub(crate) fn left(l: Left) {
+    match l {
+        Left::Never => text(b" left=never"),
+        Left::Seconds(n) => seconds(n),
+    }
 }
 
 // One byte more: the sum times 257, by the largest prime under 2^55, and the byte.

@@ -44,17 +44,32 @@ pub struct Ran {
     pub needed: usize,
 }
 
-/// The owner's read: outcome 5, or status 0x01, or the live document and its value's place in the table.
+/// The owner's read: outcome 5; or status 0x01, with the seconds that an expired document has left; or the live document
+/// with those, and its value's place in the table.
 #[repr(C)]
 #[derive(Clone, Copy, Debug, Default, PartialEq, Eq)]
 pub struct Document {
     pub outcome: u8,
     pub status: u8,
+    /// One of [`lifetime`].
+    pub lifetime: u8,
     pub flags: u32,
     pub expiry: u32,
     pub revision: u64,
     pub cas: u64,
+    /// Above 0 with a live document, 0 or less beside status 0x01.
+    pub left: i64,
     pub value: Part,
+}
+
+/// What a read tells of a document's time.
+pub mod lifetime {
+    /// Nothing: there is no document.
+    pub const NONE: u8 = 0;
+    /// It never expires.
+    pub const NEVER: u8 = 1;
+    /// The seconds left.
+    pub const SECONDS: u8 = 2;
 }
 
 /// The owner's purge: outcome 5, or how many rows were freed.

@@ -1,8 +1,9 @@
 //! Sessions: calls on one table, each made on two stores and compared in every byte.
 
-use crate::answers::{Document, Fields, Purged, Ran, Request, Served, Store, Tally, Written};
+use crate::answers::{lifetime, Document, Fields, Purged, Ran, Request, Served, Store, Tally, Written};
 use crate::frame::Frame;
 use crate::generate::GET_KEYS;
+use crate::rendering::bytes::u32_at;
 use crate::rendering::table::KEPT_AT;
 use std::time::{Duration, Instant};
 
@@ -119,6 +120,7 @@ impl<'s> Pair<'s> {
         same_bytes("reply or output", &one.out, &two.out)?;
         same_bytes("table", &one.table, &two.table)?;
         changes_within_the_answer(call, &first, &self.before, one)?;
+        left_agrees(call, &first, &self.before.table)?;
         for store in self.stores {
             round_trip(store, call, &first, &one.out)?;
         }
@@ -186,6 +188,23 @@ fn changes_within_the_answer(call: &Call, answer: &Answer, before: &State, after
         Some((what, _)) => Err(format!("{what} was changed by a call that may not: {answer:?}")),
         None => Ok(()),
     }
+}
+
+/// The seconds that a read tells are above 0 exactly with a live document, and then the time from the later clock to its
+/// expiry; "a separate answer for a document that never expires", whose expiry is 0.
+fn left_agrees(call: &Call, answer: &Answer, table: &[u8]) -> Result<(), String> {
+    let (Call::Read { clock, .. }, Answer::Document(document)) = (call, answer) else {
+        return Ok(());
+    };
+    let agrees = match (document.outcome, document.status, document.lifetime, document.left) {
+        (0, 0, lifetime::NEVER, 0) => document.expiry == 0,
+        (0, 0, lifetime::SECONDS, left @ 1..) => {
+            i64::from(document.expiry) - left == i64::from(u32_at(table, KEPT_AT).max(*clock))
+        }
+        (0, 1, lifetime::SECONDS, ..=0) | (0, 1, lifetime::NONE, 0) | (5, 0, lifetime::NONE, 0) => true,
+        _ => false,
+    };
+    agrees.then_some(()).ok_or_else(|| format!("the seconds left are at odds with the rest: {document:?}"))
 }
 
 /// Whether it is a frame of a command that stores nothing.

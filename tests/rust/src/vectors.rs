@@ -2,7 +2,7 @@
 //!
 //! The lines are described at the head of `crates/store_vectors/src/main.rt`.
 
-use crate::answers::{Document, Served, Tally};
+use crate::answers::{lifetime, Document, Served, Tally};
 use crate::rendering::bytes::u16_at;
 use crate::rendering::numbers::{Cas, Numbers, Revision};
 use crate::rendering::table::{row_at, write_mark, write_row, Kind, Row, HEADER, KEY_AT, ROW};
@@ -169,11 +169,12 @@ impl Driver {
     fn read(&mut self, clock: u32, key: &[u8]) -> String {
         let table = self.table();
         match read(table, clock, key) {
-            Document { outcome: 0, status: 0, flags, expiry, revision, cas, value } => {
+            document @ Document { outcome: 0, status: 0, flags, expiry, revision, cas, value, .. } => {
                 let numbers = format!("flags={flags} expiry={expiry} revision={revision} cas={cas}");
-                format!("{numbers} value={}+{} {}", value.at, value.len, hexadecimal(value.of(table)))
+                let left = left(&document);
+                format!("{numbers}{left} value={}+{} {}", value.at, value.len, hexadecimal(value.of(table)))
             }
-            Document { outcome: 0, status, .. } => format!("status {status:#04x}"),
+            document @ Document { outcome: 0, status, .. } => format!("status {status:#04x}{}", left(&document)),
             Document { outcome, .. } => format!("outcome {outcome}"),
         }
     }
@@ -206,6 +207,15 @@ impl Driver {
 
     fn digest(&mut self) -> String {
         format!(" table={:016x}", digest(self.table()))
+    }
+}
+
+/// What a read tells of the document's time, if anything.
+fn left(document: &Document) -> String {
+    match document.lifetime {
+        lifetime::NEVER => " left=never".to_string(),
+        lifetime::SECONDS => format!(" left={}", document.left),
+        _ => String::new(),
     }
 }
 

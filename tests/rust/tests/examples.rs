@@ -3,7 +3,7 @@
 mod boat;
 
 use boat::{count, keyed, set, Boat, LAST_WRITE_WINS, REVISION, STORES};
-use contact_tests::answers::{Document, Part};
+use contact_tests::answers::{lifetime, Document, Part};
 use contact_tests::frame::Frame;
 
 /// Document 001's Set with extras 0x1e and body 0x2a.
@@ -40,7 +40,8 @@ fn m1_to_m4_last_write_wins() {
         (reply[0], reply[1], reply[23]) = (0x81, 0xa2, 0x1e);
         assert_eq!(boat.reply[..24], reply);
         let value = Part { at: 16 + 32 + 5, len: 7 };
-        let stored = Document { outcome: 0, status: 0, flags: 7, expiry: 10, revision: 20, cas: 30, value };
+        let numbers = Document { flags: 7, expiry: 10, revision: 20, cas: 30, ..Document::default() };
+        let stored = Document { lifetime: lifetime::SECONDS, left: 10, value, ..numbers };
         assert_eq!(boat.document(0, "mykey"), stored);
         assert_eq!(boat.value(9, "mykey"), "myvalue");
         assert_eq!(boat.document(10, "mykey").status, 0x01);

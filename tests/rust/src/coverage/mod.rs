@@ -4,6 +4,7 @@ mod clocks;
 mod contests;
 mod forms;
 mod joins;
+mod lifetimes;
 mod listings;
 mod searches;
 mod situations;
@@ -65,6 +66,7 @@ impl Coverage {
         self.meet(listings::of_form(call, answer).map(Situation::GetKeys));
         self.meet(clocks::of_call(before, call, answer).into_iter().map(Situation::Clock));
         self.meet(searches::of_call(before, call, answer).into_iter().map(Situation::Search));
+        self.meet(lifetimes::of_call(before, call, answer).into_iter().map(Situation::Lifetime));
         self.meet(joins::of_form(call, answer).map(Situation::Join));
         let joined = self.joined.take();
         let (Call::Serve { clock, received, .. }, Answer::Served(served)) = (call, answer) else {

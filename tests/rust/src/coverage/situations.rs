@@ -1,6 +1,6 @@
 //! Situations that a run must come to, told from the table, the frame and the answer, whatever was aimed at.
 
-use super::{clocks, joins, listings, searches};
+use super::{clocks, joins, lifetimes, listings, searches};
 use crate::answers::Served;
 use crate::generate::keys::{bucket, fingerprint};
 use crate::generate::tables::Damage;
@@ -116,6 +116,7 @@ pub enum Situation {
     Clock(clocks::Met),
     Search(searches::Met),
     Join(joins::Met),
+    Lifetime(lifetimes::Met),
 }
 
 impl Situation {
@@ -153,6 +154,7 @@ pub fn expected() -> Vec<Situation> {
     expected.extend(clocks::expected().into_iter().map(Situation::Clock));
     expected.extend(searches::expected().into_iter().map(Situation::Search));
     expected.extend(joins::expected().into_iter().map(Situation::Join));
+    expected.extend(lifetimes::expected().into_iter().map(Situation::Lifetime));
     expected
 }
 

@@ -1,9 +1,10 @@
-//! Tables and calls at random, biased to the limits of document 01 and of orders 1, 2 and 4.
+//! Tables and calls at random, biased to the limits of document 01 and of orders 1, 2, 4 and 5.
 
 mod clocks;
 pub mod faults;
 mod joins;
 pub mod keys;
+mod lifetimes;
 mod listings;
 mod parts;
 mod requests;
@@ -127,9 +128,9 @@ impl Generator {
             return self.call_on_damage(table, &sight);
         }
         match self.random.below(100) {
-            0..=69 => self.serve(&sight),
-            70..=77 => self.run(&sight),
-            78..=82 => self.read(&sight),
+            0..=67 => self.serve(&sight),
+            68..=74 => self.run(&sight),
+            75..=82 => self.read(&sight),
             83..=86 => self.purge(&sight),
             87..=91 => Call::ReadRequest { received: self.received(&sight).1 },
             92..=96 => self.write_request(&sight),
@@ -149,10 +150,6 @@ impl Generator {
             13 | 14 => Call::Sound,
             _ => self.make(table),
         }
-    }
-
-    fn read(&mut self, sight: &Sight) -> Call {
-        Call::Read { clock: self.clock_near(sight), key: self.any_key(sight) }
     }
 
     fn purge(&mut self, sight: &Sight) -> Call {

@@ -58,7 +58,7 @@ impl Generator {
         match self.random.below(10) {
             0 => u32::MAX,
             1 => self.random.u32(),
-            2 => self.random.between(1, 20) as u32,
+            2 => *self.random.pick(&[1, 1, 2, 10, 20]),
             3..=5 => clock.wrapping_add(self.random.below(3) as u32).wrapping_sub(1),
             6 => clock.saturating_sub(self.random.between(1, DAY as usize) as u32),
             _ => 0,

@@ -1,4 +1,4 @@
-//! Document 01 with orders 1, 2 and 4 of document 02 in plain Rust, written from the papers alone, to be read with them
+//! Document 01 with orders 1, 2, 4 and 5 of document 02 in plain Rust, written from the papers alone, to be read with them
 //! beside.
 //!
 //! | Section of 01 | Module |
@@ -11,6 +11,7 @@
 //! | Order 1 of 02, key listing | [`listing`], and its shape and rules in [`shape`], [`request`], [`commands`] |
 //! | Order 2 of 02, the kept clock | [`table`], and what uses and raises it in [`owner`] and [`serving`] |
 //! | Order 4 of 02, append, prepend and touch | [`shape`], [`request`], [`commands`], and their writes in [`table`] |
+//! | Order 5 of 02, seconds left | [`numbers`], which decide what is expired, and what the read shows in [`owner`] |
 
 pub mod bytes;
 pub mod commands;

@@ -1,4 +1,4 @@
-//! The four numbers of a document, their published order, and expiry.
+//! The four numbers of a document, their published order, and the seconds left to its expiry.
 
 use super::status::Status;
 use std::cmp::Reverse;
@@ -62,9 +62,33 @@ impl Numbers {
         }
     }
 
-    /// "expired when its expiry is not 0 and the clock is at or past it"
+    /// What is left of a document's time at this clock: see [`Left`]. "At the ends, expiry 4,294,967,295 at clock 0 gives
+    /// 4,294,967,295, and expiry 1 at clock 4,294,967,295 gives -4,294,967,294."
+    pub fn left(self, clock: u32) -> Left {
+        match self.expiry {
+            0 => Left::Never,
+            expiry => Left::Seconds(i64::from(expiry) - i64::from(clock)),
+        }
+    }
+
+    /// "expired when its expiry is not 0 and the clock is at or past it", which order 5 decides from the seconds left.
     pub fn expired(self, clock: u32) -> bool {
-        self.expiry != 0 && clock >= self.expiry
+        self.left(clock).is_expired()
+    }
+}
+
+/// Order 5: "the seconds left, negative once the contact is past, zero exactly at the expiry, and a separate answer for a
+/// document that never expires".
+#[derive(Clone, Copy, Debug, PartialEq, Eq)]
+pub enum Left {
+    Never,
+    Seconds(i64),
+}
+
+impl Left {
+    /// "expired means zero or less"
+    pub fn is_expired(self) -> bool {
+        matches!(self, Left::Seconds(..=0))
     }
 }
 

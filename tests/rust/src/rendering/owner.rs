@@ -1,9 +1,9 @@
 //! The owner's calls: size, make, sound, read and purge.
 
-use super::numbers::{Cas, Mode};
+use super::numbers::{Cas, Left, Mode};
 use super::status::Status;
 use super::table::{free_row, row_at, write_head, write_kept, Damaged, Row, Table, HEADER, KEY_AT, ROW, ROWS, STATES};
-use crate::answers::{Document, Part, Purged};
+use crate::answers::{lifetime, Document, Part, Purged};
 
 pub const DAMAGED: u8 = 5;
 
@@ -35,26 +35,48 @@ pub fn sound(memory: &[u8]) -> bool {
 
 /// "Reading a document takes a clock and a key: the live document's four numbers and where its value stands in the
 /// table memory, or status 0x01 exactly if there is none (so for a key of 0 or over 250 bytes too)." Order 2: it "uses
-/// the later of the two", and "document reads don't" raise the kept clock.
+/// the later of the two", and "document reads don't" raise the kept clock. Order 5: it shows the seconds left, "beside
+/// 0x01 for an expired document too".
 pub fn read(memory: &[u8], clock: u32, key: &[u8]) -> Document {
     let Ok(table) = Table::read(memory) else {
         return Document { outcome: DAMAGED, ..Document::default() };
     };
-    match table.find(key) {
-        Some((place, row)) if row.live(table.head.later(clock)) => shown(place, &row),
-        _ => Document { status: Status::NotFound as u8, ..Document::default() },
+    let Some((place, row)) = table.find(key) else {
+        return missed(None);
+    };
+    match row.left(table.head.later(clock)) {
+        Some(left) if !left.is_expired() => shown(place, &row, left),
+        expired_or_tombstone => missed(expired_or_tombstone),
     }
 }
 
-fn shown(place: usize, row: &Row) -> Document {
+fn shown(place: usize, row: &Row, left: Left) -> Document {
+    let (lifetime, left) = told(Some(left));
     Document {
         outcome: 0,
         status: 0,
+        lifetime,
         flags: row.numbers.flags,
         expiry: row.numbers.expiry,
         revision: row.numbers.revision.0,
         cas: row.numbers.cas.0,
+        left,
         value: Part { at: row_at(place) + KEY_AT + row.key.len(), len: row.value.len() },
+    }
+}
+
+/// Status 0x01, with what an expired document has left.
+fn missed(left: Option<Left>) -> Document {
+    let (lifetime, left) = told(left);
+    Document { status: Status::NotFound as u8, lifetime, left, ..Document::default() }
+}
+
+/// What is left as the answer carries it.
+fn told(left: Option<Left>) -> (u8, i64) {
+    match left {
+        None => (lifetime::NONE, 0),
+        Some(Left::Never) => (lifetime::NEVER, 0),
+        Some(Left::Seconds(seconds)) => (lifetime::SECONDS, seconds),
     }
 }
 

@@ -1,7 +1,7 @@
 //! The table in lent memory, laid out as docs/LAYOUT.md says.
 
 use super::bytes::{put, u16_at, u32_at, u64_at};
-use super::numbers::{Cas, Mode, Numbers, Revision};
+use super::numbers::{Cas, Left, Mode, Numbers, Revision};
 use std::ops::{Range, RangeInclusive};
 
 /// "The size is a fixed header plus a fixed row size times the rows."
@@ -73,9 +73,14 @@ pub struct Row<'a> {
 }
 
 impl Row<'_> {
+    /// What is left of a document's time; a tombstone has none.
+    pub fn left(&self, clock: u32) -> Option<Left> {
+        Some(self.numbers.left(clock)).filter(|_| self.kind == Kind::Document)
+    }
+
     /// "It is *live* when it is a document and not expired."
     pub fn live(&self, clock: u32) -> bool {
-        self.kind == Kind::Document && !self.numbers.expired(clock)
+        self.left(clock).is_some_and(|left| !left.is_expired())
     }
 }
 
