@@ -20,3 +20,4 @@ pub mod Candidates
 pub mod Replies
 pub mod Listing
 pub mod Touched
+pub mod Answered

@@ -14,7 +14,7 @@ use Rattle.header.specs.Header.{headerOf}
 use Rattle.serving.specs.declared.Served.the-variants.{Done}
 use Rattle.serving.specs.Serve.{served, servedTable, servedReply}
 use Rattle.promises.specs.Merge.{docAt}
-use Rattle.promises.specs.Expiry.{opcode, keyIn, touches, joins}
+use Rattle.promises.specs.Expiry.{opcode, keyIn, gets, sets, adds, replaces, deletes, counters, withMetas, touches, joins}
 
 -- "reply length, maybe 0; reply bytes past it unchanged": the area after a reply of so many bytes
 pub record Fits (out : List ℕ) (len : ℕ) (out′ : List ℕ) : Type 0 where
@@ -88,3 +88,36 @@ JoinReplies =
     → among (opcode s) joins ≡ true → served b clock s (length out) ≡ Done 0 (24 + headerOf s .body) len
     → (e : Doc) × ((docAt (servedTable b clock s (length out)) (keyIn s) ≡ some e)
     × ((len ≡ length (joinReply s (e .numbers .cas .0))) × (servedReply b clock s out ≡ joinReply s (e .numbers .cas .0) ++ drop len out)))
+
+-- ---- every write
+-- their opcodes, loud and quiet
+abbrev pub writers : List ℕ
+writers = sets ++ (adds ++ (replaces ++ (deletes ++ (counters ++ (withMetas ++ (touches ++ joins))))))
+
+-- "Its reply carries the new CAS."; "The reply carries the stored CAS.": a write with status 0 that is answered has the CAS of the document which its key has then, in the reply's eight bytes from 16 on.
+-- It rules out a Set whose reply has the CAS from before it
+abbrev pub WriteReplies : Type 0
+WriteReplies =
+    (b : List ℕ) (clock : ℕ) (s out : List ℕ) (len : ℕ) → Bytes b → Bytes s → clock < 2 ^ 32 → among (opcode s) writers ≡ true
+    → served b clock s (length out) ≡ Done 0 (24 + headerOf s .body) len → (len ≡ 0 → ⊥)
+    → (e : Doc) × ((docAt (servedTable b clock s (length out)) (keyIn s) ≡ some e) × (part (servedReply b clock s out) 16 8 ≡ bytesOf 8 (e .numbers .cas .0)))
+
+-- Get: "Reply: flags as 4 extras bytes, key for 0c/0d, value, CAS."
+abbrev pub getReply : List ℕ → Doc → List ℕ
+getReply s d =
+    let key : List ℕ = cond (among (opcode s) (0x0c ∷ 0x0d ∷ [])) (keyIn s) [] in
+    let body = bytesOf 4 (d .numbers .flags) ++ (key ++ d .value) in
+    -- magic, opcode, key length
+    ((0x81 ∷ part s 1 1 ++ bytesOf 2 (length key))
+    -- extras length, datatype, status
+    ++ ((4 ∷ 0 ∷ 0 ∷ 0 ∷ [])
+    -- body length, opaque, CAS
+    ++ (bytesOf 4 (length body) ++ (part s 12 4 ++ bytesOf 8 (d .numbers .cas .0)))))
+    ++ body
+
+-- it rules out a Get that shows another row's value or CAS, and a GetK without the key
+abbrev pub GetReplies : Type 0
+GetReplies =
+    (b : List ℕ) (clock : ℕ) (s out : List ℕ) (d : Doc) (len : ℕ) → Bytes b → Bytes s → docAt b (keyIn s) ≡ some d
+    → among (opcode s) gets ≡ true → served b clock s (length out) ≡ Done 0 (24 + headerOf s .body) len
+    → (len ≡ length (getReply s d)) × (servedReply b clock s out ≡ getReply s d ++ drop len out)
