@@ -53,7 +53,7 @@ impl Ours {
     }
 
     fn live(&self, key: &[u8]) -> Option<Live> {
-        let document = contacts::read(&self.table, now(), key).expect("the table is sound")?;
+        let document = contacts::read(&self.table, now(), key).expect("the table is sound").live()?;
         let Cas(cas) = document.cas;
         Some(Live { value: document.value.to_vec(), cas })
     }
