@@ -1,4 +1,4 @@
--- What a Get that finds its document is answered, and that every write is answered with the CAS that it stored: specs/Replies.antt.
+-- What frames with status 0 are answered: a Get, order 4's commands, and the CAS in the reply to every write. specs/Replies.antt.
 use native.Mathlib.Omega.{arith}
 use Prim.Native.Nat.{ℕ, _+_, _^_, _≤_, _<_}
 use mathlib.Core.Path.{_≡_, refl, sym, ap, _∙_}
@@ -9,13 +9,15 @@ use lib.ListN.{length, drop}
 use lib.Dec.{eqb}
 use borrow.Author.Tests.{eq-eqb}
 use Rattle.octets.specs.Parts.{Bytes, part, written}
-use Rattle.octets.specs.BigEndian.{bytesOf}
+use Rattle.octets.specs.BigEndian.{num, bytesOf}
 use Rattle.octets.proofs.Choices.{cases}
 use Rattle.octets.proofs.Numbers.{num-back}
+use Rattle.numbers.specs.Growth.{casAfter}
 use Rattle.document.specs.declared.Metadata.{Metadata}
 use Rattle.document.specs.declared.Stored.{Stored}
 use Rattle.document.specs.declared.Stored.the-variants.{Used}
-use Rattle.document.specs.Documents.{Doc, docValue}
+use Rattle.document.specs.declared.Side.{Side}
+use Rattle.document.specs.Documents.{Key, Doc, docValue}
 use Rattle.document.specs.Stored.{live, storedOf, numbersOf}
 use Rattle.shape.specs.Shapes.{among, shapeOf}
 use Rattle.header.specs.declared.Header.{Header}
@@ -26,13 +28,16 @@ use Rattle.commands.specs.declared.Context.{Context}
 use Rattle.commands.specs.declared.Instruction.{Instruction}
 use Rattle.commands.specs.Rules.{ruleOf}
 use Rattle.commands.specs.Writes.{isMutation}
-use Rattle.effects.specs.declared.Reply.the-variants.{Bare}
+use Rattle.effects.specs.declared.Reply.{Reply}
+use Rattle.effects.specs.declared.Reply.the-variants.{Bare, Found}
 use Rattle.effects.specs.declared.Done.{Done as Effects}
-use Rattle.effects.specs.Done.{doneOf, nothing, found}
+use Rattle.effects.specs.Done.{doneOf, nothing, joinDone}
 use Rattle.decision.specs.declared.Decision.{Decision}
 use Rattle.decision.specs.Decision.{decision}
-use Rattle.decision.specs.Decide.{docFrom, bytesFrom}
+use Rattle.decision.specs.Decide.{docFrom, bytesFrom, replyExtras, replyKey, replyValue}
 use Rattle.decode.specs.Decode.{plainOf, counterOf, touchOf, metaCommand, commandOf, requestOf}
+use Rattle.rows.specs.Row.{Row}
+use Rattle.rows.specs.Find.{findRow}
 use Rattle.rows.specs.Table.{tableOf, clockAt}
 use Rattle.serving.specs.declared.Served.the-variants.{Done}
 use Rattle.serving.specs.Reply.{bodyOf, replyShows, replyHeader, replyBytes}
@@ -40,14 +45,82 @@ use Rattle.serving.specs.Serve.{decisionAt, frameReply, answerBy, replyBy, serv
 use Rattle.serving.proofs.Formed.{no, by-cond}
 use Rattle.serving.proofs.Gated.{was-open}
 use Rattle.promises.specs.Merge.{docAt}
-use Rattle.promises.specs.Expiry.{opcode, extrasIn, keyIn, gets, Answers}
-use Rattle.promises.specs.Replies.{writers, WriteReplies, getReply, GetReplies}
-use Rattle.promises.proofs.Asks.{at-opcode, ask, tested}
+use Rattle.promises.specs.Expiry.{opcode, extrasIn, keyIn, gets, touches, joins, Answers}
+use Rattle.promises.specs.Replies.{goodReply, touchReply, TouchReplies, joinReply, JoinReplies, writers, WriteReplies, getReply, GetReplies}
+use Rattle.promises.proofs.Asks.{at-opcode, allPass, ask, tested, joining, showing}
 use Rattle.promises.proofs.Liveness.{and-false, listed, answered, was-whole}
 use Rattle.promises.proofs.Dead.{seen, command, instruction, command-asked}
 use Rattle.promises.proofs.Counting.{does, done-at}
 use Rattle.promises.proofs.Replies.{put, reply-fits}
 use Rattle.promises.proofs.Listing.{reached}
+
+-- ---- a frame with status 0
+-- its decision, by what its command does; one whose quiet form is silent on 0 is silent in it
+zero-decision : (c : Context) (i : Instruction) → decision c i .status ≡ 0
+    → decision c i ≡ record { status = 0; silent = i .quiet && eqb 0 (ruleOf c (i .command) .silentOn); done = doneOf c (i .command) }
+unfolding decision
+zero-decision c i zero =
+    let done = ap (λ (t : Bool). cond t (doneOf c (i .command)) (nothing (c .head) Bare (record { 0 = 0 }))) (eq-eqb _ 0 zero) in
+    λ j. record { status = zero j; silent = i .quiet && eqb (zero j) (ruleOf c (i .command) .silentOn); done = done j }
+
+-- a reply's bytes: the header has the received opcode and opaque
+good-bytes : (s : List ℕ) (done : Effects) (key shown : List ℕ) → Bytes s → 24 ≤ length s
+    → replyBytes (headerOf s .opcode) (headerOf s .opaque) (record { status = 0; silent = false; done = done }) key shown
+    ≡ goodReply s (replyExtras (done .reply)) (replyKey (done .reply) key) (replyValue (done .reply) shown) (done .cas .0)
+unfolding replyBytes replyHeader headerBytes frontBytes middleBytes backBytes headerOf bytesOf
+good-bytes s done key shown y l =
+    let r = done .reply in
+    let body = bodyOf r key shown in
+    let op = num-back s 1 1 y (omega arith) in
+    let opaque = num-back s 12 4 y (omega arith) in
+    λ i. ((0x81 ∷ op i ++ bytesOf 2 (length (replyKey r key)))
+    ++ ((bytesOf 1 (length (replyExtras r)) ++ (0 ∷ 0 ∷ 0 ∷ [])) ++ (bytesOf 4 (length body) ++ (opaque i ++ bytesOf 8 (done .cas .0)))))
+    ++ body
+
+by-silence : (s : List ℕ) (done : Effects) (key : List ℕ) (quiet : Bool) (shown : List ℕ) → Bytes s → 24 ≤ length s
+    → replyBytes (headerOf s .opcode) (headerOf s .opaque) (record { status = 0; silent = quiet; done = done }) key shown
+    ≡ cond quiet [] (goodReply s (replyExtras (done .reply)) (replyKey (done .reply) key) (replyValue (done .reply) shown) (done .cas .0))
+unfolding replyBytes
+by-silence s done key true shown y l = refl
+by-silence s done key false shown y l = good-bytes s done key shown y l
+
+module _ (b : List ℕ) (clock : ℕ) (s : List ℕ) where
+  -- what its command does
+  abbrev done : Effects
+  done = doneOf (seen b clock s) (command b clock s)
+
+  abbrev silent : Bool
+  silent = instruction b clock s .quiet && eqb 0 (ruleOf (seen b clock s) (command b clock s) .silentOn)
+
+  -- the reply to it where it isn't silent
+  abbrev said : Effects → List ℕ
+  said x =
+      goodReply s (replyExtras (x .reply)) (replyKey (x .reply) (keyIn s))
+      (replyValue (x .reply) (replyShows (x .reply) (tableOf b .rows) (clockAt (tableOf b) clock) (keyIn s))) (x .cas .0)
+
+  replied : Bytes s → 24 ≤ length s → decisionAt b clock s (headerOf s) .status ≡ 0 → frameReply b clock s (headerOf s) ≡ cond silent [] (said done)
+  unfolding frameReply
+  replied z l zero =
+      let h = headerOf s in
+      let shows : Decision → List ℕ = λ x. replyShows (x .done .reply) (tableOf b .rows) (clockAt (tableOf b) clock) (keyIn s) in
+      let whole : Decision → List ℕ = λ x. replyBytes (h .opcode) (h .opaque) x (keyIn s) (shows x) in
+      let r = reached b clock s zero in
+      ap whole (r ∙ zero-decision (seen b clock s) (instruction b clock s) (ap (λ (x : Decision). x .status) (sym r) ∙ zero))
+      ∙ by-silence s done (keyIn s) silent (shows (record { status = 0; silent = silent; done = done })) z l
+
+  -- at the start of the reply area
+  sent : (out : List ℕ) (len : ℕ) (reply : List ℕ) → Bytes b → Bytes s → served b clock s (length out) ≡ Done 0 (24 + headerOf s .body) len → cond silent [] (said done) ≡ reply
+      → (len ≡ length reply) × (servedReply b clock s out ≡ reply ++ drop len out)
+  unfolding served servedReply
+  sent out len reply y z r e =
+      let o = was-whole b clock s (length out) 0 _ len r in
+      let zero = listed b clock s (length out) ∙ answered b clock s (length out) 0 _ len r in
+      let f = replied z (was-open b s (length out) (headerOf s) o .frame .long) zero ∙ e in
+      let size : len ≡ length reply = sym (ap servedLength (ap (answerBy b clock s) (sym o) ∙ r)) ∙ ap length f in
+      let inside = reply-fits b clock s out 0 _ len y r .inside in (
+        size,
+        ap (replyBy b clock s out) o ∙ ap (written out 0) f ∙ put out reply (omega (arith, size, inside)) ∙ ap (λ (k : ℕ). reply ++ drop k out) (sym size),
+      )
 
 -- ---- a command that writes stores a row, and answers with its CAS
 record Stores (x : Effects) : Type 0 where
@@ -68,11 +141,6 @@ done-stores c (WithMeta w) e = record { row = _; stored = refl; cas = refl }
 done-stores c (GetKeys n) e = no e
 done-stores c (Join side) e = record { row = _; stored = refl; cas = refl }
 done-stores c (Touch t) e = record { row = _; stored = refl; cas = refl }
-
--- what is done where the status is 0
-decided-done : (c : Context) (i : Instruction) → decision c i .status ≡ 0 → decision c i .done ≡ doneOf c (i .command)
-unfolding decision
-decided-done c i zero = ap (λ (t : Bool). cond t (doneOf c (i .command)) (nothing (c .head) Bare (record { 0 = 0 }))) (eq-eqb _ 0 zero)
 
 -- ---- the CAS in a reply's bytes
 cas-at : (h : Header) (rest : List ℕ) → part (headerBytes h ++ rest) 16 8 ≡ bytesOf 8 (h .cas .0)
@@ -95,18 +163,16 @@ module _ (b : List ℕ) (clock : ℕ) (s : List ℕ) (e : among (opcode s) write
   unfolding shapeOf commandOf plainOf counterOf touchOf metaCommand
   mutates = ap isMutation (command-asked b clock s) ∙ tested (λ n. isMutation (ask (seen b clock s) (extrasIn s) n)) (opcode s) writers refl e
 
-  stores : Stores (doneOf (seen b clock s) (command b clock s))
+  stores : Stores (done b clock s)
   stores = done-stores (seen b clock s) (command b clock s) mutates
 
   -- what the key has then
   abbrev document : Doc
-  document =
-      let done = doneOf (seen b clock s) (command b clock s) in
-      record {
-        tomb = stores .row .tomb;
-        value = bytesFrom (done .source) (requestOf s (headerOf s) .value) (docValue (docAt b (keyIn s)));
-        numbers = stores .row .numbers;
-      }
+  document = record {
+    tomb = stores .row .tomb;
+    value = bytesFrom (done b clock s .source) (requestOf s (headerOf s) .value) (docValue (docAt b (keyIn s)));
+    numbers = stores .row .numbers;
+  }
 
   stored : does b clock s ≡ some document
   stored = ap (λ (x : Stored). docFrom x (document .value)) (stores .stored)
@@ -114,8 +180,8 @@ module _ (b : List ℕ) (clock : ℕ) (s : List ℕ) (e : among (opcode s) write
   cas-is : decisionAt b clock s (headerOf s) .status ≡ 0 → decisionAt b clock s (headerOf s) .done .cas .0 ≡ document .numbers .cas .0
   cas-is zero =
       let r = reached b clock s zero in
-      let done = decided-done (seen b clock s) (instruction b clock s) (ap (λ (x : Decision). x .status) (sym r) ∙ zero) in
-      ap (λ (x : Decision). x .done .cas .0) r ∙ ap (λ (x : Effects). x .cas .0) done ∙ stores .cas
+      let decided = r ∙ zero-decision (seen b clock s) (instruction b clock s) (ap (λ (x : Decision). x .status) (sym r) ∙ zero) in
+      ap (λ (x : Decision). x .done .cas .0) decided ∙ stores .cas
 
 pub write-replies : WriteReplies
 unfolding served servedReply frameReply
@@ -140,72 +206,95 @@ write-replies b clock s out len y z small e r sent =
     )
 
 -- ---- Get
--- a Get's decision once no test fails: it isn't silent on 0
-abbrev finds : Context → Bool → Decision
-finds c keyed = record { status = 0; silent = false; done = found c keyed }
-
-get-decision : (c : Context) (i : Instruction) (keyed : Bool) → i .command ≡ Get keyed → decision c i .status ≡ 0 → decision c i ≡ finds c keyed
-unfolding decision doneOf ruleOf
-get-decision c i keyed asks zero =
-    let on : ruleOf c (i .command) .silentOn ≡ 1 = rw asks in
-    let silent : decision c i .silent ≡ false = (λ j. i .quiet && eqb (zero j) (on j)) ∙ and-false (i .quiet) in
-    let done = decided-done c i zero ∙ ap (doneOf c) asks in
-    λ j. record { status = zero j; silent = silent j; done = done j }
-
--- its bytes: the header has the received opcode and opaque
-get-bytes : (s : List ℕ) (c : Context) (keyed : Bool) (shown : List ℕ) → Bytes s → 24 ≤ length s
-    → replyBytes (headerOf s .opcode) (headerOf s .opaque) (finds c keyed) (keyIn s) shown
-    ≡ (let key : List ℕ = cond keyed (keyIn s) [] in
-    let body = bytesOf 4 (numbersOf (c .row) .flags) ++ (key ++ shown) in
-    ((0x81 ∷ part s 1 1 ++ bytesOf 2 (length key))
-    ++ ((4 ∷ 0 ∷ 0 ∷ 0 ∷ []) ++ (bytesOf 4 (length body) ++ (part s 12 4 ++ bytesOf 8 (numbersOf (c .row) .cas .0)))))
-    ++ body)
-unfolding replyBytes replyHeader headerBytes frontBytes middleBytes backBytes headerOf bytesOf
-get-bytes s c keyed shown y l =
-    let key : List ℕ = cond keyed (keyIn s) [] in
-    let body = bytesOf 4 (numbersOf (c .row) .flags) ++ (key ++ shown) in
-    let op = num-back s 1 1 y (omega arith) in
-    let opaque = num-back s 12 4 y (omega arith) in
-    λ i. ((0x81 ∷ op i ++ bytesOf 2 (length key))
-    ++ ((4 ∷ 0 ∷ 0 ∷ 0 ∷ []) ++ (bytesOf 4 (length body) ++ (opaque i ++ bytesOf 8 (numbersOf (c .row) .cas .0)))))
-    ++ body
-
 module _ (b : List ℕ) (clock : ℕ) (s : List ℕ) (e : among (opcode s) gets ≡ true) where
   abbrev keyed : Bool
   keyed = among (opcode s) (0x0c ∷ 0x0d ∷ [])
 
-  asks : command b clock s ≡ Get keyed
+  gets-it : command b clock s ≡ Get keyed
   unfolding shapeOf commandOf among
-  asks =
+  gets-it =
       command-asked b clock s
       ∙ at-opcode (λ n. ask (seen b clock s) (extrasIn s) n ≡ Get (among n (0x0c ∷ 0x0d ∷ []))) (opcode s) gets (refl, (refl, (refl, (refl, tt)))) e
 
-  replies : (d : Doc) → docAt b (keyIn s) ≡ some d → Bytes s → 24 ≤ length s → decisionAt b clock s (headerOf s) .status ≡ 0
-      → frameReply b clock s (headerOf s) ≡ getReply s d
-  unfolding frameReply
-  replies d there z l zero =
-      let h = headerOf s in
-      let shows : Decision → List ℕ = λ x. replyShows (x .done .reply) (tableOf b .rows) (clockAt (tableOf b) clock) (keyIn s) in
-      let r = reached b clock s zero in
-      let decided = r ∙ get-decision (seen b clock s) (instruction b clock s) keyed asks (ap (λ (x : Decision). x .status) (sym r) ∙ zero) in
-      let row : Option Doc → List ℕ = λ o.
-      let key : List ℕ = cond keyed (keyIn s) [] in
-      let body = bytesOf 4 (numbersOf (storedOf o) .flags) ++ (key ++ docValue o) in
-      ((0x81 ∷ part s 1 1 ++ bytesOf 2 (length key))
-      ++ ((4 ∷ 0 ∷ 0 ∷ 0 ∷ []) ++ (bytesOf 4 (length body) ++ (part s 12 4 ++ bytesOf 8 (numbersOf (storedOf o) .cas .0)))))
-      ++ body in
-      ap (λ (x : Decision). replyBytes (h .opcode) (h .opaque) x (keyIn s) (shows x)) decided
-      ∙ get-bytes s (seen b clock s) keyed (docValue (docAt b (keyIn s))) z l
-      ∙ ap row there
+  shows-it : (d : Doc) → docAt b (keyIn s) ≡ some d → cond (silent b clock s) [] (said b clock s (done b clock s)) ≡ getReply s d
+  unfolding doneOf ruleOf
+  shows-it d there = rw (gets-it, and-false (instruction b clock s .quiet), there)
 
 pub get-replies : GetReplies
-unfolding served servedReply
-get-replies b clock s out d len y z there e r =
-    let o = was-whole b clock s (length out) 0 _ len r in
-    let zero = listed b clock s (length out) ∙ answered b clock s (length out) 0 _ len r in
-    let f = replies b clock s e d there z (was-open b s (length out) (headerOf s) o .frame .long) zero in
-    let size : len ≡ length (getReply s d) = sym (ap servedLength (ap (answerBy b clock s) (sym o) ∙ r)) ∙ ap length f in
-    let inside = reply-fits b clock s out 0 _ len y r .inside in (
-      size,
-      ap (replyBy b clock s out) o ∙ ap (written out 0) f ∙ put out (getReply s d) (omega (arith, size, inside)) ∙ ap (λ (k : ℕ). getReply s d ++ drop k out) (sym size),
+get-replies b clock s out d len y z there e r = sent b clock s out len (getReply s d) y z r (shows-it b clock s e d there)
+
+-- ---- order 4
+and-true : (a : Bool) → (a && true) ≡ a
+and-true true = refl
+and-true false = refl
+
+touches-write : allPass (λ n. among n writers) touches ≡ true
+unfolding among
+touches-write = refl
+
+joins-write : allPass (λ n. among n writers) joins ≡ true
+unfolding among
+joins-write = refl
+
+-- a reply that shows the document, or is bare
+abbrev answering : Bool → ℕ → Reply
+answering shown flags = cond shown (Found flags false) Bare
+
+by-shown : (s : List ℕ) (shown : Bool) (flags : ℕ) (key : Key) (rows : List Row) (now cas : ℕ)
+    → goodReply s (replyExtras (answering shown flags)) (replyKey (answering shown flags) key)
+    (replyValue (answering shown flags) (replyShows (answering shown flags) rows now key)) cas
+    ≡ touchReply s shown flags (docValue (findRow rows key)) cas
+by-shown s true flags key rows now cas = refl
+by-shown s false flags key rows now cas = refl
+
+module _ (b : List ℕ) (clock : ℕ) (s : List ℕ) (e : among (opcode s) touches ≡ true) where
+  asks-touch : command b clock s ≡ Touch (record { expiry = num (extrasIn s) 0 4; shown = eqb (opcode s) 0x1d })
+  asks-touch = command-asked b clock s ∙ showing (seen b clock s) (extrasIn s) (opcode s) e
+
+  touch-loud : instruction b clock s .quiet ≡ false
+  unfolding requestOf shapeOf
+  touch-loud = at-opcode (λ n. shapeOf n .quiet ≡ false) (opcode s) touches (refl, (refl, tt)) e
+
+  touch-said : (d : Doc) → docAt b (keyIn s) ≡ some d
+      → cond (silent b clock s) [] (said b clock s (done b clock s)) ≡ touchReply s (eqb (opcode s) 0x1d) (d .numbers .flags) (d .value) (done b clock s .cas .0)
+  unfolding doneOf
+  touch-said d there =
+      let shown = eqb (opcode s) 0x1d in
+      let cas = casAfter (seen b clock s .head .mark) .0 in
+      rw (touch-loud, asks-touch)
+      (by-shown s shown (numbersOf (seen b clock s .row) .flags) (keyIn s) (tableOf b .rows) (clockAt (tableOf b) clock) cas
+      ∙ (λ i. touchReply s shown (numbersOf (storedOf (there i)) .flags) (docValue (there i)) cas))
+
+pub touch-replies : TouchReplies
+touch-replies b clock s out d len y z small there e r =
+    let w = tested (λ n. among n writers) (opcode s) touches touches-write e in
+    let reply : ℕ → List ℕ = touchReply s (eqb (opcode s) 0x1d) (d .numbers .flags) (d .value) in (
+      document b clock s w,
+      (
+        done-at b clock s (length out) (document b clock s w) (stored b clock s w) y z small (len, r),
+        sent b clock s out len _ y z r (touch-said b clock s e d there ∙ ap reply (stores b clock s w .cas)),
+      ),
+    )
+
+module _ (b : List ℕ) (clock : ℕ) (s : List ℕ) (e : among (opcode s) joins ≡ true) where
+  join-quiet : instruction b clock s .quiet ≡ among (opcode s) (0x19 ∷ 0x1a ∷ [])
+  unfolding requestOf shapeOf among
+  join-quiet = at-opcode (λ n. shapeOf n .quiet ≡ among n (0x19 ∷ 0x1a ∷ [])) (opcode s) joins (refl, (refl, (refl, (refl, tt)))) e
+
+  join-said : (side : Side) → command b clock s ≡ Join side → cond (silent b clock s) [] (said b clock s (done b clock s)) ≡ joinReply s (done b clock s .cas .0)
+  unfolding doneOf ruleOf
+  join-said side asks =
+      let q = instruction b clock s .quiet in
+      rw asks (ap (λ (x : Bool). cond x [] (goodReply s [] [] [] (joinDone (seen b clock s) side .cas .0))) (and-true q ∙ join-quiet))
+
+pub join-replies : JoinReplies
+unfolding requestOf
+join-replies b clock s out d len y z small there e r =
+    let w = tested (λ n. among n writers) (opcode s) joins joins-write e in
+    let (side, asks) = joining (seen b clock s) (extrasIn s) (opcode s) e in (
+      document b clock s w,
+      (
+        done-at b clock s (length out) (document b clock s w) (stored b clock s w) y z small (len, r),
+        sent b clock s out len _ y z r (join-said b clock s e side asks ∙ ap (joinReply s) (stores b clock s w .cas)),
+      ),
     )

@@ -189,6 +189,7 @@ module _ (t : Table) (k : Key) (d : Doc) (o : Over t k d) where
     left = left;
     expired = past;
     read = unread;
+    freed = λ clock. read-tells b clock k undamaged .0;
     told = told;
     listed = unlisted;
     frame = λ clock s room r e n. dead-is-missing b clock s room r (not-live-in clock s e) n .0;

@@ -85,10 +85,10 @@ value-asked s e =
 
 module _ (b : List ℕ) (clock : ℕ) (s : List ℕ) (room : ℕ) (d : Doc) (y : Bytes b) (there : docAt b (keyIn s) ≡ some d) (a : Answers b clock s room 0)
     (side : Side) (asks : command b clock s ≡ Join side) where
-  abbrev pub joint : Doc
+  abbrev joint : Doc
   joint = over b clock s (numbersOf (seen b clock s .row) .expiry) (joined side (docValue (docAt b (keyIn s))) (requestOf s (headerOf s) .value))
 
-  pub joins-it : does b clock s ≡ some joint
+  joins-it : does b clock s ≡ some joint
   unfolding doneOf
   joins-it = rw asks
 
@@ -118,10 +118,10 @@ live-joins b clock s room d y z small there e a =
 -- ---- Touch and Get-and-touch
 module _ (b : List ℕ) (clock : ℕ) (s : List ℕ) (room : ℕ) (d : Doc) (y : Bytes b) (there : docAt b (keyIn s) ≡ some d) (a : Answers b clock s room 0)
     (shown : Bool) (asks : command b clock s ≡ Touch (record { expiry = num (extrasIn s) 0 4; shown = shown })) where
-  abbrev pub touched : Doc
+  abbrev touched : Doc
   touched = over b clock s (absolute (num (extrasIn s) 0 4) (clockAt (tableOf b) clock)) (docValue (docAt b (keyIn s)))
 
-  pub touches-it : does b clock s ≡ some touched
+  touches-it : does b clock s ≡ some touched
   unfolding doneOf
   touches-it = rw asks
 

@@ -19,5 +19,4 @@ pub mod Worked
 pub mod Candidates
 pub mod Replies
 pub mod Listing
-pub mod Touched
 pub mod Answered

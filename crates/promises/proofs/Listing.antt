@@ -71,10 +71,10 @@ abbrev listDecision : Head → ℕ → Decision
 listDecision h count = record { status = 0; silent = false; done = nothing h (Keys count) (record { 0 = 0 }) }
 
 -- any loud command's
-abbrev pub loudly : Doing → Decision
+abbrev loudly : Doing → Decision
 loudly x = record { status = 0; silent = false; done = x }
 
-pub loud-decision : (c : Context) (i : Instruction) → i .quiet ≡ false → decision c i .status ≡ 0 → decision c i ≡ loudly (doneOf c (i .command))
+loud-decision : (c : Context) (i : Instruction) → i .quiet ≡ false → decision c i .status ≡ 0 → decision c i ≡ loudly (doneOf c (i .command))
 unfolding decision
 loud-decision c i loud zero =
     let silent : decision c i .silent ≡ false = rw loud in

@@ -36,7 +36,7 @@ use Rattle.decode.specs.Decode.{plainOf, counterOf, metaCommand, touchOf, comma
 use Rattle.rows.specs.Table.{Table, tableOf, tableAt, clockAt}
 use Rattle.rows.specs.Find.{findRow}
 use Rattle.serving.specs.declared.Served.the-variants.{Done}
-use Rattle.serving.specs.Reply.{replyShows, headerWith, replyHeader, replyBytes}
+use Rattle.serving.specs.Reply.{replyShows, replyHeader, replyBytes}
 use Rattle.serving.specs.Serve.{reachesDecision, contextOn, decisionOn, frameEffect, frameReply, answerBy, replyBy, gateAll, served, servedReply}
 use Rattle.serving.proofs.Formed.{by-cond, no}
 use Rattle.serving.proofs.Gated.{was-open}
@@ -141,23 +141,13 @@ decides-alone t clock s h n =
     rw f (λ j. record { status = frameStatus s h; silent = sym spoken j; done = nothing (t .head) Bare (record { 0 = 0 }) }))
 
 -- ---- its bytes
--- a header without a key, to the received bytes
-abbrev pub echoed : List ℕ → ℕ → ℕ → ℕ → ℕ → List ℕ
-echoed s st extlen body cas =
-    (bytesOf 1 0x81 ++ (part s 1 1 ++ bytesOf 2 0)) ++ ((bytesOf 1 extlen ++ (bytesOf 1 0 ++ bytesOf 2 st)) ++ (bytesOf 4 body ++ (part s 12 4 ++ bytesOf 8 cas)))
-
-pub header-echoed : (s : List ℕ) (st extlen body cas : ℕ) → Bytes s → 24 ≤ length s
-    → headerBytes (headerWith (headerOf s .opcode) (headerOf s .opaque) st 0 extlen body (record { 0 = cas })) ≡ echoed s st extlen body cas
-unfolding headerBytes frontBytes middleBytes backBytes headerOf
-header-echoed s st extlen body cas y l =
-    let op = num-back s 1 1 y (omega arith) in
-    let opaque = num-back s 12 4 y (omega arith) in
-    λ i. (bytesOf 1 0x81 ++ (op i ++ bytesOf 2 0)) ++ ((bytesOf 1 extlen ++ (bytesOf 1 0 ++ bytesOf 2 st)) ++ (bytesOf 4 body ++ (opaque i ++ bytesOf 8 cas)))
-
 bare-header : (s : List ℕ) (st : ℕ) → Bytes s → 24 ≤ length s
     → headerBytes (bareHeader (headerOf s .opcode) (headerOf s .opaque) st) ≡ bareReply st s
-unfolding bytesOf
-bare-header s st y l = header-echoed s st 0 0 0 y l
+unfolding headerBytes frontBytes middleBytes backBytes headerOf bytesOf
+bare-header s st y l =
+    let op = num-back s 1 1 y (omega arith) in
+    let opaque = num-back s 12 4 y (omega arith) in
+    λ i. (bytesOf 1 0x81 ++ (op i ++ bytesOf 2 0)) ++ ((bytesOf 1 0 ++ (bytesOf 1 0 ++ bytesOf 2 st)) ++ (bytesOf 4 0 ++ (opaque i ++ bytesOf 8 0)))
 
 alone-reply : (s : List ℕ) (hd : Head) (st : ℕ) (key old : List ℕ) → Bytes s → 24 ≤ length s
     → replyBytes (headerOf s .opcode) (headerOf s .opaque) (statusAlone hd (headerOf s .opcode) st) key old ≡ statusReply st s

@@ -17,7 +17,7 @@ use Rattle.listing.specs.Claims.{OneOf}
 use Rattle.shape.specs.Shapes.{among}
 use Rattle.rows.specs.Table.{tableBytes}
 use Rattle.numbers.specs.declared.Left.the-variants.{Seconds}
-use Rattle.owner.specs.declared.Document.the-variants.{Expired as ExpiredBy, Live}
+use Rattle.owner.specs.declared.Document.the-variants.{Missing, Expired as ExpiredBy, Live}
 use Rattle.owner.specs.Owner.{readOf, readOutcome, readStatus, purgeOf, purgeOutcome, purgedBytes}
 use Rattle.serving.specs.Serve.{servedOutcome, servedStatus}
 use Rattle.promises.specs.Calls.{Call, servedBy, tableServed}
@@ -108,8 +108,9 @@ pub record ExpiredForGood (b : List ℕ) (k : Key) (d : Doc) : Type 0 where
   -- its row is as it was, or a purge freed it
   pub left : (docAt b k ≡ some d) ⊎ (docAt b k ≡ none)
   pub expired : (clock : ℕ) → Expired (laterAt b clock) d
-  -- a read doesn't show it; order 5: where its row is left, it tells the seconds
+  -- a read doesn't show it; order 5: where its row is left, it tells the seconds, and nothing where that was freed
   pub read : (clock : ℕ) → readStatus (readOf b clock k) ≡ 0x01
+  pub freed : (clock : ℕ) → docAt b k ≡ none → readOf b clock k ≡ Missing
   pub told : (clock : ℕ) → docAt b k ≡ some d → readOf b clock k ≡ ExpiredBy (pos (d .numbers .expiry) -ℤ pos (laterAt b clock))
   -- a listing doesn't show its key
   pub listed : (clock : ℕ) (start : Key) (count : ℕ) → OneOf k (listedKeys (docsIn b) (laterAt b clock) start count) → ⊥

@@ -53,21 +53,22 @@ StatusReply =
     (b : List ℕ) (clock : ℕ) (s out : List ℕ) (status used len : ℕ) → Bytes s → served b clock s (length out) ≡ Done status used len → (status ≡ 0 → ⊥)
     → (len ≡ length (statusReply status s)) × (servedReply b clock s out ≡ statusReply status s ++ drop len out)
 
--- ---- order 4: "Touch replies with a bare header, Get-and-touch as Get does."
--- what follows the header: of a document that is shown, "flags as 4 extras bytes, [..] value"
-abbrev pub shownBody : Bool → ℕ → List ℕ → List ℕ
-shownBody shown flags value = cond shown (bytesOf 4 flags ++ value) []
-
--- byte by byte, to the received bytes
-abbrev pub touchReply : List ℕ → Bool → ℕ → List ℕ → ℕ → List ℕ
-touchReply s shown flags value cas =
+-- ---- a reply with status 0, byte by byte, to the received bytes: extras, key, value and CAS are as its command says
+abbrev pub goodReply : List ℕ → List ℕ → List ℕ → List ℕ → ℕ → List ℕ
+goodReply s extras key value cas =
+    let body = extras ++ (key ++ value) in
     -- magic, opcode, key length
-    ((0x81 ∷ part s 1 1 ++ (0 ∷ 0 ∷ []))
+    ((0x81 ∷ part s 1 1 ++ bytesOf 2 (length key))
     -- extras length, datatype, status
-    ++ ((cond shown 4 0 ∷ 0 ∷ 0 ∷ 0 ∷ [])
+    ++ ((bytesOf 1 (length extras) ++ (0 ∷ 0 ∷ 0 ∷ []))
     -- body length, opaque, CAS
-    ++ (bytesOf 4 (length (shownBody shown flags value)) ++ (part s 12 4 ++ bytesOf 8 cas))))
-    ++ shownBody shown flags value
+    ++ (bytesOf 4 (length body) ++ (part s 12 4 ++ bytesOf 8 cas))))
+    ++ body
+
+-- ---- order 4: "Touch replies with a bare header, Get-and-touch as Get does."
+-- where a document is shown, "flags as 4 extras bytes, [..] value"
+abbrev pub touchReply : List ℕ → Bool → ℕ → List ℕ → ℕ → List ℕ
+touchReply s shown flags value cas = goodReply s (cond shown (bytesOf 4 flags) []) [] (cond shown value []) cas
 
 -- "Its reply carries the new CAS.": that of the document which the key has then, with the flags and the value that it had. It rules out a Get-and-touch whose reply has the CAS from before it, and one that shows nothing
 abbrev pub TouchReplies : Type 0
@@ -80,7 +81,7 @@ TouchReplies =
 
 -- Append and Prepend: a bare header with the CAS stored, and nothing to the quiet two: "Quiet writes send nothing on status 0."
 abbrev pub joinReply : List ℕ → ℕ → List ℕ
-joinReply s cas = cond (among (opcode s) (0x19 ∷ 0x1a ∷ [])) [] (touchReply s false 0 [] cas)
+joinReply s cas = cond (among (opcode s) (0x19 ∷ 0x1a ∷ [])) [] (goodReply s [] [] [] cas)
 
 abbrev pub JoinReplies : Type 0
 JoinReplies =
@@ -104,16 +105,7 @@ WriteReplies =
 
 -- Get: "Reply: flags as 4 extras bytes, key for 0c/0d, value, CAS."
 abbrev pub getReply : List ℕ → Doc → List ℕ
-getReply s d =
-    let key : List ℕ = cond (among (opcode s) (0x0c ∷ 0x0d ∷ [])) (keyIn s) [] in
-    let body = bytesOf 4 (d .numbers .flags) ++ (key ++ d .value) in
-    -- magic, opcode, key length
-    ((0x81 ∷ part s 1 1 ++ bytesOf 2 (length key))
-    -- extras length, datatype, status
-    ++ ((4 ∷ 0 ∷ 0 ∷ 0 ∷ [])
-    -- body length, opaque, CAS
-    ++ (bytesOf 4 (length body) ++ (part s 12 4 ++ bytesOf 8 (d .numbers .cas .0)))))
-    ++ body
+getReply s d = goodReply s (bytesOf 4 (d .numbers .flags)) (cond (among (opcode s) (0x0c ∷ 0x0d ∷ [])) (keyIn s) []) (d .value) (d .numbers .cas .0)
 
 -- it rules out a Get that shows another row's value or CAS, and a GetK without the key
 abbrev pub GetReplies : Type 0
