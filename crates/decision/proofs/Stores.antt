@@ -1,5 +1,6 @@
 -- What decisions store: nothing where they refuse, only where there is room, and only what fits the table's rules.
 use native.Mathlib.Omega.{arith}
+use native.Mathlib.Nat.{add-comm}
 use Prim.Native.Nat.{ℕ, _+_, _<_, _≤_, _^_, max}
 use mathlib.Core.Path.{_≡_, refl, sym, _∙_}
 use mathlib.Core.Bool.{Bool, true, false, cond, not, _&&_, _||_, false≢true}
@@ -106,9 +107,9 @@ short : (tomb : Bool) (frame stored : List ℕ) → length frame ≤ 1024 → le
 short true frame stored h = omega arith
 short false frame stored h = h
 
-joined-short : (side : Side) (stored frame : List ℕ) → length stored + length frame ≤ 1024 → length (joined side stored frame) ≤ 1024
-joined-short Front stored frame h = rw length-append (omega arith)
-joined-short Back stored frame h = rw length-append h
+pub joined-length : (side : Side) (stored frame : List ℕ) → length (joined side stored frame) ≡ length stored + length frame
+joined-length Front stored frame = length-append frame stored ∙ add-comm (length frame) (length stored)
+joined-length Back stored frame = length-append stored frame
 
 module _ (h : Head) (low : h .mark .0 < 2 ^ 64) (frame stored : List ℕ) where
   -- what `StoredSound` says of a decision, said of what is done
@@ -195,7 +196,7 @@ module _ (c : Context) (low : c .head .mark .0 < 2 ^ 64) (frame stored : List �
       })
   done-safe (Join side) p r j =
       safe-plain (numbersOf (c .row) .flags) (numbersOf (c .row) .expiry) (Joined side) Bare (r .flags) (r .expiry)
-      (joined-short side stored frame (ltb-false _ _ j))
+      (let most : length stored + length frame ≤ 1024 = ltb-false _ _ j in omega (arith, joined-length side stored frame))
   done-safe (Touch t) p r j = safe-plain (numbersOf (c .row) .flags) (absolute (t .expiry) (c .clock)) Kept _ (r .flags) (absolute-fits (t .expiry) (c .clock) p) m
 
 pub stores-sound : StoresSound

@@ -5,9 +5,8 @@ use mathlib.Core.Bool.{Bool, true, false, _||_}
 use mathlib.Core.List.{List, [], _++_, append-nil}
 use mathlib.Core.Option.{Option, none, some}
 use native.Mathlib.Omega.{arith}
-use native.Mathlib.Nat.{add-comm}
 use lib.Dec.{ltb}
-use lib.ListN.{length, drop, length-append}
+use lib.ListN.{length, drop}
 use lib.Seq.{take-at}
 use Rattle.octets.specs.Parts.{Bytes, part, pasted, written}
 use Rattle.octets.specs.BigEndian.{bytesOf}
@@ -25,7 +24,7 @@ use Rattle.document.specs.declared.Head.{Head}
 use Rattle.document.specs.Head.{atClock}
 use Rattle.document.specs.declared.Metadata.{Metadata}
 use Rattle.document.specs.declared.Side.{Side}
-use Rattle.document.specs.declared.Side.the-variants.{Front, Back}
+use Rattle.document.specs.declared.Side.the-variants.{Back}
 use Rattle.document.specs.declared.Stored.{Stored}
 use Rattle.document.specs.declared.Stored.the-variants.{Nothing as NoRow, Used}
 use Rattle.commands.specs.declared.Context.{Context}
@@ -37,6 +36,7 @@ use Rattle.commands.specs.Writes.{isMutation}
 use Rattle.decision.specs.Decision.{decision}
 use Rattle.decision.specs.Decide.{Effect, instructionOf, docFrom, bytesFrom}
 use Rattle.decision.proofs.Writing.{free-with-row, free-unread, stores-none}
+use Rattle.decision.proofs.Stores.{joined-length}
 use Rattle.decode.specs.Decode.{requestOf, bareValue}
 use Rattle.engine.specs.Engine.{storeRow}
 use Rattle.rows.specs.Table.{Table, tableOf, tableAt, clockAt, tableBytes, headOf, headBytes}
@@ -121,10 +121,6 @@ no-doc : (st : Stored) (value : List ℕ) → st ≡ NoRow → docFrom st value 
 no-doc st value e = rw e
 
 -- ---- a value by its source
-joined-length : (side : Side) (stored value : List ℕ) → length (joined side stored value) ≡ length stored + length value
-joined-length Front stored value = length-append value stored ∙ add-comm (length value) (length stored)
-joined-length Back stored value = length-append stored value
-
 module _ (t : Table) (g : Good t) (key : Key) (m : Metadata) (mark : ℕ) (v : List ℕ) where
   abbrev stored : List ℕ
   stored = docValue (findRow (t .rows) key)
