@@ -1,0 +1,43 @@
+-- The fields of a trace, one by one: a field that isn't broken stands in the bytes that it was read from, and after it come the fields of what is left.
+use native.Mathlib.Omega.{arith}
+use Prim.Native.Nat.{ℕ, zero, suc, _+_, _≤_}
+use mathlib.Core.Path.{_≡_, refl, sym, ap}
+use mathlib.Core.Bool.{false, cond, false≢true}
+use mathlib.Core.List.{List, [], _∷_}
+use lib.ListN.{length, drop, length-drop}
+use lib.Dec.{ltb}
+use borrow.Author.Tests.{ltb-false}
+use Rattle.octets.proofs.Choices.{cases}
+use Rattle.trace.specs.Trace.{Placed, lengthIn, fieldOf, isBroken, placedAt, placedFrom, fieldsFrom}
+
+pub field-inside : (s : List ℕ) → isBroken (fieldOf s) ≡ false → 3 + lengthIn s ≤ length s
+unfolding fieldOf
+field-inside s e =
+    cases (ltb (length s) 3)
+    (λ t. absurd (false≢true (sym (rw t at e))))
+    (λ t. cases (ltb (length s) (3 + lengthIn s)) (λ u. absurd (false≢true (sym (rw (t, u) at e)))) (λ u. ltb-false _ _ u))
+
+-- more fields than bytes are none
+enough : (n m at : ℕ) (s : List ℕ) → length s ≤ n → length s ≤ m → placedFrom n at s ≡ placedFrom m at s
+unfolding placedFrom
+enough zero zero at s a b = refl
+enough zero (suc m) at [] a b = refl
+enough zero (suc m) at (x ∷ xs) a b = absurd (omega (arith, a))
+enough (suc n) zero at [] a b = refl
+enough (suc n) zero at (x ∷ xs) a b = absurd (omega (arith, b))
+enough (suc n) (suc m) at [] a b = refl
+enough (suc n) (suc m) at (x ∷ xs) a b =
+    let s : List ℕ = x ∷ xs in
+    let k = length-drop (3 + lengthIn s) s in
+    ap (λ (ps : List Placed). placedAt at s ∷ cond (isBroken (fieldOf s)) [] ps)
+    (enough n m (at + (3 + lengthIn s)) (drop (3 + lengthIn s) s) (omega (arith, k, a)) (omega (arith, k, b)))
+
+pub fields-on : (at : ℕ) (s : List ℕ) → 1 ≤ length s
+    → fieldsFrom at s ≡ placedAt at s ∷ cond (isBroken (fieldOf s)) [] (fieldsFrom (at + (3 + lengthIn s)) (drop (3 + lengthIn s) s))
+unfolding fieldsFrom placedFrom
+fields-on at [] h = absurd (omega (arith, h))
+fields-on at (x ∷ xs) h =
+    let s : List ℕ = x ∷ xs in
+    let k = length-drop (3 + lengthIn s) s in
+    ap (λ (ps : List Placed). placedAt at s ∷ cond (isBroken (fieldOf s)) [] ps)
+    (enough (length xs) (length (drop (3 + lengthIn s) s)) (at + (3 + lengthIn s)) (drop (3 + lengthIn s) s) (omega (arith, k)) (omega arith))
