@@ -16,8 +16,8 @@ use Rattle.trace.specs.declared.Opening.the-variants.{Broken as NotOpened, Open
 use Rattle.trace.specs.declared.Field.{Field}
 use Rattle.trace.specs.declared.Field.the-variants.{Clock, Frame, Reply, Purge, Broken}
 use Rattle.trace.specs.Trace.{Placed, openingOf, fieldsOf}
-use Rattle.replay.specs.declared.Replay.{Replay}
-use Rattle.replay.specs.declared.Replay.the-variants.{Damaged, Differs, Stopped, Replayed}
+use Rattle.replay.specs.declared.Ending.{Ending}
+use Rattle.replay.specs.declared.Ending.the-variants.{Damaged, Differs, Stopped, Replayed}
 
 -- what stands between two fields: the table's memory, the clock, the frames served so far and the last one's reply
 pub record Voyage : Type 0 where
@@ -57,7 +57,7 @@ withPurge bound v = record { table = purgedBytes (v .table) (v .clock) bound; cl
 -- a field leads on, or to the end
 pub data Turn : Type 0 where
   On : Voyage → Turn
-  End : Replay → Turn
+  End : Ending → Turn
 
 -- by the field at a place and the bytes that it holds
 abbrev pub onField : ℕ → Voyage → Field → List ℕ → Turn
@@ -72,16 +72,16 @@ onField at v Broken bytes = End (Stopped at)
 
 -- ---- a voyage
 -- what a replay answers, and the memory that it leaves
-pub record Ended : Type 0 where
-  pub answer : Replay
+pub record After : Type 0 where
+  pub answer : Ending
   pub table : List ℕ
 
-abbrev pub onTurn : Voyage → Turn → (Voyage → Ended) → Ended
+abbrev pub onTurn : Voyage → Turn → (Voyage → After) → After
 onTurn v (On w) go = go w
 onTurn v (End r) go = record { answer = r; table = v .table }
 
 -- field by field, to the first that ends it; "or `replayed` and the number of frames"
-abbrev pub walked : Voyage → List Placed → Ended
+abbrev pub walked : Voyage → List Placed → After
 walked v [] = record { answer = Replayed (v .frames); table = v .table }
 walked v (p ∷ ps) = onTurn v (onField (p .at) v (p .field) (p .bytes)) (λ w. walked w ps)
 
@@ -90,16 +90,16 @@ abbrev pub begun : ℕ → ℕ → Voyage
 begun mode vbucket = record { table = tableBytes (fresh 32 1 mode vbucket); clock = 0; frames = 0; reply = [] }
 
 -- "A place is [..] 0 for a bad opening or a trace over 65,536 bytes."
-abbrev pub onOpening : List ℕ → List ℕ → Opening → Ended
+abbrev pub onOpening : List ℕ → List ℕ → Opening → After
 onOpening b trace NotOpened = record { answer = Stopped 0; table = b }
 onOpening b trace (Opened mode vbucket) = walked (begun mode vbucket) (fieldsOf trace)
 
 -- a table of 32 rows takes 42,000 bytes; lent memory of another size is refused as in making a table, unchanged
-unfoldable pub replayed : List ℕ → List ℕ → Ended
+unfoldable pub replayed : List ℕ → List ℕ → After
 replayed b trace = cond (eqb (length b) 42000) (onOpening b trace (openingOf trace)) (record { answer = Damaged; table = b })
 
 -- 01's number for the answer: 5 where the lent memory is of another size
-abbrev pub replayOutcome : Replay → ℕ
+abbrev pub replayOutcome : Ending → ℕ
 replayOutcome Damaged = 5
 replayOutcome (Differs at) = 0
 replayOutcome (Stopped at) = 0

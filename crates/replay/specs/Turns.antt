@@ -9,12 +9,12 @@ use Rattle.octets.specs.Parts.{part}
 use Rattle.trace.specs.declared.Field.{Field}
 use Rattle.trace.specs.declared.Field.the-variants.{Frame}
 use Rattle.trace.specs.Trace.{lengthIn, bytesHeld, fieldOf, fieldsOf}
-use Rattle.replay.specs.declared.Replay.{Replay}
-use Rattle.replay.specs.declared.Replay.the-variants.{Differs, Stopped}
+use Rattle.replay.specs.declared.Ending.{Ending}
+use Rattle.replay.specs.declared.Ending.the-variants.{Differs, Stopped}
 use Rattle.replay.specs.declared.Progress.{Progress}
 use Rattle.replay.specs.declared.Step.{Step}
 use Rattle.replay.specs.declared.Step.the-variants.{Goes, Ends}
-use Rattle.replay.specs.Replay.{Voyage, Turn, On, End, onField, Ended, walked}
+use Rattle.replay.specs.Replay.{Voyage, Turn, On, End, onField, After, walked}
 
 -- the last reply stands at the start of the reply area
 abbrev pub voyageOf : List ℕ → List ℕ → Progress → Voyage
@@ -49,5 +49,5 @@ abbrev pub replyStep : Bool → ℕ → Progress → Step
 replyStep sent n p = cond (eqb (p .frames) 0) (Ends (Stopped (p .at))) (cond sent (Goes (passed p n)) (Ends (Differs (p .at))))
 
 -- a trace that has opened, on a table's memory
-pub record Walks (b trace : List ℕ) (r : Replay) (b′ : List ℕ) : Type 0 where
-  pub end : _≡_ {A = Ended} (record { answer = r; table = b′ }) (walked (record { table = b; clock = 0; frames = 0; reply = [] }) (fieldsOf trace))
+pub record Walks (b trace : List ℕ) (r : Ending) (b′ : List ℕ) : Type 0 where
+  pub end : _≡_ {A = After} (record { answer = r; table = b′ }) (walked (record { table = b; clock = 0; frames = 0; reply = [] }) (fieldsOf trace))

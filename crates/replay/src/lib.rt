@@ -23,7 +23,7 @@ const ACTIVE: u8 = 1;
 
 // Outcome 5, where the lent memory is of another size. Else where the replay ended: at the place of an expected reply that was
 // not sent, at the place of what stopped it, or after so many frames.
-pub enum Replay {
+pub enum Ending {
     Damaged,
     Differs(usize),
     Stopped(usize),
@@ -40,7 +40,7 @@ struct Progress {
 
 enum Step {
     Goes(Progress),
-    Ends(Replay),
+    Ends(Ending),
 }
 
 // Past a field that holds n bytes.
@@ -70,10 +70,10 @@ fn serve_field(b: &mut [u8], frame: &[u8], out: &mut [u8], p: Progress) -> Step
     ensures { λ r. ⌜ FrameTurns (now (b .entry)) (now (frame .entry)) (now (out .entry)) p r (now (b .exit)) (now (out .exit)) ⌝ }
 {
     if !is_one(frame) {
-        return Step::Ends(Replay::Stopped(p.at));
+        return Step::Ends(Ending::Stopped(p.at));
     }
     match serve::serve_one(b, p.clock, frame, out) {
-        Served::Refused(_, _) => Step::Ends(Replay::Stopped(p.at)),
+        Served::Refused(_, _) => Step::Ends(Ending::Stopped(p.at)),
         Served::Done(_, used, len) => Step::Goes(Progress {
             at: p.at + FRONT + used,
             clock: p.clock,
@@ -89,10 +89,10 @@ fn compare_reply(expected: &[u8], sent: &[u8], p: Progress) -> Step
     ensures { λ r. ⌜ r ≡ replyStep (same (now (expected .entry)) (now (sent .entry))) (length (now (expected .entry))) p ⌝ }
 {
     if p.frames == 0 {
-        return Step::Ends(Replay::Stopped(p.at));
+        return Step::Ends(Ending::Stopped(p.at));
     }
     if !octets::same(expected, sent) {
-        return Step::Ends(Replay::Differs(p.at));
+        return Step::Ends(Ending::Differs(p.at));
     }
     Step::Goes(passed(p, expected.len()))
 }
@@ -119,12 +119,12 @@ fn turn(b: &mut [u8], s: &[u8], out: &mut [u8], p: Progress) -> Step
             owner::purge(b, p.clock, bound);
             Step::Goes(passed(p, 8))
         }
-        Field::Broken => Step::Ends(Replay::Stopped(p.at)),
+        Field::Broken => Step::Ends(Ending::Stopped(p.at)),
     }
 }
 
 // Replays the fields of a trace on a table, one after another, until one ends it.
-fn replay_fields(b: &mut [u8], trace: &[u8], out: &mut [u8]) -> Replay
+fn replay_fields(b: &mut [u8], trace: &[u8], out: &mut [u8]) -> Ending
     requires { ⌜ (length (now out) ≡ 1302) × ((3 ≤ length (now trace)) × (length (now trace) ≤ 65536)) ⌝ }
     ensures { λ r. ⌜ Walks (now (b .entry)) (now (trace .entry)) r (now (b .exit)) ⌝ }
 {
@@ -137,7 +137,7 @@ fn replay_fields(b: &mut [u8], trace: &[u8], out: &mut [u8]) -> Replay
     loop {
         let at = p.at;
         if trace.len() <= at {
-            return Replay::Replayed(p.frames);
+            return Ending::Replayed(p.frames);
         }
         match turn(b, octets::rest(trace, at), out, p) {
             Step::Goes(next) => {
@@ -151,14 +151,14 @@ fn replay_fields(b: &mut [u8], trace: &[u8], out: &mut [u8]) -> Replay
 }
 
 // Replays a trace on a fresh active table of 32 rows, made in lent memory, which is left as the voyage leaves it.
-pub fn replay(b: &mut [u8], trace: &[u8]) -> Replay
+pub fn replay(b: &mut [u8], trace: &[u8]) -> Ending
     ensures { λ r. ⌜ (r ≡ replayed (now (b .entry)) (now (trace .entry)) .answer) × (now (b .exit) ≡ replayed (now (b .entry)) (now (trace .entry)) .table) ⌝ }
 {
     if b.len() != SIZE {
-        return Replay::Damaged;
+        return Ending::Damaged;
     }
     match trace::opening_of(trace) {
-        Opening::Broken => Replay::Stopped(0),
+        Opening::Broken => Ending::Stopped(0),
         Opening::Opened(mode, vbucket) => {
             let mut out = [0u8; 1302];
             owner::make(b, ROWS, ACTIVE, mode, vbucket);
