@@ -1,7 +1,7 @@
 -- Order 6: what replaying a trace answers, and what it leaves of the memory lent for the table.
 use Prim.Native.Nat.{ℕ, _+_}
 use mathlib.Core.List.{List, [], _∷_}
-use mathlib.Core.Bool.{Bool, cond, _&&_}
+use mathlib.Core.Bool.{Bool, false, cond}
 use lib.ListN.{length}
 use lib.Dec.{eqb}
 use Rattle.octets.specs.Compare.{same}
@@ -10,7 +10,8 @@ use Rattle.request.specs.declared.Gate.the-variants.{Stop, Whole}
 use Rattle.rows.specs.Table.{tableBytes, fresh}
 use Rattle.owner.specs.Owner.{purgedBytes}
 use Rattle.serving.specs.declared.Served.{Served}
-use Rattle.serving.specs.Serve.{servedOutcome, servedUsed, gateAll, frameReply, served, servedTable}
+use Rattle.serving.specs.declared.Served.the-variants.{Refused, Done}
+use Rattle.serving.specs.Serve.{gateAll, frameReply, served, servedTable}
 use Rattle.trace.specs.declared.Opening.{Opening}
 use Rattle.trace.specs.declared.Opening.the-variants.{Broken as NotOpened, Opened}
 use Rattle.trace.specs.declared.Field.{Field}
@@ -27,9 +28,10 @@ pub record Voyage : Type 0 where
   pub reply : List ℕ
 
 -- ---- one field
--- "exactly one frame with outcome 0": all bytes of the field are consumed
+-- "exactly one frame with outcome 0": it is served, and all bytes of the field are consumed
 abbrev pub isOneFrame : Served → ℕ → Bool
-isOneFrame r len = eqb (servedOutcome r) 0 && eqb (servedUsed r) len
+isOneFrame (Refused n need) len = false
+isOneFrame (Done status used sent) len = eqb used len
 
 -- the bytes of a reply, none where the frame is silent
 abbrev pub replyFor : List ℕ → ℕ → List ℕ → Gate → List ℕ

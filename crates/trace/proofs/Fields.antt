@@ -2,13 +2,16 @@
 use native.Mathlib.Omega.{arith}
 use Prim.Native.Nat.{ℕ, zero, suc, _+_, _≤_}
 use mathlib.Core.Path.{_≡_, refl, sym, ap}
-use mathlib.Core.Bool.{false, cond, false≢true}
+use mathlib.Core.Bool.{false, cond, _&&_, false≢true}
 use mathlib.Core.List.{List, [], _∷_}
 use lib.ListN.{length, drop, length-drop}
-use lib.Dec.{ltb}
-use borrow.Author.Tests.{ltb-false}
-use Rattle.octets.proofs.Choices.{cases}
-use Rattle.trace.specs.Trace.{Placed, lengthIn, fieldOf, isBroken, placedAt, placedFrom, fieldsFrom}
+use lib.Dec.{ltb, eqb}
+use borrow.Author.Tests.{ltb-false, eqb-true}
+use Rattle.octets.specs.BigEndian.{num}
+use Rattle.octets.proofs.Choices.{cases, both}
+use Rattle.trace.specs.declared.Field.{Field}
+use Rattle.trace.specs.declared.Field.the-variants.{Clock, Frame, Reply, Purge, Broken}
+use Rattle.trace.specs.Trace.{Placed, lengthIn, fieldBy, fieldOf, isBroken, placedAt, placedFrom, fieldsFrom}
 
 pub field-inside : (s : List ℕ) → isBroken (fieldOf s) ≡ false → 3 + lengthIn s ≤ length s
 unfolding fieldOf
@@ -16,6 +19,31 @@ field-inside s e =
     cases (ltb (length s) 3)
     (λ t. absurd (false≢true (sym (rw t at e))))
     (λ t. cases (ltb (length s) (3 + lengthIn s)) (λ u. absurd (false≢true (sym (rw (t, u) at e)))) (λ u. ltb-false _ _ u))
+
+-- what a field that isn't broken says of its length
+abbrev pub Says : List ℕ → Field → Type 0
+Says s (Clock n) = lengthIn s ≡ 4
+Says s (Frame len) = lengthIn s ≡ len
+Says s (Reply len) = lengthIn s ≡ len
+Says s (Purge bound) = lengthIn s ≡ 8
+Says s Broken = Unit {0}
+
+says-by : (tag : ℕ) (s : List ℕ) → Says s (fieldBy tag (lengthIn s) s)
+unfolding fieldBy
+says-by tag s =
+    cases (eqb tag 1 && eqb (lengthIn s) 4)
+    (λ t. rw t (eqb-true _ _ (both (eqb tag 1) (eqb (lengthIn s) 4) t .1)))
+    (λ t. cases (eqb tag 2) (λ u. rw (t, u) refl)
+    (λ u. cases (eqb tag 3) (λ v. rw (t, u, v) refl)
+    (λ v. cases (eqb tag 4 && eqb (lengthIn s) 8)
+    (λ w. rw (t, u, v, w) (eqb-true _ _ (both (eqb tag 4) (eqb (lengthIn s) 8) w .1)))
+    (λ w. rw (t, u, v, w) tt))))
+
+pub field-says : (s : List ℕ) → Says s (fieldOf s)
+unfolding fieldOf
+field-says s =
+    cases (ltb (length s) 3) (λ t. rw t tt)
+    (λ t. cases (ltb (length s) (3 + lengthIn s)) (λ u. rw (t, u) tt) (λ u. rw (t, u) (says-by (num s 0 1) s)))
 
 -- more fields than bytes are none
 enough : (n m at : ℕ) (s : List ℕ) → length s ≤ n → length s ≤ m → placedFrom n at s ≡ placedFrom m at s

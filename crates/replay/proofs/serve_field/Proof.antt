@@ -1,0 +1,81 @@
+use borrow.Author.Needs.{needs}
+use native.Mathlib.Omega.{arith}
+use mathlib.Core.Path.{sym, _∙_}
+use borrow.Author.Tests.{not-true, not-false}
+use Rattle.replay.proofs.Frames.{frame-cut, frame-refused, frame-used, frame-served}
+use Rattle.replay.proofs.serve_field.Statement.{statement}
+use Rattle.replay.proofs.serve_field.Tie as tie
+
+is-one-requires : tie.Need-is-one-requires
+is-one-requires c κs = tt
+
+returns : tie.Need-returns
+returns c =
+    let a = c .before .before .before .before .before .args in
+    frame-cut (a .b .now) (a .frame .now) (a .out .now) (a .p) (c .before .before .before .before .before .pre .0) (λ k. c .before .before .before .before .slice-known .given k .fits)
+    (sym (c .before .is-one .ensures) ∙ not-true _ (c .if1 .taken))
+
+serve-one-requires : tie.Need-serve-one-requires
+serve-one-requires c κs = tt
+
+enum-told : tie.Need-enum-told
+enum-told c = search needs
+
+enum-known-used : tie.Need-enum-known-used
+enum-known-used c = search needs
+
+add-t17 : tie.Need-add-t17
+add-t17 c = search needs
+
+add-t18 : tie.Need-add-t18
+add-t18 c =
+    let a = c .before .before .before .before .before .before .before .before .before .before .before .before .before .before .before .before .args in
+    let u = frame-used (a .b .now) (a .frame .now) (a .out .now) (a .p) (c .before .before .before .before .before .before .before .before .before .before .before .before .before .before .before .before .pre .0) (λ k. c .before .before .before .before .before .before .before .before .before .before .before .before .before .before .before .slice-known .given k .fits)
+    _ _ _ (c .before .before .before .before .before .before .before .before .serve-one .ensures) _ _ _ (sym (c .before .before .before .before .before .before .before .before .before .before .before .before .is-one .ensures) ∙ not-false _ (c .before .before .before .before .before .before .before .before .before .before .before .if1 .left)) (c .before .before .used .given .1) in
+    omega (arith, u, c .before .before .before .before .before .before .before .before .before .before .before .before .before .before .before .before .pre .1 .1)
+
+add-t19 : tie.Need-add-t19
+add-t19 c = search needs
+
+same-length : tie.Need-same-length
+same-length c = search needs
+
+same-length-2 : tie.Need-same-length-2
+same-length-2 c = search needs
+
+returns-2 : tie.Need-returns-2
+returns-2 c =
+    let a = c .before .before .before .before .before .before .before .before .before .before .before .before .before .before .args in
+    frame-refused (a .b .now) (a .frame .now) (a .out .now) (a .p) (c .before .before .before .before .before .before .before .before .before .before .before .before .before .before .pre .0) (λ k. c .before .before .before .before .before .before .before .before .before .before .before .before .before .slice-known .given k .fits)
+    _ _ _ (c .before .before .before .before .before .before .serve-one .ensures) _ _ (c .enum-told .given .1)
+
+same-length-3 : tie.Need-same-length-3
+same-length-3 c = search needs
+
+same-length-4 : tie.Need-same-length-4
+same-length-4 c = search needs
+
+returns-3 : tie.Need-returns-3
+returns-3 c =
+    let a = c .before .before .before .before .before .before .before .before .before .before .before .before .before .before .before .before .before .args in
+    frame-served (a .b .now) (a .frame .now) (a .out .now) (a .p) (c .before .before .before .before .before .before .before .before .before .before .before .before .before .before .before .before .before .pre .0) (λ k. c .before .before .before .before .before .before .before .before .before .before .before .before .before .before .before .before .slice-known .given k .fits)
+    _ _ _ (c .before .before .before .before .before .before .before .before .before .serve-one .ensures) _ _ _ (sym (c .before .before .before .before .before .before .before .before .before .before .before .before .before .is-one .ensures) ∙ not-false _ (c .before .before .before .before .before .before .before .before .before .before .before .before .if1 .left)) (c .before .before .before .used .given .1)
+
+pub serve-field-spec : {M : Type 1} → statement M
+serve-field-spec =
+    tie.close
+    (tie.spec
+    is-one-requires
+    returns
+    serve-one-requires
+    enum-told
+    enum-known-used
+    add-t17
+    add-t18
+    add-t19
+    same-length
+    same-length-2
+    returns-2
+    same-length-3
+    same-length-4
+    returns-3)
