@@ -14,6 +14,7 @@ pub mod session;
 pub mod settings;
 pub mod shrink;
 pub mod sweep;
+pub mod trace;
 pub mod vectors;
 
 pub use library::Library;

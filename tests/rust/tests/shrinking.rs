@@ -1,6 +1,6 @@
 //! A fault injected into the rendering is found, and its session is made small.
 
-use contact_tests::answers::{Document, Fields, Purged, Ran, Request, Served, Store, Tally, Written};
+use contact_tests::answers::{Document, Fields, Purged, Ran, Replayed, Request, Served, Store, Tally, Written};
 use contact_tests::comparison::Comparison;
 use contact_tests::rendering::Rendering;
 use contact_tests::replay::{from_text, to_text};
@@ -50,6 +50,10 @@ impl Store for Faulty {
 
     fn write_request(&self, fields: &Fields, out: &mut [u8]) -> Written {
         Rendering.write_request(fields, out)
+    }
+
+    fn replay(&self, table: &mut [u8], trace: &[u8]) -> Replayed {
+        Rendering.replay(table, trace)
     }
 }
 
