@@ -15,6 +15,7 @@ pub mod settings;
 pub mod shrink;
 pub mod sweep;
 pub mod trace;
+pub mod trace_vectors;
 pub mod vectors;
 
 pub use library::Library;
