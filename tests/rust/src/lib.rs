@@ -17,5 +17,6 @@ pub mod sweep;
 pub mod trace;
 pub mod trace_vectors;
 pub mod vectors;
+pub mod voyages;
 
 pub use library::Library;
