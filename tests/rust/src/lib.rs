@@ -3,6 +3,7 @@
 pub mod answers;
 pub mod comparison;
 pub mod coverage;
+pub mod failures;
 pub mod frame;
 pub mod generate;
 mod library;

@@ -4,6 +4,7 @@ mod boat;
 
 use boat::{count, keyed, set, Boat, LAST_WRITE_WINS, REVISION, STORES};
 use contact_tests::answers::{end, Replayed};
+use contact_tests::failures::three_failures;
 use contact_tests::frame::{meta_extras, Frame};
 use contact_tests::rendering::voyage::line;
 use contact_tests::trace::{Field, Trace};
@@ -482,4 +483,30 @@ fn a_trace_reads_back_as_what_it_was_built_of() {
     assert_eq!(trace.place(2), 3 + 7 + 27);
     let cut = Trace { rest: vec![1, 0, 4, 0], ..trace };
     assert_eq!(Trace::read(&cut.bytes()), cut);
+}
+
+const FAILURES: &[u8] = include_bytes!("../../../examples/voyages/three-failures.trace");
+const FAILURES_TOLD: &str = include_str!("../../../examples/voyages/README.md");
+
+#[test]
+fn the_three_failures_are_replayed() {
+    assert_eq!(answer(FAILURES), "replayed 27");
+    assert!(FAILURES_TOLD.contains("    replayed 27\n"));
+    assert!(FAILURES.len() < 4_096);
+    // the file and the page are as the voyage is told
+    let told = three_failures();
+    assert!(told.trace.bytes() == FAILURES, "the file is another one");
+    let missing: Vec<String> = told.lines().into_iter().filter(|line| !FAILURES_TOLD.contains(line)).collect();
+    assert_eq!(missing, [""; 0]);
+    assert_eq!(FAILURES_TOLD.lines().filter(|line| line.ends_with(" |")).count(), 3 + told.notes.len());
+}
+
+#[test]
+fn a_reply_of_the_three_failures_that_is_changed_differs() {
+    let told = three_failures();
+    for number in (0..told.trace.fields.len()).filter(|&number| told.trace.fields[number].tag == 3) {
+        let mut changed = told.trace.clone();
+        changed.fields[number].value[7] ^= 1;
+        assert_eq!(answer(&changed.bytes()), format!("differs {}", told.trace.place(number)));
+    }
 }
