@@ -43,7 +43,7 @@ impl Figures {
     pub fn on_replays(&self) -> String {
         let shares = self.replays.iter().map(|(_, times)| times.over_one_by_one());
         let most = shares.fold(0.0, f64::max);
-        format!("A frame takes at most {most:.2} of its own call's time in a replay.")
+        format!("In a replay a frame takes at most {most:.2} of the time of its own call.")
     }
 
     pub fn markdown(&self) -> String {
