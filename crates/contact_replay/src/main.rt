@@ -13,7 +13,7 @@
 ghost use mathlib.Core.Path.{_≡_};
 ghost use Prim.Native.Nat.{_+_, _≤_};
 ghost use lib.ListN.{length, take};
-ghost use Rattle.replay.specs.Replay.{replayed};
+ghost use Rattle.replay.specs.Replay.{replayed, replayOutcome};
 ghost use Rattle.contact_replay.specs.Line.{said, lineOf};
 use libc::STDIN_FILENO;
 use libc::STDOUT_FILENO;
@@ -60,10 +60,11 @@ fn put_line(out: &mut [u8], r: Ending) -> usize
     }
 }
 
-// Replays a trace in the table's memory, and puts the line for it at the start of out.
+// Replays a trace in the table's memory, and puts the line for it at the start of out. The memory is of the right size, so there is one.
 fn answer(table: &mut [u8], trace: &[u8], out: &mut [u8]) -> usize
-    requires { ⌜ 30 ≤ length (now out) ⌝ }
-    ensures { λ n. ⌜ take n (now (out .exit)) ≡ lineOf (replayed (now (table .entry)) (now (trace .entry)) .answer) ⌝ }
+    requires { ⌜ (length (now table) ≡ 42000) × (30 ≤ length (now out)) ⌝ }
+    ensures { λ n. ⌜ (take n (now (out .exit)) ≡ lineOf (replayed (now (table .entry)) (now (trace .entry)) .answer))
+        × (replayOutcome (replayed (now (table .entry)) (now (trace .entry)) .answer) ≡ 0) ⌝ }
 {
     put_line(out, replay::replay(table, trace))
 }

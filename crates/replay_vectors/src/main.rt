@@ -4,7 +4,7 @@
 //     TRACE       how its replay ends: `differs` and a place, `stopped` and a place, or `replayed` and a number of frames
 //
 // TRACE is segments, a + between two: hexadecimal digits, with *N behind them where their bytes stand N times, N of 1 to 5 decimal
-// digits. Any other line is answered by `what?`, and so is one that spells 70,000 bytes or more.
+// digits. Any other line is answered by `what?`, and so is one that spells 70,000 bytes or more. The input is read up to 262,144 bytes.
 //
 // Each trace is replayed in memory filled with ee. Where it stops at 0, ` CHANGED` follows unless the memory is as it was. If memory
 // one byte short or one too long isn't refused unchanged, `WRONG SIZE TAKEN` is the first line.

@@ -1,8 +1,5 @@
 // The trace that a line spells. Where the bytes end is answered as a place in the space for them: the space's end where they fill
 // it, or where the text can't be read, and then none that comes after moves it.
-ghost use mathlib.Core.Path.{_≡_};
-ghost use Prim.Native.Nat.{_≤_};
-ghost use lib.ListN.{length};
 use digits::Number;
 
 // What stands before the first such byte, or all of the text where there is none.
