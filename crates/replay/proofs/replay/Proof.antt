@@ -25,19 +25,29 @@ slice-aggregate-replay-fields c = search needs
 
 replay-fields-requires : tie.Need-replay-fields-requires
 replay-fields-requires c κs =
-    let o = opens (c .before .before .before .before .before .before .before .before .before .before .before .before .before .args .trace .now) _ _ (sym (c .before .before .before .before .before .before .before .before .before .opening-of .ensures) ∙ c .before .before .before .before .before .before .before .mode .given .1) in
+    let c7 = c .before .before .before .before .before .before .before in
+    let c9 = c7 .before .before in
+    let c13 = c9 .before .before .before .before in
+    let o = opens (c13 .args .trace .now) _ _ (sym (c9 .opening-of .ensures) ∙ c7 .mode .given .1) in
     (refl, (o .least, o .most))
 
 returns-2 : tie.Need-returns-2
-returns-2 c = unopened (c .before .before .before .before .before .before .args .b .now) (c .before .before .before .before .before .before .args .trace .now) (c .before .before .before .if1 .left) (sym (c .before .before .opening-of .ensures) ∙ c .enum-told .given .1)
+returns-2 c =
+    let c6 = c .before .before .before .before .before .before in
+    unopened (c6 .args .b .now) (c6 .args .trace .now) (c .before .before .before .if1 .left) (sym (c .before .before .opening-of .ensures) ∙ c .enum-told .given .1)
 
 same-length : tie.Need-same-length
 same-length c = search needs
 
 returns-3 : tie.Need-returns-3
 returns-3 c =
-    opened (c .before .before .before .before .before .before .before .before .before .before .before .before .before .before .before .before .before .args .b .now) (c .before .before .before .before .before .before .before .before .before .before .before .before .before .before .before .before .before .args .trace .now) (c .before .before .before .before .before .before .before .before .before .before .before .before .before .before .if1 .left) _ _ _ _ _ (sym (c .before .before .before .before .before .before .before .before .before .before .before .before .before .opening-of .ensures) ∙ c .before .before .before .before .before .before .before .before .before .before .before .mode .given .1)
-    (c .before .before .before .before .before .before .before .before .make .ensures .1) (c .before .before .before .replay-fields .ensures)
+    let c8 = c .before .before .before .before .before .before .before .before in
+    let c11 = c8 .before .before .before in
+    let c13 = c11 .before .before in
+    let c14 = c13 .before in
+    let c17 = c14 .before .before .before in
+    opened (c17 .args .b .now) (c17 .args .trace .now) (c14 .if1 .left) _ _ _ _ _ (sym (c13 .opening-of .ensures) ∙ c11 .mode .given .1)
+    (c8 .make .ensures .1) (c .before .before .before .replay-fields .ensures)
 
 pub replay-spec : {M : Type 1} → statement M
 replay-spec =

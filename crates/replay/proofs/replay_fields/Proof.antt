@@ -38,31 +38,45 @@ rest-requires c κs = tt
 
 turn-requires : tie.Need-turn-requires Inv-loop μ-loop
 turn-requires c κs =
-    let l = c .before .before .before .before .loop in
-    let n = ap length (c .before .rest .ensures) ∙ length-drop (l .p .at) (c .before .before .before .before .before .before .before .before .args .trace .now) in
-    (l .inv .1 .0 ∙ c .before .before .before .before .before .before .before .before .pre .0, (l .inv .1 .1 .1 .0, omega (arith, n, c .before .before .before .before .before .before .before .before .pre .1 .1, l .inv .1 .1 .0)))
+    let c4 = c .before .before .before .before in
+    let c8 = c4 .before .before .before .before in
+    let l = c4 .loop in
+    let n = ap length (c .before .rest .ensures) ∙ length-drop (l .p .at) (c8 .args .trace .now) in
+    (l .inv .1 .0 ∙ c8 .pre .0, (l .inv .1 .1 .1 .0, omega (arith, n, c8 .pre .1 .1, l .inv .1 .1 .0)))
 
 enum-known-next : tie.Need-enum-known-next Inv-loop μ-loop
 enum-known-next c = search needs
 
 loop-less : tie.Need-loop-less Inv-loop μ-loop
 loop-less c =
-    let l = c .before .before .before .before .before .before .before .before .before .before .before .before .loop in
-    let a = c .before .before .before .before .before .before .before .before .before .before .before .before .before .before .before .before .args in
-    let t = turned (a .trace .now) (l .b) (l .out) (l .p) _ _ _ _ _ (c .before .before .before .before .before .before .before .before .before .rest .ensures) (c .before .next .given .1) (c .before .before .before .before .before .before .before .turn .ensures) in
-    let w = turn-inside (a .trace .now) (l .b) (l .out) (l .p) (c .before .before .before .before .before .before .before .before .before .before .before .if1 .left) _ _ _ t in
+    let c7 = c .before .before .before .before .before .before .before in
+    let c9 = c7 .before .before in
+    let c11 = c9 .before .before in
+    let c12 = c11 .before in
+    let c16 = c12 .before .before .before .before in
+    let l = c12 .loop in
+    let a = c16 .args in
+    let t = turned (a .trace .now) (l .b) (l .out) (l .p) _ _ _ _ _ (c9 .rest .ensures) (c .before .next .given .1) (c7 .turn .ensures) in
+    let w = turn-inside (a .trace .now) (l .b) (l .out) (l .p) (c11 .if1 .left) _ _ _ t in
     omega (arith, w .0, w .1)
 
 loop-again : tie.Need-loop-again Inv-loop μ-loop
 loop-again c =
-    let l = c .before .before .before .before .before .before .before .before .before .before .before .before .loop in
-    let a = c .before .before .before .before .before .before .before .before .before .before .before .before .before .before .before .before .args in
-    let t = turned (a .trace .now) (l .b) (l .out) (l .p) _ _ _ _ _ (c .before .before .before .before .before .before .before .before .before .rest .ensures) (c .before .next .given .1) (c .before .before .before .before .before .before .before .turn .ensures) in
-    let w = turn-inside (a .trace .now) (l .b) (l .out) (l .p) (c .before .before .before .before .before .before .before .before .before .before .before .if1 .left) _ _ _ t in
-    let on = walk-on (a .trace .now) (l .b) (l .out) (l .p) (c .before .before .before .before .before .before .before .before .before .before .before .if1 .left) _ _ _ t in (
-      c .before .before .before .before .before .before .b .given ∙ l .inv .0,
+    let c4 = c .before .before .before .before in
+    let c6 = c4 .before .before in
+    let c7 = c6 .before in
+    let c9 = c7 .before .before in
+    let c11 = c9 .before .before in
+    let c12 = c11 .before in
+    let c16 = c12 .before .before .before .before in
+    let l = c12 .loop in
+    let a = c16 .args in
+    let t = turned (a .trace .now) (l .b) (l .out) (l .p) _ _ _ _ _ (c9 .rest .ensures) (c .before .next .given .1) (c7 .turn .ensures) in
+    let w = turn-inside (a .trace .now) (l .b) (l .out) (l .p) (c11 .if1 .left) _ _ _ t in
+    let on = walk-on (a .trace .now) (l .b) (l .out) (l .p) (c11 .if1 .left) _ _ _ t in (
+      c6 .b .given ∙ l .inv .0,
       (
-        c .before .before .before .before .out .given ∙ l .inv .1 .0,
+        c4 .out .given ∙ l .inv .1 .0,
         (w .1, (omega (arith, t .leads .0, t .leads .1, l .inv .1 .1 .1 .0), sym on ∙ l .inv .1 .1 .1 .1)),
       ),
     )
@@ -78,10 +92,15 @@ same-length-4 c = c .before .before .before .before .out .given ∙ c .before .b
 
 returns-2 : tie.Need-returns-2 Inv-loop μ-loop
 returns-2 c =
-    let l = c .before .before .before .before .before .before .before .before .before .before .before .before .loop in
-    let a = c .before .before .before .before .before .before .before .before .before .before .before .before .before .before .before .before .args in
-    let t = turned (a .trace .now) (l .b) (l .out) (l .p) _ _ _ _ _ (c .before .before .before .before .before .before .before .before .before .rest .ensures) (c .before .end .given .1) (c .before .before .before .before .before .before .before .turn .ensures) in
-    record { end = walk-ends (a .trace .now) (l .b) (l .out) (l .p) (c .before .before .before .before .before .before .before .before .before .before .before .if1 .left) _ _ _ t ∙ l .inv .1 .1 .1 .1 }
+    let c7 = c .before .before .before .before .before .before .before in
+    let c9 = c7 .before .before in
+    let c11 = c9 .before .before in
+    let c12 = c11 .before in
+    let c16 = c12 .before .before .before .before in
+    let l = c12 .loop in
+    let a = c16 .args in
+    let t = turned (a .trace .now) (l .b) (l .out) (l .p) _ _ _ _ _ (c9 .rest .ensures) (c .before .end .given .1) (c7 .turn .ensures) in
+    record { end = walk-ends (a .trace .now) (l .b) (l .out) (l .p) (c11 .if1 .left) _ _ _ t ∙ l .inv .1 .1 .1 .1 }
 
 pub replay-fields-spec : {M : Type 1} → statement M
 replay-fields-spec =

@@ -29,10 +29,15 @@ add-t17 c = search needs
 
 add-t18 : tie.Need-add-t18
 add-t18 c =
-    let a = c .before .before .before .before .before .before .before .before .before .before .before .before .before .before .before .before .args in
-    let u = frame-used (a .b .now) (a .frame .now) (a .out .now) (a .p) (c .before .before .before .before .before .before .before .before .before .before .before .before .before .before .before .before .pre .0) (λ k. c .before .before .before .before .before .before .before .before .before .before .before .before .before .before .before .slice-known .given k .fits)
-    _ _ _ (c .before .before .before .before .before .before .before .before .serve-one .ensures) _ _ _ (sym (c .before .before .before .before .before .before .before .before .before .before .before .before .is-one .ensures) ∙ not-false _ (c .before .before .before .before .before .before .before .before .before .before .before .if1 .left)) (c .before .before .used .given .1) in
-    omega (arith, u, c .before .before .before .before .before .before .before .before .before .before .before .before .before .before .before .before .pre .1 .1)
+    let c8 = c .before .before .before .before .before .before .before .before in
+    let c11 = c8 .before .before .before in
+    let c12 = c11 .before in
+    let c15 = c12 .before .before .before in
+    let c16 = c15 .before in
+    let a = c16 .args in
+    let u = frame-used (a .b .now) (a .frame .now) (a .out .now) (a .p) (c16 .pre .0) (λ k. c15 .slice-known .given k .fits)
+    _ _ _ (c8 .serve-one .ensures) _ _ _ (sym (c12 .is-one .ensures) ∙ not-false _ (c11 .if1 .left)) (c .before .before .used .given .1) in
+    omega (arith, u, c16 .pre .1 .1)
 
 add-t19 : tie.Need-add-t19
 add-t19 c = search needs
@@ -45,9 +50,12 @@ same-length-2 c = search needs
 
 returns-2 : tie.Need-returns-2
 returns-2 c =
-    let a = c .before .before .before .before .before .before .before .before .before .before .before .before .before .before .args in
-    frame-refused (a .b .now) (a .frame .now) (a .out .now) (a .p) (c .before .before .before .before .before .before .before .before .before .before .before .before .before .before .pre .0) (λ k. c .before .before .before .before .before .before .before .before .before .before .before .before .before .slice-known .given k .fits)
-    _ _ _ (c .before .before .before .before .before .before .serve-one .ensures) _ _ (c .enum-told .given .1)
+    let c6 = c .before .before .before .before .before .before in
+    let c13 = c6 .before .before .before .before .before .before .before in
+    let c14 = c13 .before in
+    let a = c14 .args in
+    frame-refused (a .b .now) (a .frame .now) (a .out .now) (a .p) (c14 .pre .0) (λ k. c13 .slice-known .given k .fits)
+    _ _ _ (c6 .serve-one .ensures) _ _ (c .enum-told .given .1)
 
 same-length-3 : tie.Need-same-length-3
 same-length-3 c = search needs
@@ -57,9 +65,14 @@ same-length-4 c = search needs
 
 returns-3 : tie.Need-returns-3
 returns-3 c =
-    let a = c .before .before .before .before .before .before .before .before .before .before .before .before .before .before .before .before .before .args in
-    frame-served (a .b .now) (a .frame .now) (a .out .now) (a .p) (c .before .before .before .before .before .before .before .before .before .before .before .before .before .before .before .before .before .pre .0) (λ k. c .before .before .before .before .before .before .before .before .before .before .before .before .before .before .before .before .slice-known .given k .fits)
-    _ _ _ (c .before .before .before .before .before .before .before .before .before .serve-one .ensures) _ _ _ (sym (c .before .before .before .before .before .before .before .before .before .before .before .before .before .is-one .ensures) ∙ not-false _ (c .before .before .before .before .before .before .before .before .before .before .before .before .if1 .left)) (c .before .before .before .used .given .1)
+    let c9 = c .before .before .before .before .before .before .before .before .before in
+    let c12 = c9 .before .before .before in
+    let c13 = c12 .before in
+    let c16 = c13 .before .before .before in
+    let c17 = c16 .before in
+    let a = c17 .args in
+    frame-served (a .b .now) (a .frame .now) (a .out .now) (a .p) (c17 .pre .0) (λ k. c16 .slice-known .given k .fits)
+    _ _ _ (c9 .serve-one .ensures) _ _ _ (sym (c13 .is-one .ensures) ∙ not-false _ (c12 .if1 .left)) (c .before .before .before .used .given .1)
 
 pub serve-field-spec : {M : Type 1} → statement M
 serve-field-spec =

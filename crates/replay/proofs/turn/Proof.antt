@@ -25,10 +25,13 @@ part-requires c κs = tt
 
 serve-field-requires : tie.Need-serve-field-requires
 serve-field-requires c κs =
-    let a = c .before .before .before .before .before .before .before .before .before .before .args in
-    let e = sym (c .before .before .before .before .before .before .field-of .ensures) ∙ c .before .before .before .before .len .given .1 in
+    let c4 = c .before .before .before .before in
+    let c6 = c4 .before .before in
+    let c10 = c6 .before .before .before .before in
+    let a = c10 .args in
+    let e = sym (c6 .field-of .ensures) ∙ c4 .len .given .1 in
     let l = held-length (a .b .now) (a .s .now) (a .out .now) (a .p) _ _ _ e refl (says (a .s .now) _ e) (c .before .part .ensures) in
-    (c .before .before .before .before .before .before .before .before .before .before .pre .0, (c .before .before .before .before .before .before .before .before .before .before .pre .1 .0, omega (arith, l, inside (a .s .now) _ e refl, c .before .before .before .before .before .before .before .before .before .before .pre .1 .1)))
+    (c10 .pre .0, (c10 .pre .1 .0, omega (arith, l, inside (a .s .now) _ e refl, c10 .pre .1 .1)))
 
 enum-known-len-2 : tie.Need-enum-known-len-2
 enum-known-len-2 c = search needs
@@ -74,24 +77,36 @@ same-length-2 c = search needs
 
 returns-2 : tie.Need-returns-2
 returns-2 c =
-    let a = c .before .before .before .before .before .before .before .before .before .before .before .before .before .before .before .args in
-    frame-turns (a .b .now) (a .s .now) (a .out .now) (a .p) _ _ _ _ _ (sym (c .before .before .before .before .before .before .before .before .before .before .before .field-of .ensures) ∙ c .before .before .before .before .before .before .before .before .before .len .given .1) (c .before .before .before .before .before .before .part .ensures) (c .before .before .before .before .serve-field .ensures)
+    let c4 = c .before .before .before .before in
+    let c6 = c4 .before .before in
+    let c9 = c6 .before .before .before in
+    let c11 = c9 .before .before in
+    let c15 = c11 .before .before .before .before in
+    let a = c15 .args in
+    frame-turns (a .b .now) (a .s .now) (a .out .now) (a .p) _ _ _ _ _ (sym (c11 .field-of .ensures) ∙ c9 .len .given .1) (c6 .part .ensures) (c4 .serve-field .ensures)
 
 same-length-3 : tie.Need-same-length-3
 same-length-3 c = search needs
 
 returns-3 : tie.Need-returns-3
 returns-3 c =
-    let a = c .before .before .before .before .before .before .before .before .before .before .before .args in
-    reply-turns (a .b .now) (a .s .now) (a .out .now) (a .p) _ _ _ _ (sym (c .before .before .before .before .before .before .before .field-of .ensures) ∙ c .before .before .before .before .before .len2 .given .1) (c .before .before .before .part2 .ensures) (c .before .part3 .ensures) (c .compare-reply .ensures)
+    let c5 = c .before .before .before .before .before in
+    let c7 = c5 .before .before in
+    let c11 = c7 .before .before .before .before in
+    let a = c11 .args in
+    reply-turns (a .b .now) (a .s .now) (a .out .now) (a .p) _ _ _ _ (sym (c7 .field-of .ensures) ∙ c5 .len2 .given .1) (c .before .before .before .part2 .ensures) (c .before .part3 .ensures) (c .compare-reply .ensures)
 
 same-length-4 : tie.Need-same-length-4
 same-length-4 c = search needs
 
 returns-4 : tie.Need-returns-4
 returns-4 c =
-    let a = c .before .before .before .before .before .before .before .before .before .before .before .before .args in
-    purge-turns (a .b .now) (a .s .now) (a .out .now) (a .p) _ _ _ (sym (c .before .before .before .before .before .before .before .before .field-of .ensures) ∙ c .before .before .before .before .before .before .bound .given .1) (c .before .before .before .purge .ensures .1) (c .passed .ensures)
+    let c6 = c .before .before .before .before .before .before in
+    let c8 = c6 .before .before in
+    let c12 = c8 .before .before .before .before in
+    let a = c12 .args in
+    purge-turns (a .b .now) (a .s .now) (a .out .now) (a .p) _ _ _ (sym (c8 .field-of .ensures) ∙ c6 .bound .given .1)
+    (c .before .before .before .purge .ensures .1) (c .passed .ensures)
 
 returns-5 : tie.Need-returns-5
 returns-5 c =
