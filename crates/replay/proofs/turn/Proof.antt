@@ -94,7 +94,8 @@ returns-3 c =
     let c7 = c5 .before .before in
     let c11 = c7 .before .before .before .before in
     let a = c11 .args in
-    reply-turns (a .b .now) (a .s .now) (a .out .now) (a .p) _ _ _ _ (sym (c7 .field-of .ensures) ∙ c5 .len2 .given .1) (c .before .before .before .part2 .ensures) (c .before .part3 .ensures) (c .compare-reply .ensures)
+    reply-turns (a .b .now) (a .s .now) (a .out .now) (a .p) _ _ _ _ (sym (c7 .field-of .ensures) ∙ c5 .len2 .given .1)
+    (c .before .before .before .part2 .ensures) (c .before .part3 .ensures) (c .compare-reply .ensures)
 
 same-length-4 : tie.Need-same-length-4
 same-length-4 c = search needs
