@@ -19,66 +19,66 @@ pub(crate) enum Decoded {
 
 // The opcode of a command's word, in the form that is not quiet, or 0xff where it is none.
 fn plain_opcode(word: &[u8]) -> u8 {
-    if octets::same(word, b"get") {
+    if compare::same(word, b"get") {
         return 0x00;
     }
-    if octets::same(word, b"set") {
+    if compare::same(word, b"set") {
         return 0x01;
     }
-    if octets::same(word, b"add") {
+    if compare::same(word, b"add") {
         return 0x02;
     }
-    if octets::same(word, b"replace") {
+    if compare::same(word, b"replace") {
         return 0x03;
     }
-    if octets::same(word, b"delete") {
+    if compare::same(word, b"delete") {
         return 0x04;
     }
-    if octets::same(word, b"incr") {
+    if compare::same(word, b"incr") {
         return 0x05;
     }
-    if octets::same(word, b"decr") {
+    if compare::same(word, b"decr") {
         return 0x06;
     }
     0xff
 }
 
 fn joined_opcode(word: &[u8]) -> u8 {
-    if octets::same(word, b"append") {
+    if compare::same(word, b"append") {
         return 0x0e;
     }
-    if octets::same(word, b"prepend") {
+    if compare::same(word, b"prepend") {
         return 0x0f;
     }
-    if octets::same(word, b"touch") {
+    if compare::same(word, b"touch") {
         return 0x1c;
     }
-    if octets::same(word, b"gat") {
+    if compare::same(word, b"gat") {
         return 0x1d;
     }
     plain_opcode(word)
 }
 
 fn opcode(word: &[u8]) -> u8 {
-    if octets::same(word, b"noop") {
+    if compare::same(word, b"noop") {
         return 0x0a;
     }
-    if octets::same(word, b"version") {
+    if compare::same(word, b"version") {
         return 0x0b;
     }
-    if octets::same(word, b"getk") {
+    if compare::same(word, b"getk") {
         return 0x0c;
     }
-    if octets::same(word, b"setm") {
+    if compare::same(word, b"setm") {
         return 0xa2;
     }
-    if octets::same(word, b"addm") {
+    if compare::same(word, b"addm") {
         return 0xa4;
     }
-    if octets::same(word, b"delm") {
+    if compare::same(word, b"delm") {
         return 0xa8;
     }
-    if octets::same(word, b"keys") {
+    if compare::same(word, b"keys") {
         return 0xb8;
     }
     joined_opcode(word)
@@ -193,7 +193,7 @@ fn read_as(line: &[u8], quiet: bool) -> Decoded {
 }
 
 pub(crate) fn read(line: &[u8]) -> Decoded {
-    if octets::same(text::before(line, b' '), b"quiet") {
+    if compare::same(text::before(line, b' '), b"quiet") {
         return read_as(text::after(line, b' '), true);
     }
     read_as(line, false)

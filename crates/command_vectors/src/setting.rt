@@ -149,17 +149,17 @@ fn tombstone(f: Fields) -> Stored {
 fn change_row(line: &[u8], t: Context) -> Changed {
     let word = text::before(line, b' ');
     let rest = text::after(line, b' ');
-    if octets::same(word, b"tomb") {
+    if compare::same(word, b"tomb") {
         let f = text::spelled(rest);
         return if_good(text::are(f, 2), with_row(t, tombstone(f), b""), t);
     }
-    if octets::same(word, b"doc") {
+    if compare::same(word, b"doc") {
         let f = text::spelled(text::before(rest, b'\''));
         let value = text::before(text::after(rest, b'\''), b'\'');
         return if_good(text::are(f, 4), with_row(t, document(f), value), t);
     }
     if_good(
-        octets::same(line, b"none"),
+        compare::same(line, b"none"),
         with_row(t, Stored::Nothing, b""),
         t,
     )
@@ -168,14 +168,14 @@ fn change_row(line: &[u8], t: Context) -> Changed {
 pub(crate) fn change(line: &[u8], t: Context) -> Changed {
     let word = text::before(line, b' ');
     let rest = text::after(line, b' ');
-    if octets::same(word, b"row") {
+    if compare::same(word, b"row") {
         return change_row(rest, t);
     }
-    if octets::same(word, b"free") {
-        let yes = octets::same(rest, b"yes");
-        return if_good(yes | octets::same(rest, b"no"), with_free(t, yes), t);
+    if compare::same(word, b"free") {
+        let yes = compare::same(rest, b"yes");
+        return if_good(yes | compare::same(rest, b"no"), with_free(t, yes), t);
     }
-    if octets::same(word, b"clock") {
+    if compare::same(word, b"clock") {
         let f = text::spelled(rest);
         return if_good(
             text::are(f, 1),
@@ -183,11 +183,11 @@ pub(crate) fn change(line: &[u8], t: Context) -> Changed {
             t,
         );
     }
-    if octets::same(word, b"size") {
+    if compare::same(word, b"size") {
         let f = text::spelled(rest);
         return if_good(text::are(f, 1), with_size(t, text::field(f, 0) as usize), t);
     }
-    if octets::same(word, b"head") {
+    if compare::same(word, b"head") {
         let f = text::spelled(rest);
         return if_good(text::are(f, 4), with_head(t, head_of(f)), t);
     }

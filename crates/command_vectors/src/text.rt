@@ -54,7 +54,7 @@ fn hexadecimal(s: &[u8]) -> Number {
 
 // Decimal, or hexadecimal after 0x.
 fn number(word: &[u8]) -> Number {
-    if octets::same(octets::part(word, 0, 2), b"0x") & (2 < word.len()) {
+    if compare::same(octets::part(word, 0, 2), b"0x") & (2 < word.len()) {
         return hexadecimal(octets::rest(word, 2));
     }
     digits::parse(word)

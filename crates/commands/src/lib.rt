@@ -1,5 +1,6 @@
 // What a request asks for, and the status it gets: decided by value from the table's head, the row of the request's key and
-// whether a row is free. Each family of commands has its tests; effects has what is done where none fails.
+// whether a row is free. The tests of each family of commands are in read_status, write_status and meta_status; effects has what
+// is done where none fails.
 pub mod status;
 
 ghost use mathlib.Core.Path.{_≡_};

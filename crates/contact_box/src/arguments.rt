@@ -34,10 +34,10 @@ fn mode_at(i: usize) -> u8
 {
     let mut word = [0u8; 32];
     let n = os::arg(i, &mut word);
-    if octets::same(&word[..n], b"revision") {
+    if compare::same(&word[..n], b"revision") {
         return REVISION;
     }
-    if octets::same(&word[..n], b"last-write-wins") {
+    if compare::same(&word[..n], b"last-write-wins") {
         return LAST_WRITE_WINS;
     }
     0

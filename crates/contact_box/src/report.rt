@@ -12,8 +12,8 @@ fn put_count(line: &mut [u8], at: usize, name: &[u8], n: u64) -> usize
     let mut spelled = [0u8; 20];
     let k = digits::put_number(&mut spelled, n);
     let start = at + name.len();
-    octets::put_bytes(line, at, name);
-    octets::put_bytes(line, start, octets::part(&spelled, 0, k));
+    octet_writer::put_bytes(line, at, name);
+    octet_writer::put_bytes(line, start, octets::part(&spelled, 0, k));
     start + k
 }
 
@@ -24,7 +24,7 @@ pub(crate) fn ended(t: Tally, kept: u32) {
     let refused = put_count(&mut line, served, b", refused ", t.refused);
     let silent = put_count(&mut line, refused, b", silent ", t.silent);
     let clock = put_count(&mut line, silent, b", kept clock ", kept as u64);
-    octets::put_bytes(&mut line, clock, b"\n");
+    octet_writer::put_bytes(&mut line, clock, b"\n");
     io::write_all(STDERR_FILENO, octets::part(&line, 0, clock + 1));
 }
 
@@ -34,9 +34,9 @@ pub(crate) fn wrong(what: &[u8])
 {
     let usage = b"; usage: contact_box ROWS VBUCKET MODE\n";
     let mut line = [0u8; 100];
-    octets::put_bytes(&mut line, 0, b"contact_box: ");
-    octets::put_bytes(&mut line, 13, what);
-    octets::put_bytes(&mut line, 13 + what.len(), usage);
+    octet_writer::put_bytes(&mut line, 0, b"contact_box: ");
+    octet_writer::put_bytes(&mut line, 13, what);
+    octet_writer::put_bytes(&mut line, 13 + what.len(), usage);
     io::write_all(
         STDERR_FILENO,
         octets::part(&line, 0, 13 + what.len() + usage.len()),

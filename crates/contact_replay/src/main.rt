@@ -41,9 +41,9 @@ fn put_said(out: &mut [u8], word: &[u8], n: u64) -> usize
     let mut spelled = [0u8; 20];
     let k = digits::put_number(&mut spelled, n);
     let end = word.len() + k;
-    octets::put_bytes(out, 0, word);
-    octets::put_bytes(out, word.len(), octets::part(&spelled, 0, k));
-    octets::put_bytes(out, end, b"\n");
+    octet_writer::put_bytes(out, 0, word);
+    octet_writer::put_bytes(out, word.len(), octets::part(&spelled, 0, k));
+    octet_writer::put_bytes(out, end, b"\n");
     end + 1
 }
 

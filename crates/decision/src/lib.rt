@@ -14,7 +14,6 @@ use commands::Meta;
 use commands::MetaKind;
 use commands::Plain;
 use commands::Touching;
-use commands::status;
 use document::Side;
 use effects::Done;
 use effects::Reply;
@@ -50,7 +49,13 @@ fn with_status(c: Context, i: Instruction, on: u8, status: u8, done: Done) -> De
 fn get(c: Context, i: Instruction, keyed: bool) -> Decision
     ensures { λ r. ⌜ r ≡ decisionBy c i getRule (found c keyed) ⌝ }
 {
-    with_status(c, i, 1, status::get_status(c, i), effects::found(c, keyed))
+    with_status(
+        c,
+        i,
+        1,
+        read_status::get_status(c, i),
+        effects::found(c, keyed),
+    )
 }
 
 fn get_keys(c: Context, i: Instruction, count: u32) -> Decision
@@ -58,7 +63,7 @@ fn get_keys(c: Context, i: Instruction, count: u32) -> Decision
 {
     let head = c.head;
     let done = effects::nothing(head, Reply::Keys(count), Cas(0));
-    with_status(c, i, 0, status::list_status(c, i), done)
+    with_status(c, i, 0, read_status::list_status(c, i), done)
 }
 
 fn noop(c: Context, i: Instruction) -> Decision
@@ -66,7 +71,7 @@ fn noop(c: Context, i: Instruction) -> Decision
 {
     let head = c.head;
     let done = effects::nothing(head, Reply::Bare, Cas(0));
-    with_status(c, i, 0, status::service_status(c, i), done)
+    with_status(c, i, 0, read_status::service_status(c, i), done)
 }
 
 fn version(c: Context, i: Instruction) -> Decision
@@ -74,13 +79,13 @@ fn version(c: Context, i: Instruction) -> Decision
 {
     let head = c.head;
     let done = effects::nothing(head, Reply::Version, Cas(0));
-    with_status(c, i, 0, status::service_status(c, i), done)
+    with_status(c, i, 0, read_status::service_status(c, i), done)
 }
 
 fn written(c: Context, i: Instruction, p: Plain, needs: bool, fresh: bool) -> Decision
     ensures { λ r. ⌜ r ≡ decisionBy c i (plainRule (passes (p .expiry) (c .clock)) needs fresh false) (writeDone c p) ⌝ }
 {
-    let status = status::write_status(c, i, numbers::passes(p.expiry, c.clock), needs, fresh);
+    let status = write_status::write_status(c, i, numbers::passes(p.expiry, c.clock), needs, fresh);
     with_status(c, i, 0, status, effects::write_done(c, p))
 }
 
@@ -116,7 +121,7 @@ fn write(c: Context, i: Instruction, p: Plain) -> Decision
 fn delete(c: Context, i: Instruction) -> Decision
     ensures { λ r. ⌜ r ≡ decisionBy c i deleteRule (deleteDone c) ⌝ }
 {
-    let status = status::write_status(c, i, false, true, false);
+    let status = write_status::write_status(c, i, false, true, false);
     with_status(c, i, 0, status, effects::delete_done(c))
 }
 
@@ -127,7 +132,7 @@ fn count(c: Context, i: Instruction, k: Counter) -> Decision
         c,
         i,
         0,
-        status::count_status(c, i, k),
+        write_status::count_status(c, i, k),
         effects::count_done(c, k),
     )
 }
@@ -159,7 +164,7 @@ fn meta_written(c: Context, i: Instruction, w: Meta, fresh: bool, tomb: bool) ->
         c,
         i,
         0,
-        status::meta_status(c, i, w, fresh),
+        meta_status::meta_status(c, i, w, fresh),
         effects::meta_done(c, w, tomb),
     )
 }
@@ -180,7 +185,7 @@ fn join(c: Context, i: Instruction, side: Side) -> Decision
         c,
         i,
         0,
-        status::join_status(c, i),
+        write_status::join_status(c, i),
         effects::join_done(c, side),
     )
 }
@@ -192,7 +197,7 @@ fn touch(c: Context, i: Instruction, t: Touching) -> Decision
         c,
         i,
         0,
-        status::touch_status(c, i, t),
+        write_status::touch_status(c, i, t),
         effects::touch_done(c, t),
     )
 }

@@ -49,7 +49,7 @@ fn cas_for(t: Try, held: Cas) -> Cas {
 // Sets the contact on a fresh table, to live for a minute, and answers the CAS that the reply gives it.
 fn set_contact(boat: &mut [u8], reply: &mut [u8]) -> Cas {
     let mut extras = [0u8; 8];
-    octets::put_be(&mut extras, 4, 4, 60);
+    octet_writer::put_be(&mut extras, 4, 4, 60);
     let call = Call {
         clock: SET_AT,
         opcode: 0x01,
@@ -111,8 +111,8 @@ fn writes() {
 // Counts by one. An expiry of 0xffffffff asks that a contact that isn't there be left so.
 fn counts() {
     let mut extras = [0u8; 20];
-    octets::put_be(&mut extras, 0, 8, 1);
-    octets::put_be(&mut extras, 16, 4, 0xffffffff);
+    octet_writer::put_be(&mut extras, 0, 8, 1);
+    octet_writer::put_be(&mut extras, 16, 4, 0xffffffff);
     tried(b"Increment", any(0x05), &extras, b"");
     tried(b"IncrementQ", any(0x15), &extras, b"");
     tried(b"Decrement", any(0x06), &extras, b"");
@@ -121,8 +121,8 @@ fn counts() {
 
 fn begins() {
     let mut extras = [0u8; 20];
-    octets::put_be(&mut extras, 0, 8, 1);
-    octets::put_be(&mut extras, 8, 8, 5);
+    octet_writer::put_be(&mut extras, 0, 8, 1);
+    octet_writer::put_be(&mut extras, 8, 8, 5);
     tried(b"Increment, else from 5", any(0x05), &extras, b"");
     tried(b"Decrement, else from 5", any(0x06), &extras, b"");
 }
@@ -137,7 +137,7 @@ fn joins() {
 // Another minute to live.
 fn touches() {
     let mut extras = [0u8; 4];
-    octets::put_be(&mut extras, 0, 4, 60);
+    octet_writer::put_be(&mut extras, 0, 4, 60);
     tried(b"Touch", any(0x1c), &extras, b"");
     tried(b"Get-and-touch", any(0x1d), &extras, b"");
 }
@@ -154,8 +154,8 @@ fn copied(extras: &[u8]) {
 // Copies from shore, newer than the contact: revision 2 and CAS 2.
 fn copies() {
     let mut extras = [0u8; 24];
-    octets::put_be(&mut extras, 8, 8, 2);
-    octets::put_be(&mut extras, 16, 8, 2);
+    octet_writer::put_be(&mut extras, 8, 8, 2);
+    octet_writer::put_be(&mut extras, 16, 8, 2);
     copied(&extras);
 }
 

@@ -80,7 +80,7 @@ fn is_on(r: &[u8], other: &[u8]) -> bool {
     );
     let place = l.place;
     match place {
-        Place::Over(i) => octets::same(r, row(other, i)),
+        Place::Over(i) => compare::same(r, row(other, i)),
         Place::Into(_) => false,
         Place::Full => false,
     }

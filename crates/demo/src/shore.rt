@@ -64,10 +64,10 @@ fn send(
     reply: &mut [u8],
 ) -> Served {
     let mut extras = [0u8; 24];
-    octets::put_be(&mut extras, 0, 4, n.flags as u64);
-    octets::put_be(&mut extras, 4, 4, n.expiry as u64);
-    octets::put_be(&mut extras, 8, 8, n.revision.0);
-    octets::put_be(&mut extras, 16, 8, n.cas.0);
+    octet_writer::put_be(&mut extras, 0, 4, n.flags as u64);
+    octet_writer::put_be(&mut extras, 4, 4, n.expiry as u64);
+    octet_writer::put_be(&mut extras, 8, 8, n.revision.0);
+    octet_writer::put_be(&mut extras, 16, 8, n.cas.0);
     frames::send(boat, call, &extras, key, value, reply)
 }
 

@@ -20,7 +20,7 @@ pub(crate) fn put(line: &mut [u8], at: usize, s: &[u8]) -> usize {
     if line.len() - at < s.len() {
         return at;
     }
-    octets::put_bytes(line, at, s);
+    octet_writer::put_bytes(line, at, s);
     at + s.len()
 }
 

@@ -62,27 +62,27 @@ fn put_front(out: &mut [u8], h: Header)
     requires { ⌜ 24 ≤ length (now out) ⌝ }
     ensures { λ _. ⌜ now (out .exit) ≡ written (now (out .entry)) 0 (frontBytes h) ⌝ }
 {
-    octets::put_be(out, 0, 1, h.magic as u64);
-    octets::put_be(out, 1, 1, h.opcode as u64);
-    octets::put_be(out, 2, 2, h.keylen as u64);
+    octet_writer::put_be(out, 0, 1, h.magic as u64);
+    octet_writer::put_be(out, 1, 1, h.opcode as u64);
+    octet_writer::put_be(out, 2, 2, h.keylen as u64);
 }
 
 fn put_middle(out: &mut [u8], h: Header)
     requires { ⌜ 24 ≤ length (now out) ⌝ }
     ensures { λ _. ⌜ now (out .exit) ≡ written (now (out .entry)) 4 (middleBytes h) ⌝ }
 {
-    octets::put_be(out, 4, 1, h.extlen as u64);
-    octets::put_be(out, 5, 1, h.datatype as u64);
-    octets::put_be(out, 6, 2, h.vbucket as u64);
+    octet_writer::put_be(out, 4, 1, h.extlen as u64);
+    octet_writer::put_be(out, 5, 1, h.datatype as u64);
+    octet_writer::put_be(out, 6, 2, h.vbucket as u64);
 }
 
 fn put_back(out: &mut [u8], h: Header)
     requires { ⌜ 24 ≤ length (now out) ⌝ }
     ensures { λ _. ⌜ now (out .exit) ≡ written (now (out .entry)) 8 (backBytes h) ⌝ }
 {
-    octets::put_be(out, 8, 4, h.body as u64);
-    octets::put_be(out, 12, 4, h.opaque as u64);
-    octets::put_be(out, 16, 8, h.cas.0);
+    octet_writer::put_be(out, 8, 4, h.body as u64);
+    octet_writer::put_be(out, 12, 4, h.opaque as u64);
+    octet_writer::put_be(out, 16, 8, h.cas.0);
 }
 
 // Writes a header at the start of out; where it doesn't fit, out is unchanged.

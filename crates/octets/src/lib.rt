@@ -1,13 +1,12 @@
-// Bytes in lent memory: parts of a slice, big-endian numbers, writing, comparing. Every public function is total:
-// a part that isn't there reads as empty, and a write that doesn't fit changes nothing.
+// Bytes in lent memory: parts of a slice, big-endian numbers. Every public function is total: a part that isn't there reads as
+// empty.
 ghost use mathlib.Core.Path.{_≡_};
 ghost use Prim.Native.Nat.{ℕ, _+_, _-_, _^_, _≤_, _<_};
-ghost use lib.ListN.{length, drop, replicate};
+ghost use lib.ListN.{length, drop};
 ghost use lib.Dec.{leb};
-ghost use Rattle.octets.specs.Parts.{part, pasted, written};
-ghost use Rattle.octets.specs.BigEndian.{num, bytesOf};
+ghost use Rattle.octets.specs.Parts.{part};
+ghost use Rattle.octets.specs.BigEndian.{num};
 ghost use Rattle.octets.specs.Words.{little, wordAt};
-ghost use Rattle.octets.specs.Compare.{zeros, same};
 
 // a - b, or 0 where b is larger.
 pub fn minus(a: usize, b: usize) -> usize
@@ -41,7 +40,7 @@ pub fn part(s: &[u8], at: usize, n: usize) -> &[u8]
 }
 
 // Whether n bytes stand from a place on.
-fn fits(len: usize, at: usize, n: usize) -> bool
+pub fn fits(len: usize, at: usize, n: usize) -> bool
     ensures { λ r. ⌜ r ≡ leb (at + n) len ⌝ }
 {
     if len < at {
@@ -135,199 +134,4 @@ pub fn word(s: &[u8], at: usize) -> u64
     let low = quarter(s, at);
     let high = quarter(s, at + 4);
     low + 4294967296 * high
-}
-
-// Writes the n lowest bytes of a number from its last byte to its first.
-fn paste_be(out: &mut [u8], at: usize, n: usize, v: u64)
-    requires { ⌜ at + n ≤ length (now out) ⌝ }
-    ensures { λ _. ⌜ now (out .exit) ≡ pasted (now (out .entry)) at (bytesOf n v) ⌝ }
-{
-    let mut k = n;
-    let mut w = v;
-    while 0 < k {
-        k -= 1;
-        out[at + k] = (w % 256) as u8;
-        w = w / 256;
-    }
-}
-
-// Writes a number n bytes wide.
-pub fn put_be(out: &mut [u8], at: usize, n: usize, v: u64)
-    ensures { λ _. ⌜ now (out .exit) ≡ written (now (out .entry)) at (bytesOf n v) ⌝ }
-{
-    if fits(out.len(), at, n) {
-        paste_be(out, at, n, v);
-    }
-}
-
-fn paste(out: &mut [u8], at: usize, s: &[u8])
-    requires { ⌜ at + length (now s) ≤ length (now out) ⌝ }
-    ensures { λ _. ⌜ now (out .exit) ≡ pasted (now (out .entry)) at (now (s .entry)) ⌝ }
-{
-    bytes::copy(s, &mut out[at..]);
-}
-
-// The same by 32 bytes, and the last 32 once more, so that no byte is left to a slower loop. Those go by an array, which the
-// compiler knows to be apart from the rest.
-fn paste_run(out: &mut [u8], at: usize, s: &[u8])
-    requires { ⌜ (32 ≤ length (now s)) × (at + length (now s) ≤ length (now out)) ⌝ }
-    ensures { λ _. ⌜ now (out .exit) ≡ pasted (now (out .entry)) at (now (s .entry)) ⌝ }
-{
-    let whole = s.len() / 32 * 32;
-    let last = s.len() - 32;
-    paste(out, at, &s[..whole]);
-    let mut end = [0u8; 32];
-    bytes::copy(&s[last..], &mut end);
-    paste(out, at + last, &end);
-}
-
-pub fn put_bytes(out: &mut [u8], at: usize, s: &[u8])
-    ensures { λ _. ⌜ now (out .exit) ≡ written (now (out .entry)) at (now (s .entry)) ⌝ }
-{
-    if !fits(out.len(), at, s.len()) {
-        return;
-    }
-    if s.len() < 32 {
-        paste(out, at, s);
-        return;
-    }
-    paste_run(out, at, s);
-}
-
-// Copies 32 bytes up, through an array: what they are copied over may be among them.
-fn move_chunk(out: &mut [u8], at: usize, by: usize)
-    requires { ⌜ at + 32 + by ≤ length (now out) ⌝ }
-    ensures { λ _. ⌜ now (out .exit) ≡ pasted (now (out .entry)) (at + by) (part (now (out .entry)) at 32) ⌝ }
-{
-    let end = at + 32;
-    let mut chunk = [0u8; 32];
-    bytes::copy(&out[at..end], &mut chunk);
-    paste(out, at + by, &chunk);
-}
-
-// From the last byte to the first, since each is copied over bytes that were copied before.
-fn move_run(out: &mut [u8], at: usize, n: usize, by: usize)
-    requires { ⌜ at + n + by ≤ length (now out) ⌝ }
-    ensures { λ _. ⌜ now (out .exit) ≡ pasted (now (out .entry)) (at + by) (part (now (out .entry)) at n) ⌝ }
-{
-    let mut left = n;
-    while 32 <= left {
-        left -= 32;
-        move_chunk(out, at + left, by);
-    }
-    while 0 < left {
-        left -= 1;
-        let k = at + left;
-        out[k + by] = out[k];
-    }
-}
-
-// Copies the n bytes at a place up by so many, in place. Nothing changes where there is no room for them.
-pub fn move_up(out: &mut [u8], at: usize, n: usize, by: usize)
-    ensures { λ _. ⌜ now (out .exit) ≡ written (now (out .entry)) (at + by) (part (now (out .entry)) at n) ⌝ }
-{
-    if !fits(out.len(), at, n) {
-        return;
-    }
-    if fits(out.len(), at + n, by) {
-        move_run(out, at, n, by);
-    }
-}
-
-fn paste_zeros(out: &mut [u8], at: usize, n: usize)
-    requires { ⌜ at + n ≤ length (now out) ⌝ }
-    ensures { λ _. ⌜ now (out .exit) ≡ pasted (now (out .entry)) at (replicate n 0) ⌝ }
-{
-    let mut i = 0;
-    while i < n {
-        out[at + i] = 0;
-        i += 1;
-    }
-}
-
-pub fn put_zeros(out: &mut [u8], at: usize, n: usize)
-    ensures { λ _. ⌜ now (out .exit) ≡ written (now (out .entry)) at (replicate n 0) ⌝ }
-{
-    if fits(out.len(), at, n) {
-        paste_zeros(out, at, n);
-    }
-}
-
-// Whether every byte is zero. With no way out of its loop it is compiled to vector code.
-pub fn all_zero(s: &[u8]) -> bool
-    ensures { λ r. ⌜ r ≡ zeros (now (s .entry)) ⌝ }
-{
-    let mut seen = 0u8;
-    let mut i = 0;
-    while i < s.len() {
-        seen = seen | s[i];
-        i += 1;
-    }
-    seen == 0
-}
-
-// The same, where the compiler doesn't know the length: by 32 bytes and the last 32 once more, so that no byte is left to a
-// slower loop.
-pub fn zero_run(s: &[u8]) -> bool
-    ensures { λ r. ⌜ r ≡ zeros (now (s .entry)) ⌝ }
-{
-    if s.len() < 32 {
-        return all_zero(s);
-    }
-    let whole = s.len() / 32 * 32;
-    let last = s.len() - 32;
-    all_zero(&s[..whole]) & all_zero(&s[last..])
-}
-
-// Whether two slices of one length hold the same bytes. With no way out of its loop it is compiled to vector code.
-fn all_same(s: &[u8], t: &[u8]) -> bool
-    requires { ⌜ length (now s) ≡ length (now t) ⌝ }
-    ensures { λ r. ⌜ r ≡ same (now (s .entry)) (now (t .entry)) ⌝ }
-{
-    let mut apart = false;
-    let mut i = 0;
-    while i < s.len() {
-        apart = apart | (s[i] != t[i]);
-        i += 1;
-    }
-    !apart
-}
-
-// The same by 32 bytes, and the last 32 once more.
-fn same_run(s: &[u8], t: &[u8]) -> bool
-    requires { ⌜ length (now s) ≡ length (now t) ⌝ }
-    ensures { λ r. ⌜ r ≡ same (now (s .entry)) (now (t .entry)) ⌝ }
-{
-    if s.len() < 32 {
-        return all_same(s, t);
-    }
-    let whole = s.len() / 32 * 32;
-    let last = s.len() - 32;
-    all_same(&s[..whole], &t[..whole]) & all_same(&s[last..], &t[last..])
-}
-
-// Whether two slices hold the same bytes: the one test for equal keys. Lengths come first, then the last byte, then the rest, of
-// which the first byte and the last eight are looked at before all others, since that is where most keys differ.
-pub fn same(s: &[u8], t: &[u8]) -> bool
-    ensures { λ r. ⌜ r ≡ same (now (s .entry)) (now (t .entry)) ⌝ }
-{
-    if s.len() != t.len() {
-        return false;
-    }
-    if 0 < s.len() {
-        let last = s.len() - 1;
-        if s[last] != t[last] {
-            return false;
-        }
-        if s[0] != t[0] {
-            return false;
-        }
-    }
-    if 8 <= s.len() {
-        let end = s.len() - 8;
-        if word(s, end) != word(t, end) {
-            return false;
-        }
-    }
-    same_run(s, t)
 }

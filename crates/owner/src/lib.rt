@@ -61,7 +61,7 @@ fn put_fresh(s: &mut [u8], rows: usize, state: u8, mode: u8, vbucket: u16)
         mark: Cas(0),
     };
     row_writer::put_head(s, h);
-    octets::put_zeros(s, HEADER, rows * ROW);
+    octet_writer::put_zeros(s, HEADER, rows * ROW);
 }
 
 // Makes a fresh table: 0, or 5 where it is refused and the memory is unchanged.

@@ -18,7 +18,7 @@ fn row_holds(r: &[u8], key: &[u8]) -> bool
 {
     let kind = octets::be16(r, 0);
     let k = octets::be16(r, 2) as usize;
-    (kind != 0) & octets::same(octets::part(r, FIXED, k), key)
+    (kind != 0) & compare::same(octets::part(r, FIXED, k), key)
 }
 
 // The first of the left rows from at that holds the key, counted from i.

@@ -148,8 +148,8 @@ fn put_ordered(b: &[u8], order: &[u8], first: usize, count: u32, out: &mut [u8])
         if LIMIT - size < 4 + key.len() {
             left = 0;
         } else {
-            octets::put_be(out, 24 + size, 4, key.len() as u64);
-            octets::put_bytes(out, 28 + size, key);
+            octet_writer::put_be(out, 24 + size, 4, key.len() as u64);
+            octet_writer::put_bytes(out, 28 + size, key);
             size += 4 + key.len();
             left -= 1;
         }

@@ -61,7 +61,7 @@ fn purge_row(b: &mut [u8], at: usize, clock: u32, bound: Cas) -> bool
         × (now (b .exit) ≡ pasted (now (b .entry)) at (purgeRow (goneDoc clock (bound .0)) (part (now (b .entry)) at 1312))) ⌝ }
 {
     if row_gone(octets::part(b, at, ROW), clock, bound) {
-        octets::put_zeros(b, at, ROW);
+        octet_writer::put_zeros(b, at, ROW);
         return true;
     }
     false

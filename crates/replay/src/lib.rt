@@ -91,7 +91,7 @@ fn compare_reply(expected: &[u8], sent: &[u8], p: Progress) -> Step
     if p.frames == 0 {
         return Step::Ends(Ending::Stopped(p.at));
     }
-    if !octets::same(expected, sent) {
+    if !compare::same(expected, sent) {
         return Step::Ends(Ending::Differs(p.at));
     }
     Step::Goes(passed(p, expected.len()))

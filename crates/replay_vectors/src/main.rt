@@ -85,7 +85,7 @@ fn answer_in(after: &mut [u8], before: &[u8], trace: &[u8])
 {
     let r = replay_in(after, replay::SIZE, trace);
     say_answer(r);
-    if is_refused(r) & !octets::same(after, before) {
+    if is_refused(r) & !compare::same(after, before) {
         say(b" CHANGED");
     }
 }
@@ -100,7 +100,7 @@ fn is_left_in(after: &mut [u8], before: &[u8], n: usize) -> bool
     requires { ⌜ n ≤ length (now after) ⌝ }
 {
     let r = replay_in(after, n, b"\x01\0\x07");
-    is_damaged(r) & octets::same(after, before)
+    is_damaged(r) & compare::same(after, before)
 }
 
 // Whether memory of so many bytes is refused and stays as it was.

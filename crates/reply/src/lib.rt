@@ -32,9 +32,9 @@ fn put_found(out: &mut [u8], flags: u32, key: &[u8], old: &[u8]) -> usize
         × (now (out .exit) ≡ written (now (out .entry)) 24 (bytesOf 4 flags ++ (now (key .entry) ++ now (old .entry)))) ⌝ }
 {
     let k = key.len();
-    octets::put_be(out, 24, 4, flags as u64);
-    octets::put_bytes(out, 28, key);
-    octets::put_bytes(out, 28 + k, old);
+    octet_writer::put_be(out, 24, 4, flags as u64);
+    octet_writer::put_bytes(out, 28, key);
+    octet_writer::put_bytes(out, 28 + k, old);
     4 + k + old.len()
 }
 
@@ -48,15 +48,15 @@ fn put_body(out: &mut [u8], r: Reply, key: &[u8], shown: &[u8]) -> usize
         Reply::Bare => 0,
         Reply::Found(flags, keyed) => put_found(out, flags, shown_key(keyed, key), shown),
         Reply::Counted(n) => {
-            octets::put_be(out, 24, 8, n);
+            octet_writer::put_be(out, 24, 8, n);
             8
         }
         Reply::Version => {
-            octets::put_bytes(out, 24, b"4.0.0");
+            octet_writer::put_bytes(out, 24, b"4.0.0");
             5
         }
         Reply::Keys(_) => {
-            octets::put_bytes(out, 24, shown);
+            octet_writer::put_bytes(out, 24, shown);
             shown.len()
         }
     }

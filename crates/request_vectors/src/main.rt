@@ -16,11 +16,11 @@ mod writing;
 // The space is for the bytes that a line spells.
 fn answer_line(line: &[u8], space: &mut [u8]) {
     let word = text::before(line, b' ');
-    if octets::same(word, b"read") {
+    if compare::same(word, b"read") {
         reading::answer(text::after(line, b' '), space);
         return;
     }
-    if octets::same(word, b"write") {
+    if compare::same(word, b"write") {
         writing::answer(text::after(line, b' '), space);
         return;
     }

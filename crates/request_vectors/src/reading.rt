@@ -24,7 +24,7 @@ fn show_again(received: &[u8], f: Frame) {
         _ => 0,
     };
     let frame = octets::part(received, 0, 24 + octets::be32(received, 8) as usize);
-    if octets::same(octets::part(&out, 0, size), frame) {
+    if compare::same(octets::part(&out, 0, size), frame) {
         show::decimal(b" again=", size);
         show::text(b" same");
     } else {

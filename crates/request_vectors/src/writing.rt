@@ -129,7 +129,7 @@ pub(crate) fn answer(line: &[u8], space: &mut [u8]) {
     let room = text::decimal(line, 37);
     let gap = octets::rest(text::before(line, b'/'), room.end);
     let p = put_parts(space, line);
-    if head.good & (head.end == 16) & octets::same(gap, b" ") & (room.value <= 4096) & p.good {
+    if head.good & (head.end == 16) & compare::same(gap, b" ") & (room.value <= 4096) & p.good {
         show_parts_written(space, p, room.value);
     } else {
         show::text(b"what?");

@@ -62,9 +62,9 @@ fn put_frame(out: &mut [u8], h: Header, extras: &[u8], key: &[u8], value: &[u8])
 {
     let l = header::layout_of(h);
     header::put(out, h);
-    octets::put_bytes(out, l.extras, extras);
-    octets::put_bytes(out, l.key, key);
-    octets::put_bytes(out, l.value, value);
+    octet_writer::put_bytes(out, l.extras, extras);
+    octet_writer::put_bytes(out, l.key, key);
+    octet_writer::put_bytes(out, l.value, value);
 }
 
 // Writes a request's frame at the start of out, where reading it would not refuse and it fits; else out is unchanged.

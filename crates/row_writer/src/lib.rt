@@ -25,43 +25,43 @@ pub fn put_head(b: &mut [u8], h: Head)
     if b.len() < HEADER {
         return;
     }
-    octets::put_be(b, 0, 1, h.state as u64);
-    octets::put_be(b, 1, 1, h.mode as u64);
-    octets::put_be(b, 2, 2, h.vbucket as u64);
-    octets::put_be(b, 4, 4, h.clock as u64);
-    octets::put_be(b, 8, 8, h.mark.0);
+    octet_writer::put_be(b, 0, 1, h.state as u64);
+    octet_writer::put_be(b, 1, 1, h.mode as u64);
+    octet_writer::put_be(b, 2, 2, h.vbucket as u64);
+    octet_writer::put_be(b, 4, 4, h.clock as u64);
+    octet_writer::put_be(b, 8, 8, h.mark.0);
 }
 
 // Writes the kept clock alone. Memory with no room for it is left unchanged.
 pub fn put_clock(b: &mut [u8], clock: u32)
     ensures { λ _. ⌜ now (b .exit) ≡ written (now (b .entry)) 4 (bytesOf 4 clock) ⌝ }
 {
-    octets::put_be(b, 4, 4, clock as u64);
+    octet_writer::put_be(b, 4, 4, clock as u64);
 }
 
 fn put_sizes(s: &mut [u8], at: usize, h: Slot)
     requires { ⌜ at + 32 ≤ length (now s) ⌝ }
     ensures { λ _. ⌜ now (s .exit) ≡ written (now (s .entry)) at (sizeBytes h) ⌝ }
 {
-    octets::put_be(s, at, 2, h.kind as u64);
-    octets::put_be(s, at + 2, 2, h.keylen as u64);
-    octets::put_be(s, at + 4, 4, h.vallen as u64);
+    octet_writer::put_be(s, at, 2, h.kind as u64);
+    octet_writer::put_be(s, at + 2, 2, h.keylen as u64);
+    octet_writer::put_be(s, at + 4, 4, h.vallen as u64);
 }
 
 fn put_short(s: &mut [u8], at: usize, h: Slot)
     requires { ⌜ at + 24 ≤ length (now s) ⌝ }
     ensures { λ _. ⌜ now (s .exit) ≡ written (now (s .entry)) at (shortBytes h) ⌝ }
 {
-    octets::put_be(s, at, 4, h.numbers.flags as u64);
-    octets::put_be(s, at + 4, 4, h.numbers.expiry as u64);
+    octet_writer::put_be(s, at, 4, h.numbers.flags as u64);
+    octet_writer::put_be(s, at + 4, 4, h.numbers.expiry as u64);
 }
 
 fn put_long(s: &mut [u8], at: usize, h: Slot)
     requires { ⌜ at + 16 ≤ length (now s) ⌝ }
     ensures { λ _. ⌜ now (s .exit) ≡ written (now (s .entry)) at (longBytes h) ⌝ }
 {
-    octets::put_be(s, at, 8, h.numbers.revision.0);
-    octets::put_be(s, at + 8, 8, h.numbers.cas.0);
+    octet_writer::put_be(s, at, 8, h.numbers.revision.0);
+    octet_writer::put_be(s, at + 8, 8, h.numbers.cas.0);
 }
 
 fn put_slot(s: &mut [u8], at: usize, h: Slot)
@@ -122,8 +122,8 @@ fn put_parts(row: &mut [u8], key: &[u8], m: Metadata, size: usize, at: usize, va
         numbers: n,
     };
     put_slot(row, 0, h);
-    octets::put_bytes(row, FIXED, key);
-    octets::put_bytes(row, at, value);
+    octet_writer::put_bytes(row, FIXED, key);
+    octet_writer::put_bytes(row, at, value);
 }
 
 fn put_entry(row: &mut [u8], key: &[u8], m: Metadata, value: &[u8], old: usize)
@@ -134,7 +134,7 @@ fn put_entry(row: &mut [u8], key: &[u8], m: Metadata, value: &[u8], old: usize)
     let v = value.len();
     put_parts(row, key, m, v, FIXED + k, value);
     if v < old {
-        octets::put_zeros(row, FIXED + k + v, old - v);
+        octet_writer::put_zeros(row, FIXED + k + v, old - v);
     }
 }
 
@@ -146,7 +146,7 @@ fn put_joined(row: &mut [u8], key: &[u8], m: Metadata, side: Side, value: &[u8],
     let size = old + value.len();
     match side {
         Side::Front => {
-            octets::move_up(row, start, old, value.len());
+            octet_writer::move_up(row, start, old, value.len());
             put_parts(row, key, m, size, start, value);
         }
         Side::Back => put_parts(row, key, m, size, start + old, value),

@@ -43,11 +43,11 @@ pub fn row_sound(r: &[u8], mark: u64) -> bool
     ensures { λ b. ⌜ b ≡ rowSound mark (now (r .entry)) ⌝ }
 {
     if octets::be16(r, 0) == 0 {
-        return octets::all_zero(r);
+        return compare::all_zero(r);
     }
     let s = slot_here(r);
     let used = s.keylen as usize + s.vallen as usize;
-    used_ok(s, mark) & octets::zero_run(octets::rest(r, FIXED + used))
+    used_ok(s, mark) & compare::zero_run(octets::rest(r, FIXED + used))
 }
 
 pub fn head_ok(h: Head) -> bool

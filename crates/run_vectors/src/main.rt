@@ -83,9 +83,9 @@ fn past(table: &mut [u8], run: &[u8], at: usize) {
     let mut before = [0u8; SIZE];
     let filled = [FILL; ROOM];
     let mut out = [FILL; ROOM];
-    octets::put_bytes(&mut before, 0, table);
+    octet_writer::put_bytes(&mut before, 0, table);
     step(table, run, &mut out, at);
-    if octets::same(table, &before) & octets::same(&out, &filled) {
+    if compare::same(table, &before) & compare::same(&out, &filled) {
         text(b"  table and reply area unchanged\n");
         return;
     }

@@ -48,7 +48,7 @@ fn is_fresh(s: &[u8], state: u8, mode: u8, vbucket: u16) -> bool {
     (octets::byte(s, 0) == state)
         & (octets::byte(s, 1) == mode)
         & (octets::be16(s, 2) == vbucket)
-        & octets::all_zero(octets::rest(s, 4))
+        & compare::all_zero(octets::rest(s, 4))
 }
 
 fn show_memory(s: &[u8], state: u8, mode: u8, vbucket: u16) {
@@ -109,7 +109,7 @@ pub(crate) fn poke(g: Given, spelled: &[u8], s: &mut [u8], space: &mut [u8]) {
         show::text(b"what?");
         return;
     }
-    octets::put_bytes(s, n[0] as usize, octets::part(space, 0, put.end));
+    octet_writer::put_bytes(s, n[0] as usize, octets::part(space, 0, put.end));
     show::text(b"poked");
 }
 

@@ -48,21 +48,21 @@ struct Lent {
 fn lent_for(word: &[u8], g: Given, l: Lent) -> Lent {
     let n = g.numbers;
     let tally = l.tally;
-    if octets::same(word, b"make") | octets::same(word, b"lend") {
+    if compare::same(word, b"make") | compare::same(word, b"lend") {
         return Lent {
             size: n[0] as usize,
             room: l.room,
             tally,
         };
     }
-    if octets::same(word, b"room") & (g.count == 1) {
+    if compare::same(word, b"room") & (g.count == 1) {
         return Lent {
             size: l.size,
             room: n[0] as usize,
             tally,
         };
     }
-    if octets::same(word, b"tally") & (g.count == 3) {
+    if compare::same(word, b"tally") & (g.count == 3) {
         return Lent {
             size: l.size,
             room: l.room,
@@ -74,27 +74,27 @@ fn lent_for(word: &[u8], g: Given, l: Lent) -> Lent {
 
 // Answers the owner's calls that need no more than their numbers, and says whether the line is one of them.
 fn is_plain_call(word: &[u8], g: Given, s: &mut [u8]) -> bool {
-    if octets::same(word, b"size") & (g.count == 1) {
+    if compare::same(word, b"size") & (g.count == 1) {
         calls::size(g);
         return true;
     }
-    if octets::same(word, b"make") & (g.count == 5) {
+    if compare::same(word, b"make") & (g.count == 5) {
         calls::make(g, s);
         return true;
     }
-    if octets::same(word, b"lend") & (g.count == 1) {
+    if compare::same(word, b"lend") & (g.count == 1) {
         show::decimal(b"lent ", s.len() as u64);
         return true;
     }
-    if octets::same(word, b"dump") & (g.count == 2) {
+    if compare::same(word, b"dump") & (g.count == 2) {
         calls::dump(g, s);
         return true;
     }
-    if octets::same(word, b"sound") & (g.count == 0) {
+    if compare::same(word, b"sound") & (g.count == 0) {
         calls::sound(s);
         return true;
     }
-    if octets::same(word, b"purge") & (g.count == 2) {
+    if compare::same(word, b"purge") & (g.count == 2) {
         calls::purge(g, s);
         return true;
     }
@@ -103,11 +103,11 @@ fn is_plain_call(word: &[u8], g: Given, s: &mut [u8]) -> bool {
 
 // Answers a line about the reply area or the counts, and says whether the line is one.
 fn is_setting(word: &[u8], g: Given, room: usize, t: Tally) -> bool {
-    if octets::same(word, b"room") & (g.count == 1) {
+    if compare::same(word, b"room") & (g.count == 1) {
         show::decimal(b"room ", room as u64);
         return true;
     }
-    if octets::same(word, b"tally") & ((g.count == 0) | (g.count == 3)) {
+    if compare::same(word, b"tally") & ((g.count == 0) | (g.count == 3)) {
         frames::counts(t);
         return true;
     }
@@ -117,15 +117,15 @@ fn is_setting(word: &[u8], g: Given, room: usize, t: Tally) -> bool {
 // Answers the owner's calls that take bytes, which stand after the line's first slash, and says whether the line is one of
 // them. The space is for the bytes.
 fn is_call(word: &[u8], g: Given, spelled: &[u8], s: &mut [u8], space: &mut [u8]) -> bool {
-    if octets::same(word, b"poke") & (g.count == 1) {
+    if compare::same(word, b"poke") & (g.count == 1) {
         calls::poke(g, spelled, s, space);
         return true;
     }
-    if octets::same(word, b"store") & (g.count == 6) {
+    if compare::same(word, b"store") & (g.count == 6) {
         calls::store(g, spelled, s, space);
         return true;
     }
-    if octets::same(word, b"read") & (g.count == 1) {
+    if compare::same(word, b"read") & (g.count == 1) {
         calls::read(g, spelled, s, space);
         return true;
     }
@@ -142,10 +142,10 @@ fn answer_frames(
     space: &mut [u8],
     t: Tally,
 ) -> Tally {
-    if octets::same(word, b"serve") & (g.count == 1) {
+    if compare::same(word, b"serve") & (g.count == 1) {
         return frames::serve(g, spelled, s, out, space, t);
     }
-    if octets::same(word, b"run") & (g.count == 1) {
+    if compare::same(word, b"run") & (g.count == 1) {
         return frames::run(g, spelled, s, out, space, t);
     }
     show::text(b"what?");
