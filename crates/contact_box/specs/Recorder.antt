@@ -36,7 +36,7 @@ abbrev pub grown : Recorder → ℕ → ℕ → Bool → Recorder
 grown r clock n written =
     cond written (record { file = r .file; at = r .at + n; frames = next (r .frames); clock = clock; recording = On }) (stopped r Failed)
 
--- "up to 65,536 bytes": the fields of one more frame are written where they fit, else the recording stops at the place reached
+-- a trace has at most 65,536 bytes: the fields of one more frame are written where they fit, else the recording stops at the place reached
 pub record Grows (r : Recorder) (clock : ℕ) (fields : List ℕ) (x : Recorder) : Type 0 where
   pub written : Bool
   pub now : x ≡ cond (ltb (65536 - r .at) (length fields)) (stopped r Full) (grown r clock (length fields) written)

@@ -15,7 +15,7 @@ use Rattle.rows.specs.Table.{tableBytes, fresh}
 use Rattle.owner.specs.Owner.{makeOk, made}
 use Rattle.trace.specs.declared.Opening.{Opening}
 use Rattle.trace.specs.declared.Opening.the-variants.{Broken, Opened}
-use Rattle.trace.specs.Trace.{openingOf, fieldsOf}
+use Rattle.trace.specs.Trace.{openingOf, fieldsIn}
 use Rattle.replay.specs.declared.Ending.{Ending}
 use Rattle.replay.specs.declared.Ending.the-variants.{Damaged, Stopped}
 use Rattle.replay.specs.Replay.{After, onOpening, replayed, walked}
@@ -76,5 +76,5 @@ module _ (b trace : List ℕ) where
     opened mode vbucket fresh′ r b′ e f w =
         let t : fresh′ ≡ tableBytes (fresh 32 1 mode vbucket) = f ∙ made-fresh b mode vbucket n (opens trace mode vbucket e .known) in
         let x : _≡_ {A = After} (record { answer = r; table = b′ }) (replayed b trace) =
-        w .end ∙ ((λ i. walked (record { table = t i; clock = 0; frames = 0; reply = [] }) (fieldsOf trace)) ∙ sym (by-opening (Opened mode vbucket) e)) in
+        w .end ∙ ((λ i. walked (record { table = t i; clock = 0; frames = 0; reply = [] }) (fieldsIn trace)) ∙ sym (by-opening (Opened mode vbucket) e)) in
         (ap (λ (z : After). z .answer) x, ap (λ (z : After). z .table) x)

@@ -16,7 +16,7 @@ use Rattle.trace.specs.declared.Opening.{Opening}
 use Rattle.trace.specs.declared.Opening.the-variants.{Broken as NotOpened, Opened}
 use Rattle.trace.specs.declared.Field.{Field}
 use Rattle.trace.specs.declared.Field.the-variants.{Clock, Frame, Reply, Purge, Broken}
-use Rattle.trace.specs.Trace.{Placed, openingOf, fieldsOf}
+use Rattle.trace.specs.Trace.{Placed, openingOf, fieldsIn}
 use Rattle.replay.specs.declared.Ending.{Ending}
 use Rattle.replay.specs.declared.Ending.the-variants.{Damaged, Differs, Stopped, Replayed}
 
@@ -88,13 +88,13 @@ walked v [] = record { answer = Replayed (v .frames); table = v .table }
 walked v (p ∷ ps) = onTurn v (onField (p .at) v (p .field) (p .bytes)) (λ w. walked w ps)
 
 -- "on a fresh active table of 32 rows"; "The clock is 0 until a tag 1."
-abbrev pub begun : ℕ → ℕ → Voyage
-begun mode vbucket = record { table = tableBytes (fresh 32 1 mode vbucket); clock = 0; frames = 0; reply = [] }
+abbrev pub setOut : ℕ → ℕ → Voyage
+setOut mode vbucket = record { table = tableBytes (fresh 32 1 mode vbucket); clock = 0; frames = 0; reply = [] }
 
 -- "A place is [..] 0 for a bad opening or a trace over 65,536 bytes."
 abbrev pub onOpening : List ℕ → List ℕ → Opening → After
 onOpening b trace NotOpened = record { answer = Stopped 0; table = b }
-onOpening b trace (Opened mode vbucket) = walked (begun mode vbucket) (fieldsOf trace)
+onOpening b trace (Opened mode vbucket) = walked (setOut mode vbucket) (fieldsIn trace)
 
 -- a table of 32 rows takes 42,000 bytes; lent memory of another size is refused as in making a table, unchanged
 unfoldable pub replayed : List ℕ → List ℕ → After

@@ -8,7 +8,7 @@ use lib.Dec.{eqb}
 use Rattle.octets.specs.Parts.{part}
 use Rattle.trace.specs.declared.Field.{Field}
 use Rattle.trace.specs.declared.Field.the-variants.{Frame}
-use Rattle.trace.specs.Trace.{lengthIn, bytesHeld, fieldOf, fieldsOf}
+use Rattle.trace.specs.Trace.{lengthIn, bytesHeld, fieldOf, fieldsIn}
 use Rattle.replay.specs.declared.Ending.{Ending}
 use Rattle.replay.specs.declared.Ending.the-variants.{Differs, Stopped}
 use Rattle.replay.specs.declared.Progress.{Progress}
@@ -50,4 +50,4 @@ replyStep sent n p = cond (eqb (p .frames) 0) (Ends (Stopped (p .at))) (cond sen
 
 -- a trace that has opened, on a table's memory
 pub record Walks (b trace : List ℕ) (r : Ending) (b′ : List ℕ) : Type 0 where
-  pub end : _≡_ {A = After} (record { answer = r; table = b′ }) (walked (record { table = b; clock = 0; frames = 0; reply = [] }) (fieldsOf trace))
+  pub end : _≡_ {A = After} (record { answer = r; table = b′ }) (walked (record { table = b; clock = 0; frames = 0; reply = [] }) (fieldsIn trace))

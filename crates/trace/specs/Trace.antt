@@ -70,5 +70,5 @@ unfoldable pub fieldsFrom : ℕ → List ℕ → List Placed
 unfolding placedFrom
 fieldsFrom at s = placedFrom (length s) at s
 
-abbrev pub fieldsOf : List ℕ → List Placed
-fieldsOf trace = fieldsFrom 3 (drop 3 trace)
+abbrev pub fieldsIn : List ℕ → List Placed
+fieldsIn trace = fieldsFrom 3 (drop 3 trace)

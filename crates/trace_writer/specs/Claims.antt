@@ -1,4 +1,4 @@
--- "replaying that file": what is written is read back as what it was written for.
+-- What is written is read back as what it was written for. Proved in proofs/ReadBack.antt.
 use Prim.Native.Nat.{ℕ, _+_, _^_, _≤_, _<_}
 use mathlib.Core.Path.{_≡_}
 use mathlib.Core.List.{List, _++_}

@@ -25,14 +25,14 @@ use Rattle.request.specs.declared.Gate.{Gate}
 use Rattle.request.specs.declared.Gate.the-variants.{Stop, Whole}
 use Rattle.trace.specs.declared.Field.{Field}
 use Rattle.trace.specs.declared.Field.the-variants.{Clock, Frame, Reply}
-use Rattle.trace.specs.Trace.{Placed, lengthIn, fieldOf, isBroken, placedFrom, fieldsFrom, fieldsOf}
+use Rattle.trace.specs.Trace.{Placed, lengthIn, fieldOf, isBroken, placedFrom, fieldsFrom, fieldsIn}
 use Rattle.trace.proofs.Fields.{fields-on}
 use Rattle.trace_writer.specs.Writing.{openingBytes, fieldBytes, clockFields, frameFields}
 use Rattle.trace_writer.specs.Claims.{FieldBack}
 use Rattle.trace_writer.proofs.FieldLaws.{clock-same, clock-other, length-opening, length-field, length-frame}
 use Rattle.trace_writer.proofs.ReadBack.{clock-back, frame-back, reply-back, opening-back}
 use Rattle.replay.specs.declared.Ending.the-variants.{Differs, Stopped, Replayed}
-use Rattle.replay.specs.Replay.{Voyage, Turn, On, End, isOneFrame, withClock, withFrame, replyFor, sentReply, onTurn, After, walked, begun, replayed}
+use Rattle.replay.specs.Replay.{Voyage, Turn, On, End, isOneFrame, withClock, withFrame, replyFor, sentReply, onTurn, After, walked, setOut, replayed}
 use Rattle.voyages.specs.Serving.{OneFrame}
 use Rattle.voyages.specs.Recorded.{Asked, left, leftByAll, AllServed, fieldsAdded, traceOf, RecordedReplays, RoomAlike}
 
@@ -120,7 +120,7 @@ recorded-replays b mode vbucket xs n m k v q l =
     let o = opening-back mode vbucket rest m k v (omega (arith, l, size, three)) in
     let count : 0 + length xs ≡ length xs = omega arith in
     rw (eq-eqb (length b) 42000 n, o .0)
-    (ap (λ (s : List ℕ). walked (begun mode vbucket) (fieldsFrom 3 s)) (o .1)
+    (ap (λ (s : List ℕ). walked (setOut mode vbucket) (fieldsFrom 3 s)) (o .1)
     ∙ walks table 0 0 [] xs q (omega (arith, l, size, three)) 3
     ∙ (λ i. record { answer = Replayed (count i); table = leftByAll table xs }))
 

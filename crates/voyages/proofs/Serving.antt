@@ -16,13 +16,13 @@ use Rattle.serving.specs.declared.Served.the-variants.{Refused, Done}
 use Rattle.serving.specs.Serve.{served, servedTable}
 use Rattle.trace.specs.declared.Field.{Field}
 use Rattle.trace.specs.declared.Field.the-variants.{Clock, Frame, Reply, Purge as Purges, Broken}
-use Rattle.trace.specs.Trace.{Placed, fieldsOf}
+use Rattle.trace.specs.Trace.{Placed, fieldsIn}
 use Rattle.replay.specs.declared.Ending.{Ending}
 use Rattle.replay.specs.declared.Ending.the-variants.{Differs, Stopped}
-use Rattle.replay.specs.Replay.{Voyage, withClock, withFrame, withPurge, isOneFrame, On, End, onField, onTurn, After, walked, begun, replayed}
+use Rattle.replay.specs.Replay.{Voyage, withClock, withFrame, withPurge, isOneFrame, On, End, onField, onTurn, After, walked, setOut, replayed}
 use Rattle.replay.proofs.Frames.{was-sent}
 use Rattle.promises.specs.Clock.{TableCall, memoryAfter, tableCalled}
-use Rattle.voyages.specs.Serving.{clockBy, callBy, callsOf, framesBy, framesIn, lastBy, OneFrame, GoesOn, EndsAt, clockPast, lastAfter, ReplaysAs, ReplayServes, SentIsReply}
+use Rattle.voyages.specs.Serving.{clockBy, callBy, callsOf, framesBy, framesIn, lastBy, OneFrame, LeadsOn, EndsAt, clockPast, lastAfter, ReplaysAs, ReplayServes, SentIsReply}
 
 after-both : (b : List ℕ) (xs ys : List TableCall) → memoryAfter b (xs ++ ys) ≡ memoryAfter (memoryAfter b xs) ys
 after-both b [] ys = refl
@@ -33,7 +33,7 @@ module _ (b : List ℕ) (clock : ℕ) (last : Option (List ℕ)) (n : ℕ) (p : 
   abbrev calls : List TableCall
   calls = callBy clock (p .field) (p .bytes)
 
-  further : (m : ℕ) → GoesOn b clock last (p .field) (p .bytes) → m ≡ n + framesBy (p .field)
+  further : (m : ℕ) → LeadsOn b clock last (p .field) (p .bytes) → m ≡ n + framesBy (p .field)
       → ReplaysAs (memoryAfter b calls) (clockBy clock (p .field)) (lastBy b clock last (p .field) (p .bytes)) m ps e
       → ReplaysAs b clock last n (p ∷ ps) e
   further m g k r =
@@ -116,7 +116,7 @@ replays v last (p ∷ ps) a = turn v last a (p .at) (p .bytes) ps (λ w next b. 
 pub replay-serves : ReplayServes
 unfolding replayed
 replay-serves b trace mode vbucket n e =
-    rw (eq-eqb (length b) 42000 n, e) (replays (begun mode vbucket) none (fieldsOf trace) refl)
+    rw (eq-eqb (length b) 42000 n, e) (replays (setOut mode vbucket) none (fieldsIn trace) refl)
 
 pub sent-is-reply : SentIsReply
 sent-is-reply b clock s out st used len y n e = sym (was-sent b clock s out st used len n y e .reply)

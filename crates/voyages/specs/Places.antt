@@ -5,7 +5,7 @@ use mathlib.Core.List.{List, [], _∷_}
 use lib.ListN.{length, drop}
 use Rattle.octets.specs.Parts.{part}
 use Rattle.octets.specs.BigEndian.{num}
-use Rattle.trace.specs.Trace.{Placed, fieldOf, fieldsOf}
+use Rattle.trace.specs.Trace.{Placed, fieldOf, fieldsIn}
 
 -- each field of a trace is what stands at its place, with the bytes that follow its tag and its length there; the first is at 3, and each other where the one before it ends
 abbrev pub FieldsAt : List ℕ → ℕ → List Placed → Type 0
@@ -15,4 +15,4 @@ FieldsAt trace at (p ∷ ps) =
 
 -- it rules out a replay that tells the place where a field ends, and one that counts places from the first field
 abbrev pub FieldsPlaced : Type 0
-FieldsPlaced = (trace : List ℕ) → FieldsAt trace 3 (fieldsOf trace)
+FieldsPlaced = (trace : List ℕ) → FieldsAt trace 3 (fieldsIn trace)

@@ -1,4 +1,4 @@
--- Order 6: "replaying that file gives `replayed N`", of a trace that was recorded: over any list of frames that were served one after another on a fresh table, each at its clock. Proved in proofs/Recorded.antt.
+-- A trace that was recorded is replayed, with as many frames and to the same table: over any list of frames that were served one after another on a fresh table, each at its clock. Proved in proofs/Recorded.antt.
 use Prim.Native.Nat.{ℕ, _^_, _≤_, _<_}
 use mathlib.Core.Path.{_≡_}
 use mathlib.Core.List.{List, [], _∷_, _++_}

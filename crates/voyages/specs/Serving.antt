@@ -12,7 +12,7 @@ use Rattle.serving.specs.Serve.{served, servedReply}
 use Rattle.trace.specs.declared.Opening.the-variants.{Opened}
 use Rattle.trace.specs.declared.Field.{Field}
 use Rattle.trace.specs.declared.Field.the-variants.{Clock, Frame, Reply, Purge as Purges, Broken}
-use Rattle.trace.specs.Trace.{Placed, openingOf, fieldsOf}
+use Rattle.trace.specs.Trace.{Placed, openingOf, fieldsIn}
 use Rattle.replay.specs.declared.Ending.{Ending}
 use Rattle.replay.specs.declared.Ending.the-variants.{Damaged, Differs, Stopped, Replayed}
 use Rattle.replay.specs.Replay.{After, sentReply, replayed}
@@ -66,18 +66,18 @@ pub record OneFrame (b : List ℕ) (clock : ℕ) (bytes : List ℕ) (len : ℕ) 
   pub answer : served b clock bytes 1302 ≡ Done status len sent
 
 -- a field that doesn't end the replay
-abbrev pub GoesOn : List ℕ → ℕ → Option (List ℕ) → Field → List ℕ → Type 0
-GoesOn b clock last (Clock n) bytes = Unit {0}
-GoesOn b clock last (Frame len) bytes = OneFrame b clock bytes len
-GoesOn b clock last (Reply len) bytes = last ≡ some bytes
-GoesOn b clock last (Purges bound) bytes = Unit {0}
-GoesOn b clock last Broken bytes = ⊥
+abbrev pub LeadsOn : List ℕ → ℕ → Option (List ℕ) → Field → List ℕ → Type 0
+LeadsOn b clock last (Clock n) bytes = Unit {0}
+LeadsOn b clock last (Frame len) bytes = OneFrame b clock bytes len
+LeadsOn b clock last (Reply len) bytes = last ≡ some bytes
+LeadsOn b clock last (Purges bound) bytes = Unit {0}
+LeadsOn b clock last Broken bytes = ⊥
 
-abbrev pub AllGoOn : List ℕ → ℕ → Option (List ℕ) → List Placed → Type 0
-AllGoOn b clock last [] = Unit {0}
-AllGoOn b clock last (p ∷ ps) =
-    GoesOn b clock last (p .field) (p .bytes)
-    × AllGoOn (memoryAfter b (callBy clock (p .field) (p .bytes))) (clockBy clock (p .field)) (lastBy b clock last (p .field) (p .bytes)) ps
+abbrev pub AllLeadOn : List ℕ → ℕ → Option (List ℕ) → List Placed → Type 0
+AllLeadOn b clock last [] = Unit {0}
+AllLeadOn b clock last (p ∷ ps) =
+    LeadsOn b clock last (p .field) (p .bytes)
+    × AllLeadOn (memoryAfter b (callBy clock (p .field) (p .bytes))) (clockBy clock (p .field)) (lastBy b clock last (p .field) (p .bytes)) ps
 
 -- the field that ends it: an expected reply that isn't the last frame's, or what stops it
 abbrev pub DiffersAt : List ℕ → ℕ → Option (List ℕ) → Field → List ℕ → Type 0
@@ -94,7 +94,7 @@ StopsAt b clock last (Frame len) bytes = OneFrame b clock bytes len → ⊥
 StopsAt b clock last (Purges bound) bytes = ⊥
 StopsAt b clock last Broken bytes = Unit {0}
 
--- where a replay of these fields ended, after some that go on
+-- where a replay of these fields ended, after some that lead on
 abbrev pub EndsAt : List ℕ → ℕ → Option (List ℕ) → ℕ → List Placed → Ending → Type 0
 EndsAt b clock last n [] (Replayed m) = m ≡ n
 EndsAt b clock last n [] (Differs at) = ⊥
@@ -105,7 +105,7 @@ EndsAt b clock last n (p ∷ ps) (Differs at) = (at ≡ p .at) × DiffersAt b cl
 EndsAt b clock last n (p ∷ ps) (Stopped at) = (at ≡ p .at) × StopsAt b clock last (p .field) (p .bytes)
 EndsAt b clock last n (p ∷ ps) Damaged = ⊥
 
--- after fields that go on: the clock, and the last frame's reply
+-- after fields that lead on: the clock, and the last frame's reply
 abbrev pub clockPast : ℕ → List Placed → ℕ
 clockPast clock [] = clock
 clockPast clock (p ∷ ps) = clockPast (clockBy clock (p .field)) ps
@@ -122,7 +122,7 @@ pub record ReplaysAs (b : List ℕ) (clock : ℕ) (last : Option (List ℕ)) (n 
   pub rest : List Placed
   pub split : fields ≡ done ++ rest
   -- each of their frames was served with outcome 0, and each reply that they expect was sent
-  pub goes : AllGoOn b clock last done
+  pub goes : AllLeadOn b clock last done
   -- "what was replayed before is the same as serving those frames and purging one by one"
   pub table : e .table ≡ memoryAfter b (callsOf clock done)
   pub ends : EndsAt (memoryAfter b (callsOf clock done)) (clockPast clock done) (lastAfter b clock last done) (n + framesIn done) rest (e .answer)
@@ -132,7 +132,7 @@ pub record ReplaysAs (b : List ℕ) (clock : ℕ) (last : Option (List ℕ)) (n 
 abbrev pub ReplayServes : Type 0
 ReplayServes =
     (b trace : List ℕ) (mode vbucket : ℕ) → length b ≡ 42000 → openingOf trace ≡ Opened mode vbucket
-    → ReplaysAs (tableBytes (fresh 32 1 mode vbucket)) 0 none 0 (fieldsOf trace) (replayed b trace)
+    → ReplaysAs (tableBytes (fresh 32 1 mode vbucket)) 0 none 0 (fieldsIn trace) (replayed b trace)
 
 -- the reply that is compared is the one that serving puts at the start of the reply area
 abbrev pub SentIsReply : Type 0

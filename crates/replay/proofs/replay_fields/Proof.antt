@@ -4,7 +4,7 @@ use Prim.Native.Nat.{_-_, _≤_}
 use mathlib.Core.Path.{_≡_, refl, sym, ap, _∙_}
 use mathlib.Core.List.{[]}
 use lib.ListN.{length, drop, length-drop}
-use Rattle.trace.specs.Trace.{fieldsFrom, fieldsOf}
+use Rattle.trace.specs.Trace.{fieldsFrom, fieldsIn}
 use Rattle.replay.specs.Replay.{walked}
 use Rattle.replay.specs.Turns.{voyageOf}
 use Rattle.replay.proofs.Walking.{turned, turn-inside, walk-end, walk-on, walk-ends}
@@ -14,7 +14,7 @@ use Rattle.replay.proofs.replay_fields.Tie as tie
 abbrev Inv-loop : tie.InvT-loop
 Inv-loop b₀ trace out₀ p₀ b out p =
     (length b ≡ length b₀) × ((length out ≡ length out₀) × ((p .at ≤ length trace) × ((p .frames ≤ p .at)
-    × (walked (voyageOf b out p) (fieldsFrom (p .at) (drop (p .at) trace)) ≡ walked (record { table = b₀; clock = 0; frames = 0; reply = [] }) (fieldsOf trace)))))
+    × (walked (voyageOf b out p) (fieldsFrom (p .at) (drop (p .at) trace)) ≡ walked (record { table = b₀; clock = 0; frames = 0; reply = [] }) (fieldsIn trace)))))
 
 abbrev μ-loop : tie.MeasureT-loop
 μ-loop b₀ trace out₀ p₀ b out p = length trace - p .at

@@ -45,7 +45,8 @@ returns-2 c =
     let a = c10 .args in
     let out = now (a .out) in
     let whole : c6 .put-be .last .0 ≡ bytesOf 4 (a .clock) = c6 .put-be .ensures ∙ all (a .clock) in
-    c .before .before .put-field .ensures ∙ ap (λ (xs : List ℕ). written out 0 (fieldBytes 1 xs)) whole ∙ ap (written out 0) (sym (clock-other (a .last) (a .clock) (ne-eqb _ _ (c6 .before .before .if1 .left))))
+    c .before .before .put-field .ensures ∙ ap (λ (xs : List ℕ). written out 0 (fieldBytes 1 xs)) whole ∙ ap (written out 0)
+    (sym (clock-other (a .last) (a .clock) (ne-eqb _ _ (c6 .before .before .if1 .left))))
 
 pub put-clock-spec : {M : Type 1} → statement M
 put-clock-spec =

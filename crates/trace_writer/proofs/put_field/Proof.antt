@@ -56,7 +56,8 @@ returns-2 c =
     let a = c16 .args in
     let held = now (a .held) in
     then-two _ _ _ _ (a .at) (a .at + 1) (a .at + 3) (bytesOf 1 (a .tag)) (bytesOf 2 (length held)) held (c10 .put-be .ensures) (c6 .put-be2 .ensures) (c .before .before .put-bytes .ensures)
-    (omega (arith, length-bytes 1 (a .tag))) (omega (arith, length-bytes 2 (length held))) (has-room _ (a .at) 3 (length held) _ (c10 .before .before .before .fits2 .ensures) (c10 .before .before .if1 .left))
+    (omega (arith, length-bytes 1 (a .tag))) (omega (arith, length-bytes 2 (length held)))
+    (has-room _ (a .at) 3 (length held) _ (c10 .before .before .before .fits2 .ensures) (c10 .before .before .if1 .left))
 
 pub put-field-spec : {M : Type 1} → statement M
 put-field-spec =

@@ -27,7 +27,8 @@ unfolding openingBytes
 returns-2 c =
     let c6 = c .before .before .before .before .before .before in
     let c10 = c6 .before .before .before .before in
-    let a = c10 .args in then _ _ _ 0 1 (bytesOf 1 (a .mode)) (bytesOf 2 (a .vbucket)) (c6 .put-be .ensures) (c .before .before .put-be2 .ensures) (omega (arith, length-bytes 1 (a .mode))) (omega (arith, length-bytes 2 (a .vbucket)))
+    let a = c10 .args in then _ _ _ 0 1 (bytesOf 1 (a .mode)) (bytesOf 2 (a .vbucket)) (c6 .put-be .ensures) (c .before .before .put-be2 .ensures)
+    (omega (arith, length-bytes 1 (a .mode))) (omega (arith, length-bytes 2 (a .vbucket)))
 
 pub put-opening-spec : {M : Type 1} → statement M
 put-opening-spec =

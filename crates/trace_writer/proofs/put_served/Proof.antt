@@ -25,7 +25,8 @@ returns c =
     let c6 = c .before .before .before .before .before .before in
     let a = c6 .args in
     let n = c .before .before .clock-size .result in
-    left-out (now (a .out)) (a .last) (a .clock) (now (a .frame)) (now (a .reply)) n (c .before .before .clock-size .ensures .0) (no-room _ (n + 3 + 3) _ _ _ (c .before .fits2 .ensures) (c .if1 .taken))
+    left-out (now (a .out)) (a .last) (a .clock) (now (a .frame)) (now (a .reply)) n (c .before .before .clock-size .ensures .0)
+    (no-room _ (n + 3 + 3) _ _ _ (c .before .fits2 .ensures) (c .if1 .taken))
 
 add-end : tie.Need-add-end
 add-end c = record { fits = omega (arith, has-room _ (c .before .before .clock-size .result + 3 + 3) _ _ _ (c .before .fits2 .ensures) (c .if1 .left)) }
@@ -64,7 +65,8 @@ returns-2 c =
     let a = c18 .args in
     let n = c14 .clock-size .result in
     put-in (now (a .out)) (a .last) (a .clock) (now (a .frame)) (now (a .reply)) n (c14 .clock-size .ensures .0) _ _ _
-    (has-room _ (n + 3 + 3) _ _ _ (c10 .before .before .before .fits2 .ensures) (c10 .before .before .if1 .left)) (c10 .put-clock .ensures) (c6 .put-field .ensures) (c .before .before .put-field2 .ensures)
+    (has-room _ (n + 3 + 3) _ _ _ (c10 .before .before .before .fits2 .ensures) (c10 .before .before .if1 .left)) (c10 .put-clock .ensures) (c6 .put-field .ensures)
+    (c .before .before .put-field2 .ensures)
 
 pub put-served-spec : {M : Type 1} → statement M
 put-served-spec =

@@ -22,7 +22,8 @@ returns c =
     let c4 = c .before .before .before .before in
     let c8 = c4 .before .before .before .before in
     let a = c8 .args in
-    is-full (a .r) (a .clock) (now (a .frame)) (now (a .reply)) (c8 .pre .0) (c8 .pre .1) (c4 .put-served .result) (c .before .before .minus .result) (c4 .put-served .ensures .0) (c .before .before .minus .ensures)
+    is-full (a .r) (a .clock) (now (a .frame)) (now (a .reply)) (c8 .pre .0) (c8 .pre .1) (c4 .put-served .result) (c .before .before .minus .result) (c4 .put-served .ensures .0)
+    (c .before .before .minus .ensures)
     _ (c .before .if1 .taken) (c .stopped .ensures)
 
 slice-aggregate-part : tie.Need-slice-aggregate-part
@@ -39,14 +40,16 @@ grown-requires c κs =
     let c4 = c .before .before .before .before in
     let c11 = c4 .before .before .before .before .before .before .before in
     let a = c11 .args in
-    inside (a .r) (a .clock) (now (a .frame)) (now (a .reply)) (c11 .pre .0) (c11 .pre .1) (c4 .before .before .before .put-served .result) (c4 .before .minus .result) (c4 .before .before .before .put-served .ensures .0) (c4 .before .minus .ensures) (c4 .if1 .left)
+    inside (a .r) (a .clock) (now (a .frame)) (now (a .reply)) (c11 .pre .0) (c11 .pre .1) (c4 .before .before .before .put-served .result) (c4 .before .minus .result)
+    (c4 .before .before .before .put-served .ensures .0) (c4 .before .minus .ensures) (c4 .if1 .left)
 
 returns-2 : tie.Need-returns-2
 returns-2 c =
     let c5 = c .before .before .before .before .before in
     let c12 = c5 .before .before .before .before .before .before .before in
     let a = c12 .args in
-    goes-on (a .r) (a .clock) (now (a .frame)) (now (a .reply)) (c12 .pre .0) (c12 .pre .1) (c5 .before .before .before .put-served .result) (c5 .before .minus .result) (c5 .before .before .before .put-served .ensures .0) (c5 .before .minus .ensures)
+    goes-on (a .r) (a .clock) (now (a .frame)) (now (a .reply)) (c12 .pre .0) (c12 .pre .1) (c5 .before .before .before .put-served .result) (c5 .before .minus .result)
+    (c5 .before .before .before .put-served .ensures .0) (c5 .before .minus .ensures)
     _ (c .before .write-all .result) (c5 .if1 .left) (c .grown .ensures)
 
 pub record-spec : {M : Type 1} → statement M

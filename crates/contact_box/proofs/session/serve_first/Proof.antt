@@ -76,8 +76,10 @@ record-answer-requires c κs =
     let c13 = c9 .before .before .before .before in
     let c17 = c13 .before .before .before .before in
     let a = c17 .before .args in
-    short (now (a .table)) (a .clock) (now (c13 .part .result)) (c9 .serve-one .last .1 .1 .1 .0) (now (c9 .before .before .before .first-frame .result)) (now (c .before .part2 .result)) (length (now (a .replies))) (c .before .before .length-of .result) (c9 .serve-one .result)
-    (c9 .serve-one .ensures .answer ∙ ap (λ (ys : List ℕ). served (now (a .table)) (a .clock) ys (length (now (a .replies)))) (c9 .before .before .before .first-frame .ensures)) (λ k. c17 .slice-known .given k .fits)
+    short (now (a .table)) (a .clock) (now (c13 .part .result)) (c9 .serve-one .last .1 .1 .1 .0) (now (c9 .before .before .before .first-frame .result))
+    (now (c .before .part2 .result)) (length (now (a .replies))) (c .before .before .length-of .result) (c9 .serve-one .result)
+    (c9 .serve-one .ensures .answer ∙ ap (λ (ys : List ℕ). served (now (a .table)) (a .clock) ys (length (now (a .replies)))) (c9 .before .before .before .first-frame .ensures))
+    (λ k. c17 .slice-known .given k .fits)
     (c9 .before .before .before .first-frame .ensures) (c .before .before .length-of .ensures) (c .before .part2 .ensures)
 
 keep-requires : tie.Need-keep-requires
@@ -106,9 +108,12 @@ returns c =
     let c20 = c16 .before .before .before .before in
     let c25 = c20 .before .before .before .before .before in
     let a = c25 .args in
-    goes-one (a .clock) (a .held) (now (a .table)) (c16 .serve-one .last .0) (now (a .received)) (c4 .keep .last .0) (now (c20 .part .result)) (now (a .replies)) (c16 .serve-one .last .1 .1 .1 .0)
-    (a .t) (c .before .counted .result) (a .r) (c4 .before .before .record-answer .result) (c16 .serve-one .result) (c8 .before .before .before .used-of .result) (c8 .before .length-of .result) (c4 .keep .result) (now (c16 .before .before .before .first-frame .result)) (now (c8 .part2 .result))
-    (c .next-after .result) (c4 .before .before .before .write-all .result) (c25 .pre) (c20 .part .ensures) (c16 .before .before .before .first-frame .ensures) (c16 .serve-one .ensures) (c8 .before .before .before .used-of .ensures) (c8 .before .length-of .ensures) (c8 .part2 .ensures)
+    goes-one (a .clock) (a .held) (now (a .table)) (c16 .serve-one .last .0) (now (a .received)) (c4 .keep .last .0) (now (c20 .part .result)) (now (a .replies))
+    (c16 .serve-one .last .1 .1 .1 .0)
+    (a .t) (c .before .counted .result) (a .r) (c4 .before .before .record-answer .result) (c16 .serve-one .result) (c8 .before .before .before .used-of .result)
+    (c8 .before .length-of .result) (c4 .keep .result) (now (c16 .before .before .before .first-frame .result)) (now (c8 .part2 .result))
+    (c .next-after .result) (c4 .before .before .before .write-all .result) (c25 .pre) (c20 .part .ensures) (c16 .before .before .before .first-frame .ensures) (c16 .serve-one .ensures)
+    (c8 .before .before .before .used-of .ensures) (c8 .before .length-of .ensures) (c8 .part2 .ensures)
     (c4 .before .before .record-answer .ensures) (c4 .keep .ensures) (c .before .counted .ensures) (c .next-after .ensures)
 
 pub serve-first-spec : {M : Type 1} → statement M
