@@ -11,18 +11,20 @@ use borrow.Author.Tests.{eqb-true, ne-eqb, eq-eqb}
 use Rattle.octets.specs.Compare.{same}
 use Rattle.octets.proofs.Choices.{cases}
 use Rattle.octets.proofs.Tests.{same-true, same-refl}
+use Rattle.rows.specs.Table.{tableBytes, fresh}
 use Rattle.serving.specs.declared.Served.{Served}
 use Rattle.serving.specs.declared.Served.the-variants.{Refused, Done}
 use Rattle.serving.specs.Serve.{served, servedTable}
+use Rattle.trace.specs.declared.Opening.the-variants.{Opened}
 use Rattle.trace.specs.declared.Field.{Field}
 use Rattle.trace.specs.declared.Field.the-variants.{Clock, Frame, Reply, Purge as Purges, Broken}
-use Rattle.trace.specs.Trace.{Placed, fieldsIn}
+use Rattle.trace.specs.Trace.{Placed, openingOf, fieldsIn}
 use Rattle.replay.specs.declared.Ending.{Ending}
 use Rattle.replay.specs.declared.Ending.the-variants.{Differs, Stopped}
 use Rattle.replay.specs.Replay.{Voyage, withClock, withFrame, withPurge, isOneFrame, On, End, onField, onTurn, After, walked, setOut, replayed}
 use Rattle.replay.proofs.Frames.{was-sent}
 use Rattle.promises.specs.Clock.{TableCall, memoryAfter, tableCalled}
-use Rattle.voyages.specs.Serving.{clockBy, callBy, callsOf, framesBy, framesIn, lastBy, OneFrame, LeadsOn, EndsAt, clockPast, lastAfter, ReplaysAs, ReplayServes, SentIsReply}
+use Rattle.voyages.specs.Serving.{clockBy, callBy, callsOf, framesBy, framesIn, lastBy, OneFrame, LeadsOn, EndsAt, clockPast, lastAfter, ReplaysAs, SentIsReply}
 
 after-both : (b : List ℕ) (xs ys : List TableCall) → memoryAfter b (xs ++ ys) ≡ memoryAfter (memoryAfter b xs) ys
 after-both b [] ys = refl
@@ -113,9 +115,11 @@ replays : (v : Voyage) (last : Option (List ℕ)) (ps : List Placed) → Agrees 
 replays v last [] a = record { done = []; rest = []; split = refl; goes = tt; table = refl; ends = omega arith }
 replays v last (p ∷ ps) a = turn v last a (p .at) (p .bytes) ps (λ w next b. replays w next ps b) (p .field)
 
-pub replay-serves : ReplayServes
+-- a trace that has opened
+pub opened-serves : (b trace : List ℕ) (mode vbucket : ℕ) → length b ≡ 42000 → openingOf trace ≡ Opened mode vbucket
+    → ReplaysAs (tableBytes (fresh 32 1 mode vbucket)) 0 none 0 (fieldsIn trace) (replayed b trace)
 unfolding replayed
-replay-serves b trace mode vbucket n e =
+opened-serves b trace mode vbucket n e =
     rw (eq-eqb (length b) 42000 n, e) (replays (setOut mode vbucket) none (fieldsIn trace) refl)
 
 pub sent-is-reply : SentIsReply

@@ -1,21 +1,18 @@
--- Order 6: "what was replayed before is the same as serving those frames and purging one by one." Over the list of calls that a trace spells, each with its clock. Proved in proofs/Serving.antt.
+-- Order 6: "what was replayed before is the same as serving those frames and purging one by one." Over the list of calls that a trace spells, each with its clock. `Spelling.antt` says it of every trace. Proved in proofs/Serving.antt.
 use Prim.Native.Nat.{ℕ, _+_}
 use mathlib.Core.Path.{_≡_}
 use mathlib.Core.List.{List, [], _∷_, _++_}
-use mathlib.Core.Logic.{_⊎_}
 use mathlib.Core.Option.{Option, none, some}
 use lib.ListN.{length, replicate}
 use Rattle.octets.specs.Parts.{Bytes, part}
-use Rattle.rows.specs.Table.{tableBytes, fresh}
 use Rattle.serving.specs.declared.Served.the-variants.{Done}
 use Rattle.serving.specs.Serve.{served, servedReply}
-use Rattle.trace.specs.declared.Opening.the-variants.{Opened}
 use Rattle.trace.specs.declared.Field.{Field}
 use Rattle.trace.specs.declared.Field.the-variants.{Clock, Frame, Reply, Purge as Purges, Broken}
-use Rattle.trace.specs.Trace.{Placed, openingOf, fieldsIn}
+use Rattle.trace.specs.Trace.{Placed}
 use Rattle.replay.specs.declared.Ending.{Ending}
 use Rattle.replay.specs.declared.Ending.the-variants.{Damaged, Differs, Stopped, Replayed}
-use Rattle.replay.specs.Replay.{After, sentReply, replayed}
+use Rattle.replay.specs.Replay.{After, sentReply}
 use Rattle.promises.specs.Clock.{TableCall, Serve, Purge, memoryAfter}
 
 -- ---- the calls that fields spell
@@ -126,13 +123,6 @@ pub record ReplaysAs (b : List ℕ) (clock : ℕ) (last : Option (List ℕ)) (n 
   -- "what was replayed before is the same as serving those frames and purging one by one"
   pub table : e .table ≡ memoryAfter b (callsOf clock done)
   pub ends : EndsAt (memoryAfter b (callsOf clock done)) (clockPast clock done) (lastAfter b clock last done) (n + framesIn done) rest (e .answer)
-
--- "on a fresh active table of 32 rows"; "The clock is 0 until a tag 1."
--- it rules out a replay that leaves a purge out, that takes another clock, that serves a frame with bytes behind it, or that compares with an earlier frame's reply
-abbrev pub ReplayServes : Type 0
-ReplayServes =
-    (b trace : List ℕ) (mode vbucket : ℕ) → length b ≡ 42000 → openingOf trace ≡ Opened mode vbucket
-    → ReplaysAs (tableBytes (fresh 32 1 mode vbucket)) 0 none 0 (fieldsIn trace) (replayed b trace)
 
 -- the reply that is compared is the one that serving puts at the start of the reply area
 abbrev pub SentIsReply : Type 0
