@@ -14,7 +14,7 @@ use Rattle.trace.specs.declared.Field.{Field}
 use Rattle.trace.specs.declared.Field.the-variants.{Clock, Frame, Reply, Purge, Broken}
 use Rattle.trace.specs.Trace.{Placed, openingOf, fieldsIn}
 use Rattle.replay.specs.declared.Ending.the-variants.{Differs, Stopped}
-use Rattle.replay.specs.Replay.{Voyage, Turn, On, End, After, isOneFrame, withClock, withFrame, withPurge, onField, onTurn, walked, begun, onOpening, replayed, replayOutcome}
+use Rattle.replay.specs.Replay.{Voyage, Turn, On, End, After, isOneFrame, withClock, withFrame, withPurge, onField, onTurn, walked, setOut, onOpening, replayed, replayOutcome}
 
 abbrev Zero : After → Type 0
 Zero a = replayOutcome (a .answer) ≡ 0
@@ -39,7 +39,7 @@ walked-zero v (p ∷ ps) = turn-zero (p .at) v (p .field) (p .bytes) (λ w. walk
 
 opening-zero : (b trace : List ℕ) (o : Opening) → Zero (onOpening b trace o)
 opening-zero b trace NotOpened = refl
-opening-zero b trace (Opened mode vbucket) = walked-zero (begun mode vbucket) (fieldsIn trace)
+opening-zero b trace (Opened mode vbucket) = walked-zero (setOut mode vbucket) (fieldsIn trace)
 
 pub answers : (b trace : List ℕ) → length b ≡ 42000 → Zero (replayed b trace)
 unfolding replayed
