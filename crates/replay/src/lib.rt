@@ -8,6 +8,7 @@ ghost use Rattle.header.specs.Header.{headerOf};
 ghost use Rattle.octets.specs.Compare.{same};
 ghost use Rattle.replay.specs.Replay.{replayed, walked};
 ghost use Rattle.replay.specs.Turns.{passed, replyStep, FrameTurns, Turns, Walks};
+use run::Cursor;
 use serving::Served;
 use trace::FRONT;
 use trace::Field;
@@ -56,12 +57,12 @@ fn passed(p: Progress, n: usize) -> Progress
     }
 }
 
-// Whether the bytes are as many as the frame takes that they begin with.
+// Whether the bytes are as many as the frame takes that they begin with. Its body length stands at 8; reading the whole header here
+// would make it a call of its own in every serving.
 fn is_one(frame: &[u8]) -> bool
     ensures { λ r. ⌜ r ≡ eqb (24 + headerOf (now (frame .entry)) .body) (length (now (frame .entry))) ⌝ }
 {
-    let layout = header::layout_of(header::read(frame));
-    layout.end == frame.len()
+    24 + octets::be32(frame, 8) as usize == frame.len()
 }
 
 // Serves a field's frame. Where it is more than one frame, or none that can be served, nothing is served and the replay ends.
@@ -72,7 +73,10 @@ fn serve_field(b: &mut [u8], frame: &[u8], out: &mut [u8], p: Progress) -> Step
     if !is_one(frame) {
         return Step::Ends(Ending::Stopped(p.at));
     }
-    match serve::serve_one(b, p.clock, frame, out) {
+    let start = Cursor { at: 0 };
+    let moved = start.step(b, p.clock, frame, out);
+    let served = moved.served;
+    match served {
         Served::Refused(_, _) => Step::Ends(Ending::Stopped(p.at)),
         Served::Done(_, used, len) => Step::Goes(Progress {
             at: p.at + FRONT + used,
@@ -91,7 +95,7 @@ fn compare_reply(expected: &[u8], sent: &[u8], p: Progress) -> Step
     if p.frames == 0 {
         return Step::Ends(Ending::Stopped(p.at));
     }
-    if !compare::same(expected, sent) {
+    if !compare::equal(expected, sent) {
         return Step::Ends(Ending::Differs(p.at));
     }
     Step::Goes(passed(p, expected.len()))

@@ -15,20 +15,20 @@ returns c =
     frame-cut (a .b .now) (a .frame .now) (a .out .now) (a .p) (c .before .before .before .before .before .pre .0) (λ k. c .before .before .before .before .slice-known .given k .fits)
     (sym (c .before .is-one .ensures) ∙ not-true _ (c .if1 .taken))
 
-serve-one-requires : tie.Need-serve-one-requires
-serve-one-requires c κs = tt
+step-requires : tie.Need-step-requires
+step-requires c κs = tt
 
 enum-told : tie.Need-enum-told
 enum-told c = search needs
 
-enum-known-used : tie.Need-enum-known-used
-enum-known-used c = search needs
+enum-known-served : tie.Need-enum-known-served
+enum-known-served c = search needs
 
-add-t17 : tie.Need-add-t17
-add-t17 c = search needs
+add-t19 : tie.Need-add-t19
+add-t19 c = search needs
 
-add-t18 : tie.Need-add-t18
-add-t18 c =
+add-t20 : tie.Need-add-t20
+add-t20 c =
     let c8 = c .before .before .before .before .before .before .before .before in
     let c11 = c8 .before .before .before in
     let c12 = c11 .before in
@@ -36,11 +36,11 @@ add-t18 c =
     let c16 = c15 .before in
     let a = c16 .args in
     let u = frame-used (a .b .now) (a .frame .now) (a .out .now) (a .p) (c16 .pre .0) (λ k. c15 .slice-known .given k .fits)
-    _ _ _ (c8 .serve-one .ensures) _ _ _ (sym (c12 .is-one .ensures) ∙ not-false _ (c11 .if1 .left)) (c .before .before .used .given .1) in
+    _ _ _ (c8 .step .ensures .1) _ _ _ (sym (c12 .is-one .ensures) ∙ not-false _ (c11 .if1 .left)) (c .before .before .served .given .1) in
     omega (arith, u, c16 .pre .1 .1)
 
-add-t19 : tie.Need-add-t19
-add-t19 c = search needs
+add-t21 : tie.Need-add-t21
+add-t21 c = search needs
 
 same-length : tie.Need-same-length
 same-length c = search needs
@@ -55,7 +55,7 @@ returns-2 c =
     let c14 = c13 .before in
     let a = c14 .args in
     frame-refused (a .b .now) (a .frame .now) (a .out .now) (a .p) (c14 .pre .0) (λ k. c13 .slice-known .given k .fits)
-    _ _ _ (c6 .serve-one .ensures) _ _ (c .enum-told .given .1)
+    _ _ _ (c6 .step .ensures .1) _ _ (c .enum-told .given .1)
 
 same-length-3 : tie.Need-same-length-3
 same-length-3 c = search needs
@@ -72,7 +72,7 @@ returns-3 c =
     let c17 = c16 .before in
     let a = c17 .args in
     frame-served (a .b .now) (a .frame .now) (a .out .now) (a .p) (c17 .pre .0) (λ k. c16 .slice-known .given k .fits)
-    _ _ _ (c9 .serve-one .ensures) _ _ _ (sym (c13 .is-one .ensures) ∙ not-false _ (c12 .if1 .left)) (c .before .before .before .used .given .1)
+    _ _ _ (c9 .step .ensures .1) _ _ _ (sym (c13 .is-one .ensures) ∙ not-false _ (c12 .if1 .left)) (c .before .before .before .served .given .1)
 
 pub serve-field-spec : {M : Type 1} → statement M
 serve-field-spec =
@@ -80,12 +80,12 @@ serve-field-spec =
     (tie.spec
     is-one-requires
     returns
-    serve-one-requires
+    step-requires
     enum-told
-    enum-known-used
-    add-t17
-    add-t18
+    enum-known-served
     add-t19
+    add-t20
+    add-t21
     same-length
     same-length-2
     returns-2
