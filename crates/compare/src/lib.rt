@@ -86,7 +86,7 @@ pub fn same(s: &[u8], t: &[u8]) -> bool
 pub fn equal(s: &[u8], t: &[u8]) -> bool
     ensures { λ r. ⌜ r ≡ same (now (s .entry)) (now (t .entry)) ⌝ }
 {
-    if s.len() != t.len() {
+    if t.len() != s.len() {
         return false;
     }
     all_same(s, t)

@@ -5,7 +5,7 @@ use Rattle.compare.proofs.equal.Statement.{statement}
 use Rattle.compare.proofs.equal.Tie as tie
 
 returns : tie.Need-returns
-returns c = sym (same-len _ _ (c .if1 .taken))
+returns c = sym (same-len _ _ (λ e. c .if1 .taken (sym e)))
 
 all-same-requires : tie.Need-all-same-requires
 all-same-requires c κs = search needs
