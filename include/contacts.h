@@ -3,10 +3,11 @@
  *
  * Link with libcontacts.a, which is for x86-64 Linux. A table is plain memory of yours: the library makes it, serves
  * requests on it, reads and purges it, and keeps nothing between calls. It allocates nothing, does no input or output,
- * and takes less than 4 KiB of stack (measured).
+ * and takes less than 4 KiB of stack, contacts_replay less than 6 KiB (measured).
  *
  * Every call is proved to return and to meet a contract that fixes its answer and every lent byte, whatever numbers and
- * bytes you pass. This header says the contracts in words. docs/LAYOUT.md has the layout of tables, frames and answers.
+ * bytes you pass. This header says the contracts in words. docs/LAYOUT.md has the layout of tables, frames, traces and
+ * answers.
  *
  * What you owe, in every call:
  *
@@ -203,6 +204,25 @@ extern "C" {
 
 /* The extended meta: this version byte, then fields of one-byte id (1 or 2), two-byte length and that many bytes. */
 #define CONTACTS_EXTENDED_META_VERSION 1
+
+/* ---- Traces: big-endian numbers at these offsets --------------------------------------------------------------- */
+
+#define CONTACTS_TRACE_MAX 65536            /* bytes; a longer trace is stopped at 0 */
+
+#define CONTACTS_TRACE_AT_MODE 0            /* 1 byte: CONTACTS_MODE_REVISION or CONTACTS_MODE_LAST_WRITE_WINS */
+#define CONTACTS_TRACE_AT_VBUCKET 1         /* 2 bytes */
+#define CONTACTS_TRACE_AT_FIELDS 3          /* fields, one after another to the trace's end */
+
+/* Counted from the field's first byte. */
+#define CONTACTS_FIELD_AT_TAG 0             /* 1 byte */
+#define CONTACTS_FIELD_AT_LENGTH 1          /* 2 bytes: of the value */
+#define CONTACTS_FIELD_AT_VALUE 3
+
+/* Tags, with what the value is. */
+#define CONTACTS_TAG_CLOCK 1                /* 4 bytes: the clock of what follows; it is 0 until the first */
+#define CONTACTS_TAG_FRAME 2                /* one request frame, and nothing after it */
+#define CONTACTS_TAG_REPLY 3                /* the reply expected for the frame before; empty for a silent frame */
+#define CONTACTS_TAG_BOUND 4                /* 8 bytes: the bound of a purge */
 
 /* ---- The clock ------------------------------------------------------------------------------------------------- */
 
@@ -487,6 +507,53 @@ contacts_written contacts_write_request(uint8_t opcode, uint8_t datatype, uint16
                                         uint64_t cas, const uint8_t *extras, size_t extras_len, const uint8_t *key,
                                         size_t key_len, const uint8_t *value, size_t value_len, uint8_t *out,
                                         size_t out_len);
+
+/* ---- Replaying a voyage ---------------------------------------------------------------------------------------- */
+
+/* A trace is what a boat was sent and what it answered, to be served once more on shore, on a fresh table. */
+#define CONTACTS_REPLAY_ROWS 32       /* the rows of that table */
+
+/* How a replay ends. */
+#define CONTACTS_REPLAY_DIFFERS 1     /* at a reply that isn't the last frame's */
+#define CONTACTS_REPLAY_STOPPED 2     /* at a field that can't be replayed, or at the opening */
+#define CONTACTS_REPLAY_REPLAYED 3    /* at the end of the trace */
+
+typedef struct contacts_replayed {
+    uint8_t outcome;
+    uint8_t end;     /* CONTACTS_REPLAY_DIFFERS .. CONTACTS_REPLAY_REPLAYED */
+    size_t place;    /* where the field's tag stands that ended the replay, counted from the trace's first byte */
+    size_t frames;   /* frames served */
+} contacts_replayed;
+
+/*
+ * Replays a trace: makes a fresh active table of 32 rows in the opening's mode and for its vbucket, and takes the fields
+ * in their order. A frame is served as contacts_serve does, a bound is purged by as contacts_purge does, each with the
+ * clock of the last clock field before it, 0 without one; the later clock decides. A reply is compared with the one that
+ * the last frame was given, also where other replies, clocks or purges stand between. A frame need not be followed by its
+ * reply. Keeps no tally.
+ *
+ *   table       memory of CONTACTS_TABLE_SIZE(CONTACTS_REPLAY_ROWS) bytes; what stood in it doesn't matter
+ *   trace       any bytes
+ *
+ * Answers, the first that applies:
+ *   outcome 5                     table_len isn't 42,000; all else is 0
+ *   end STOPPED, place 0          the trace is over 65,536 bytes or has no opening: under 3 bytes, or a mode that isn't 1
+ *                                 or 2
+ *   then, at the first such field, with the place of its tag:
+ *   end STOPPED                   it is cut: fewer than 3 bytes are left, or fewer than its length says; it has a tag that
+ *                                 isn't above; a clock isn't 4 bytes, a bound not 8; a frame field isn't exactly one frame,
+ *                                 to which contacts_serve has outcome 0, whatever its status; a reply has no frame before
+ *   end DIFFERS                   it is a reply that isn't the last frame's, in length or in a byte. One of length 0 is
+ *                                 right for a silent frame
+ *   and without one:
+ *   end REPLAYED                  all is replayed; frames has the number of frame fields
+ * What an answer doesn't have is 0.
+ *
+ * With outcome 5, or stopped at 0, the memory is unchanged. Otherwise it is the table as the voyage left it: as the frames
+ * and the purges before the end, served and purged one by one, leave it. A field that stops the replay changes nothing,
+ * also where it holds a whole frame and more bytes.
+ */
+contacts_replayed contacts_replay(uint8_t *table, size_t table_len, const uint8_t *trace, size_t trace_len);
 
 #ifdef __cplusplus
 }

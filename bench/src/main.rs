@@ -7,11 +7,13 @@ mod plot;
 mod race;
 mod report;
 mod sides;
+mod voyages;
 
 use cases::{Case, Table};
 use report::Figures;
 use std::error::Error;
 use std::{env, fs};
+use voyages::Voyage;
 
 const PAGE: &str = concat!(env!("CARGO_MANIFEST_DIR"), "/../docs/BENCHMARK.md");
 const PLOT: &str = concat!(env!("CARGO_MANIFEST_DIR"), "/../docs/benchmark.svg");
@@ -28,14 +30,18 @@ fn main() -> Result<(), Box<dyn Error>> {
     let part = format!("{machine} Best of {rounds} rounds.\n\n{}", figures.markdown());
     fs::write(PAGE, with_figures(&page, &part).ok_or("docs/BENCHMARK.md has no place for the figures")?)?;
     fs::write(PLOT, plot::plot(&figures.serving))?;
-    println!("{}\n{}", figures.on_serving(), figures.on_damage());
+    println!("{}\n{}\n{}", figures.on_serving(), figures.on_damage(), figures.on_replays());
     figures.within_limit().then_some(()).ok_or("the damage test takes too long".into())
 }
 
 fn measure(rounds: usize) -> Figures {
     let serving = Case::all().into_iter().map(|case| (case, sides::calling(&case, rounds)));
     let damage = Table::damage_tests().into_iter().map(|table| (table, sides::damage_test(&table, rounds)));
-    Figures { serving: serving.collect(), damage: damage.collect() }
+    let replays = Voyage::all().into_iter().map(|voyage| {
+        let times = voyage.race(rounds);
+        (voyage, times)
+    });
+    Figures { serving: serving.collect(), damage: damage.collect(), replays: replays.collect() }
 }
 
 /// The page with its figures replaced.

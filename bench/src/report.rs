@@ -2,6 +2,7 @@
 
 use crate::cases::{Case, Fill, Table};
 use crate::race::Times;
+use crate::voyages::{ReplayTimes, Voyage};
 
 /// The damage test on 256 free rows is promised to take at most this many plain passes.
 const DAMAGE_LIMIT: f64 = 4.0;
@@ -9,6 +10,7 @@ const DAMAGE_LIMIT: f64 = 4.0;
 pub struct Figures {
     pub serving: Vec<(Case, Times)>,
     pub damage: Vec<(Table, Times)>,
+    pub replays: Vec<(Voyage, ReplayTimes)>,
 }
 
 impl Figures {
@@ -38,9 +40,16 @@ impl Figures {
         )
     }
 
+    pub fn on_replays(&self) -> String {
+        let shares = self.replays.iter().map(|(_, times)| times.over_one_by_one());
+        let most = shares.fold(0.0, f64::max);
+        format!("In a replay a frame takes at most {most:.2} of the time of its own call.")
+    }
+
     pub fn markdown(&self) -> String {
         let serving = self.serving.iter().map(|(case, times)| serving_line(case, times)).collect::<String>();
         let damage = self.damage.iter().map(|(table, times)| damage_line(table, times)).collect::<String>();
+        let replays = self.replays.iter().map(|(voyage, times)| replay_line(voyage, times)).collect::<String>();
         format!(
             "### Serving
 
@@ -55,9 +64,17 @@ impl Figures {
 
 | Rows | Keys | Floor, GB/s | {TIMES} |
 |---|---|---|---|---|---|---|---|
-{damage}",
+{damage}
+### Replays, by the frame
+
+{}
+
+| Keys | Bytes | Frames | Rendering, ns | One by one, ns | Library, ns | Library / rendering | Library / one by one |
+|---|---|---|---|---|---|---|---|
+{replays}",
             self.on_serving(),
             self.on_damage(),
+            self.on_replays(),
         )
     }
 }
@@ -84,6 +101,15 @@ fn damage_line(table: &Table, times: &Times) -> String {
     };
     let speed = table.memory().len() as f64 / times.floor;
     format!("| {rows} | {keys} | {speed:.0} | {} |\n", cells(times))
+}
+
+fn replay_line(voyage: &Voyage, times: &ReplayTimes) -> String {
+    let (over_rendering, over_one_by_one) = (times.over_rendering(), times.over_one_by_one());
+    let bold = if over_rendering > 1.0 { "**" } else { "" };
+    let [bytes, frames] = [voyage.trace.len(), voyage.frames()].map(|number| grouped(number as f64));
+    let [rendering, one_by_one, library] = [times.rendering, times.one_by_one, times.library].map(grouped);
+    let ratios = format!("{bold}{over_rendering:.2}{bold} | {over_one_by_one:.2}");
+    format!("| {} | {bytes} | {frames} | {rendering} | {one_by_one} | {library} | {ratios} |\n", voyage.keys)
 }
 
 const TIMES: &str = "Floor, ns | Rendering, ns | Library, ns | Library / rendering | Library / floor";

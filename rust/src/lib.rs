@@ -13,7 +13,11 @@
 //! [`read`] tells how long a document lives: the seconds [`Left`] to its expiry by that later clock, also for one that is
 //! past, or that it never expires. A document is expired where they are zero or less; every command goes by this number.
 //!
-//! `include/contacts.h` says what every command does, `docs/LAYOUT.md` how tables and frames are laid out.
+//! [`replay`] serves once more, on a fresh table, what a boat recorded in a [`Trace`], and says where a reply differs from
+//! the one that the boat gave.
+//!
+//! `include/contacts.h` says what every command does, `docs/LAYOUT.md` how tables, frames and traces are
+//! laid out.
 //!
 //! ```
 //! use contacts::{opcode, Fields, Mode, State, Status, Tally};
@@ -45,12 +49,14 @@ mod raw;
 mod request;
 mod serve;
 mod table;
+mod voyage;
 
 pub use answers::{Damaged, Outcome, Refusal, Status, Stop, WriteRefusal};
 pub use raw::Tally;
 pub use request::{read_request, write_request, Fields, Request};
 pub use serve::{serve, serve_run, Ran, Served};
 pub use table::{make, purge, read, size, sound, Cas, Document, Found, Left, Mode, Revision, State};
+pub use voyage::{replay, replay_in, Replay, Trace, TraceRefusal};
 
 /// The most rows of a table.
 pub const ROWS_MAX: usize = 256;
@@ -70,3 +76,7 @@ pub const FRAME_MAX: usize = 1424;
 pub const REPLY_ROOM: usize = 1302;
 /// The longest value of a [`GET_KEYS`](opcode::GET_KEYS) reply.
 pub const LISTING_MAX: usize = 1278;
+/// The longest trace.
+pub const TRACE_MAX: usize = 65_536;
+/// The rows of the table that a trace is replayed on.
+pub const REPLAY_ROWS: usize = 32;

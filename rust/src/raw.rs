@@ -93,6 +93,18 @@ pub struct WrittenAnswer {
     pub len: usize,
 }
 
+#[repr(C)]
+pub struct ReplayedAnswer {
+    pub outcome: u8,
+    pub end: u8,
+    pub place: usize,
+    pub frames: usize,
+}
+
+/// What a [`ReplayedAnswer`]'s end may be, where not all is replayed: a reply differs, or a field or the opening stops.
+pub const REPLAY_DIFFERS: u8 = 1;
+pub const REPLAY_STOPPED: u8 = 2;
+
 extern "C" {
     fn contacts_size(rows: usize) -> usize;
     fn contacts_make(table: *mut u8, table_len: usize, rows: usize, state: u8, mode: u8, vbucket: u16) -> u8;
@@ -135,6 +147,7 @@ extern "C" {
         out: *mut u8,
         out_len: usize,
     ) -> WrittenAnswer;
+    fn contacts_replay(table: *mut u8, table_len: usize, trace: *const u8, trace_len: usize) -> ReplayedAnswer;
 }
 
 pub fn size(rows: usize) -> usize {
@@ -211,6 +224,10 @@ pub fn write_request(fields: &crate::Fields, extras: &[u8], key: &[u8], value: &
     }
 }
 
+pub fn replay(table: &mut [u8], trace: &[u8]) -> ReplayedAnswer {
+    unsafe { contacts_replay(table.as_mut_ptr(), table.len(), trace.as_ptr(), trace.len()) }
+}
+
 #[cfg(test)]
 mod tests {
     use super::*;
@@ -231,5 +248,7 @@ mod tests {
         assert_eq!((offset_of!(DocumentAnswer, flags), offset_of!(DocumentAnswer, revision)), (4, 16));
         assert_eq!((size_of::<RequestAnswer>(), offset_of!(RequestAnswer, meta)), (80, 72));
         assert_eq!((offset_of!(RequestAnswer, opaque), offset_of!(RequestAnswer, extras)), (8, 24));
+        assert_eq!((size_of::<ReplayedAnswer>(), offset_of!(ReplayedAnswer, end)), (24, 1));
+        assert_eq!((offset_of!(ReplayedAnswer, place), offset_of!(ReplayedAnswer, frames)), (8, 16));
     }
 }

@@ -21,6 +21,9 @@ use Rattle.owner.specs.declared.Document.the-variants.{Damaged, Missing, Expire
 use Rattle.owner.specs.declared.Purged.{Purged}
 use Rattle.owner.specs.Owner.{readOutcome, readStatus, purgeOutcome, purgedCount}
 use Rattle.run.specs.declared.Ran.{Ran}
+use Rattle.replay.specs.declared.Ending.{Ending}
+use Rattle.replay.specs.declared.Ending.the-variants.{Damaged as NotReplayed, Differs, Stopped, Replayed}
+use Rattle.replay.specs.Replay.{replayOutcome}
 use Rattle.answers.specs.declared.Part.{Part}
 use Rattle.answers.specs.declared.ServedAnswer.{ServedAnswer}
 use Rattle.answers.specs.declared.RanAnswer.{RanAnswer}
@@ -28,6 +31,7 @@ use Rattle.answers.specs.declared.DocumentAnswer.{DocumentAnswer}
 use Rattle.answers.specs.declared.PurgedAnswer.{PurgedAnswer}
 use Rattle.answers.specs.declared.RequestAnswer.{RequestAnswer}
 use Rattle.answers.specs.declared.WrittenAnswer.{WrittenAnswer}
+use Rattle.answers.specs.declared.ReplayedAnswer.{ReplayedAnswer}
 
 abbrev pub servedAnswer : Served → ServedAnswer
 servedAnswer r = record { outcome = servedOutcome r; status = servedStatus r; used = servedUsed r; reply = servedLength r; needed = servedNeeded r }
@@ -131,3 +135,25 @@ abbrev pub writtenAnswer : Written → WrittenAnswer
 writtenAnswer NotWritten = record { outcome = outcomeNo NotWritten; status = statusNo NotWritten; len = 0 }
 writtenAnswer NoRoom = record { outcome = outcomeNo NoRoom; status = statusNo NoRoom; len = 0 }
 writtenAnswer (Wrote n) = record { outcome = outcomeNo (Wrote n); status = statusNo (Wrote n); len = n }
+
+-- order 6: 1 `differs`, 2 `stopped`, 3 `replayed`; 0 where no trace was replayed
+abbrev pub endOf : Ending → ℕ
+endOf NotReplayed = 0
+endOf (Differs at) = 1
+endOf (Stopped at) = 2
+endOf (Replayed n) = 3
+
+abbrev pub placeOf : Ending → ℕ
+placeOf NotReplayed = 0
+placeOf (Differs at) = at
+placeOf (Stopped at) = at
+placeOf (Replayed n) = 0
+
+abbrev pub framesOf : Ending → ℕ
+framesOf NotReplayed = 0
+framesOf (Differs at) = 0
+framesOf (Stopped at) = 0
+framesOf (Replayed n) = n
+
+abbrev pub replayedAnswer : Ending → ReplayedAnswer
+replayedAnswer e = record { outcome = replayOutcome e; end = endOf e; place = placeOf e; frames = framesOf e }

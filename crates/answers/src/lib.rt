@@ -1,11 +1,12 @@
 // The answers as C takes them: structs of numbers, in which outcomes and statuses are document 01's. What an answer
 // doesn't have is 0.
 ghost use mathlib.Core.Path.{_≡_};
-ghost use Rattle.answers.specs.Answers.{servedAnswer, ranAnswer, partOf, lifetimeOf, liveAnswer, noDocument, documentAnswer, purgedAnswer, requestRefused, requestShown, requestAnswer, writtenAnswer};
+ghost use Rattle.answers.specs.Answers.{servedAnswer, ranAnswer, partOf, lifetimeOf, liveAnswer, noDocument, documentAnswer, purgedAnswer, requestRefused, requestShown, requestAnswer, writtenAnswer, replayedAnswer};
 use numbers::Left;
 use numbers::Numbers;
 use owner::Document;
 use owner::Purged;
+use replay::Ending;
 use request::Frame;
 use request::Reading;
 use request::Span;
@@ -80,6 +81,15 @@ pub struct WrittenAnswer {
     pub outcome: u8,
     pub status: u8,
     pub len: usize,
+}
+
+#[repr(C)]
+pub struct ReplayedAnswer {
+    pub outcome: u8,
+    // 1: differs, 2: stopped, both at a place; 3: replayed, so many frames
+    pub end: u8,
+    pub place: usize,
+    pub frames: usize,
 }
 
 pub fn served_answer(r: Served) -> ServedAnswer
@@ -263,6 +273,37 @@ pub fn written_answer(w: Written) -> WrittenAnswer
             outcome: 0,
             status: 0,
             len: n,
+        },
+    }
+}
+
+pub fn replayed_answer(e: Ending) -> ReplayedAnswer
+    ensures { λ a. ⌜ a ≡ replayedAnswer e ⌝ }
+{
+    match e {
+        Ending::Damaged => ReplayedAnswer {
+            outcome: 5,
+            end: 0,
+            place: 0,
+            frames: 0,
+        },
+        Ending::Differs(place) => ReplayedAnswer {
+            outcome: 0,
+            end: 1,
+            place,
+            frames: 0,
+        },
+        Ending::Stopped(place) => ReplayedAnswer {
+            outcome: 0,
+            end: 2,
+            place,
+            frames: 0,
+        },
+        Ending::Replayed(frames) => ReplayedAnswer {
+            outcome: 0,
+            end: 3,
+            place: 0,
+            frames,
         },
     }
 }

@@ -81,3 +81,13 @@ pub fn same(s: &[u8], t: &[u8]) -> bool
     }
     same_run(s, t)
 }
+
+// The same test for bytes that are no key and mostly equal: the lengths, and then every byte.
+pub fn equal(s: &[u8], t: &[u8]) -> bool
+    ensures { λ r. ⌜ r ≡ same (now (s .entry)) (now (t .entry)) ⌝ }
+{
+    if t.len() != s.len() {
+        return false;
+    }
+    all_same(s, t)
+}

@@ -1,2 +1,4 @@
+pub mod First
+pub mod Recording
 pub mod Tables
 pub mod Waiting

@@ -1,7 +1,7 @@
 -- What the arguments may ask for.
 use Prim.Native.Nat.{ℕ, _≤_}
 use Rattle.contact_box.specs.declared.arguments.Parsed.{Parsed}
-use Rattle.contact_box.specs.declared.arguments.Parsed.the-variants.{Table, Wrong}
+use Rattle.contact_box.specs.declared.arguments.Parsed.the-variants.{Table, Recorded, Wrong}
 
 -- there is a table of so many rows in such a mode
 pub record Makes (rows mode : ℕ) : Type 0 where
@@ -12,4 +12,5 @@ pub record Makes (rows mode : ℕ) : Type 0 where
 
 abbrev pub Allowed : Parsed → Type 0
 Allowed (Table rows vbucket mode) = Makes rows mode
+Allowed (Recorded vbucket mode) = Makes 32 mode
 Allowed (Wrong f) = Unit {0}

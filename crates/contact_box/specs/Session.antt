@@ -1,21 +1,28 @@
 -- What the frames that were held leave when they have been served.
-use Prim.Native.Nat.{ℕ, _-_, _<_}
+use Prim.Native.Nat.{ℕ, _+_, _-_, _<_}
 use mathlib.Core.Bool.{Bool, cond}
 use mathlib.Core.Path.{_≡_}
 use mathlib.Core.List.{List}
 use lib.Dec.{eqb}
-use lib.ListN.{take, drop}
+use lib.ListN.{length, take, drop}
+use Rattle.header.specs.Header.{headerOf}
 use Rattle.serving.specs.declared.Served.{Served}
 use Rattle.serving.specs.declared.Served.the-variants.{Refused, Done}
+use Rattle.serving.specs.Serve.{servedUsed, servedLength, served, servedTable, servedReply}
+use Rattle.tally.specs.declared.Tally.{Tally}
+use Rattle.tally.specs.Counts.{countedOf}
 use Rattle.run.specs.Run.{Stand}
 use Rattle.contact_box.specs.declared.session.Next.{Next}
 use Rattle.contact_box.specs.declared.session.Next.the-variants.{Receive, Serve, Close}
 use Rattle.contact_box.specs.declared.session.Session.{Session}
+use Rattle.contact_box.specs.declared.recorder.Recorder.{Recorder}
+use Rattle.contact_box.specs.Recorder.{Records}
 
--- by 01's outcome: 1 wants more bytes, 4 wants reply room, and 2 and 3 have the caller close. After 5 no frame can be served
+-- by 01's outcome: 1 wants more bytes, 4 wants reply room, and 2 and 3 have the caller close. After 5 no frame can be served; after a
+-- frame that was served comes the next
 abbrev pub nextOf : Served → Next
 nextOf (Refused n need) = cond (eqb n 1) Receive (cond (eqb n 4) Serve Close)
-nextOf (Done status used len) = Close
+nextOf (Done status used len) = Serve
 
 -- where more is to be received, less is held than the largest frame takes: there is room for it
 abbrev pub Waits : Next → ℕ → Type 0
@@ -29,4 +36,20 @@ pub record Goes (run : List ℕ) (held : ℕ) (end : Stand) (table received : Li
   pub counted : s .tally ≡ end .tally
   pub left : s .held ≡ held - end .at
   pub kept : take (s .held) received ≡ drop (end .at) run
+  pub waits : Waits (s .next) (s .held)
+
+-- the first frame of a run, or as much of it as there is
+abbrev pub firstFrame : List ℕ → List ℕ
+firstFrame run = take (24 + headerOf run .body) run
+
+-- the first frame of the bytes that were held is served and recorded, all of it, and the bytes behind it are held at the start
+pub record GoesOne (clock : ℕ) (run : List ℕ) (held : ℕ) (b out : List ℕ) (t : Tally) (r : Recorder) (table received : List ℕ) (s : Session) : Type 0 where
+  pub answer : Served
+  pub answered : answer ≡ served b clock (firstFrame run) (length out)
+  pub whole : (status used len : ℕ) → answer ≡ Done status used len → used ≡ length (firstFrame run)
+  pub stored : table ≡ servedTable b clock (firstFrame run) (length out)
+  pub counted : s .tally ≡ countedOf t answer
+  pub left : s .held ≡ held - servedUsed answer
+  pub kept : take (s .held) received ≡ drop (servedUsed answer) run
+  pub recorded : Records r clock answer (firstFrame run) (take (servedLength answer) (servedReply b clock (firstFrame run) out)) (s .recorder)
   pub waits : Waits (s .next) (s .held)

@@ -8,16 +8,19 @@ const REVISION: u8 = 1;
 
 const LAST_WRITE_WINS: u8 = 2;
 
-// What is wrong: that the arguments are not three, or one of them.
+// What is wrong: that the arguments are not three or four, or one of them.
 pub(crate) enum Fault {
     Count,
     Rows,
     Vbucket,
     Mode,
+    Recorded,
 }
 
+// A table to serve on, or one to record on, which has the rows of the table that a trace is replayed on.
 pub(crate) enum Parsed {
     Table { rows: usize, vbucket: u16, mode: u8 },
+    Recorded { vbucket: u16, mode: u8 },
     Wrong(Fault),
 }
 
@@ -72,20 +75,48 @@ fn asked_of(rows: Number, vbucket: Number, mode: u8) -> Parsed
     }
 }
 
+// The same table, to record on.
+fn recorded_of(asked: Parsed) -> Parsed
+    requires { ⌜ Allowed asked ⌝ }
+    ensures { λ r. ⌜ Allowed r ⌝ }
+{
+    let Parsed::Table {
+        rows,
+        vbucket,
+        mode,
+    } = asked
+    else {
+        return asked;
+    };
+    if rows != 32 {
+        return Parsed::Wrong(Fault::Recorded);
+    }
+    Parsed::Recorded { vbucket, mode }
+}
+
 pub(crate) fn read() -> Parsed
     ensures { λ r. ⌜ Allowed r ⌝ }
 {
-    if os::arg_count() != 4 {
+    let count = os::arg_count();
+    if count < 4 {
         return Parsed::Wrong(Fault::Count);
     }
-    asked_of(number_at(1), number_at(2), mode_at(3))
+    if 5 < count {
+        return Parsed::Wrong(Fault::Count);
+    }
+    let asked = asked_of(number_at(1), number_at(2), mode_at(3));
+    if count == 5 {
+        return recorded_of(asked);
+    }
+    asked
 }
 
 pub(crate) fn complain(f: Fault) {
     match f {
-        Fault::Count => report::wrong(b"three arguments are wanted"),
+        Fault::Count => report::wrong(b"three or four arguments are wanted"),
         Fault::Rows => report::wrong(b"ROWS is 1 to 256"),
         Fault::Vbucket => report::wrong(b"VBUCKET is 0 to 65535"),
         Fault::Mode => report::wrong(b"MODE is revision or last-write-wins"),
+        Fault::Recorded => report::wrong(b"with a TRACE, ROWS is 32"),
     }
 }

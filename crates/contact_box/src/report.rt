@@ -28,12 +28,23 @@ pub(crate) fn ended(t: Tally, kept: u32) {
     io::write_all(STDERR_FILENO, octets::part(&line, 0, clock + 1));
 }
 
+// A line of two counts.
+pub(crate) fn counts(first: &[u8], n: u64, second: &[u8], m: u64, last: &[u8])
+    requires { ⌜ (length (now first) ≤ 40) × ((length (now second) ≤ 10) × (length (now last) ≤ 80)) ⌝ }
+{
+    let mut line = [0u8; 170];
+    let middle = put_count(&mut line, 0, first, n);
+    let end = put_count(&mut line, middle, second, m);
+    octet_writer::put_bytes(&mut line, end, last);
+    io::write_all(STDERR_FILENO, octets::part(&line, 0, end + last.len()));
+}
+
 // What is wrong with the arguments.
 pub(crate) fn wrong(what: &[u8])
     requires { ⌜ length (now what) ≤ 40 ⌝ }
 {
-    let usage = b"; usage: contact_box ROWS VBUCKET MODE\n";
-    let mut line = [0u8; 100];
+    let usage = b"; usage: contact_box ROWS VBUCKET MODE [TRACE]\n";
+    let mut line = [0u8; 110];
     octet_writer::put_bytes(&mut line, 0, b"contact_box: ");
     octet_writer::put_bytes(&mut line, 13, what);
     octet_writer::put_bytes(&mut line, 13 + what.len(), usage);

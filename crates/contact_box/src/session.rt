@@ -4,25 +4,29 @@ ghost use mathlib.Core.Bool.{cond};
 ghost use Prim.Native.Nat.{_+_, _-_, _≤_, _<_};
 ghost use lib.ListN.{length, take, drop};
 ghost use Rattle.run.specs.Run.{begun, runEnd};
-ghost use Rattle.contact_box.specs.Session.{nextOf, Waits, Goes};
+ghost use Rattle.serving.specs.Serve.{servedUsed, servedLength};
+ghost use Rattle.contact_box.specs.Session.{nextOf, Waits, Goes, firstFrame, GoesOne};
 use crate::clock;
+use crate::recorder;
+use crate::recorder::Recorder;
 use libc::STDIN_FILENO;
 use libc::STDOUT_FILENO;
 use serving::Served;
 use tally::Tally;
 
 // What is next: read on, serve on with the reply area free again, or end.
-enum Next {
+pub(crate) enum Next {
     Receive,
     Serve,
     Close,
 }
 
 // held: how many received bytes no frame has consumed. They stand at the start of the received bytes.
-struct Session {
+pub(crate) struct Session {
     held: usize,
-    tally: Tally,
+    pub(crate) tally: Tally,
     next: Next,
+    pub(crate) recorder: Recorder,
 }
 
 // Reads once behind the bytes held, and answers how many came: none at the end of the input or where reading fails.
@@ -50,15 +54,15 @@ fn keep(received: &mut [u8], at: usize, held: usize) -> usize
     n
 }
 
-// What is next where a run stopped and its replies were written or not.
-fn next_after(stop: Served, written: bool) -> Next
-    ensures { λ r. ⌜ r ≡ cond written (nextOf stop) Next.Close ⌝ }
+// What is next after an answer, where what was sent was written or not.
+fn next_after(answer: Served, written: bool) -> Next
+    ensures { λ r. ⌜ r ≡ cond written (nextOf answer) Next.Close ⌝ }
 {
     if !written {
         return Next::Close;
     }
-    let Served::Refused(outcome, _) = stop else {
-        return Next::Close;
+    let Served::Refused(outcome, _) = answer else {
+        return Next::Serve;
     };
     match outcome {
         1 => Next::Receive,
@@ -75,6 +79,7 @@ fn serve_held(
     held: usize,
     replies: &mut [u8],
     t: Tally,
+    recorder: Recorder,
 ) -> Session
     requires { ⌜ held ≤ length (now received) ⌝ }
     ensures { λ s. ⌜ Goes (take held (now (received .entry))) held
@@ -90,7 +95,80 @@ fn serve_held(
         held: keep(received, cursor.at, held),
         tally,
         next: next_after(stop, written),
+        recorder,
     }
+}
+
+// The first frame of a run, or as much of it as there is.
+fn first_frame(run: &[u8]) -> &[u8]
+    ensures { λ r. ⌜ now r ≡ firstFrame (now (run .entry)) ⌝ }
+{
+    let layout = header::layout_of(header::read(run));
+    octets::part(run, 0, layout.end)
+}
+
+fn used_of(answer: Served) -> usize
+    ensures { λ n. ⌜ n ≡ servedUsed answer ⌝ }
+{
+    match answer {
+        Served::Done(_, used, _) => used,
+        Served::Refused(_, _) => 0,
+    }
+}
+
+fn length_of(answer: Served) -> usize
+    ensures { λ n. ⌜ n ≡ servedLength answer ⌝ }
+{
+    match answer {
+        Served::Done(_, _, len) => len,
+        Served::Refused(_, _) => 0,
+    }
+}
+
+// Serves the first of the frames that are held, without what stands behind it, writes its reply, and records both.
+fn serve_first(
+    table: &mut [u8],
+    clock: u32,
+    received: &mut [u8],
+    held: usize,
+    replies: &mut [u8],
+    t: Tally,
+    r: Recorder,
+) -> Session
+    requires { ⌜ held ≤ length (now received) ⌝ }
+    ensures { λ s. ⌜ GoesOne clock (take held (now (received .entry))) held (now (table .entry)) (now (replies .entry)) t r
+        (now (table .exit)) (now (received .exit)) s ⌝ }
+{
+    let frame = first_frame(octets::part(received, 0, held));
+    let answer = serve::serve_one(table, clock, frame, replies);
+    let used = used_of(answer);
+    let reply = octets::part(replies, 0, length_of(answer));
+    let written = io::write_all(STDOUT_FILENO, reply);
+    let recorder = recorder::record_answer(r, clock, answer, frame, reply);
+    Session {
+        held: keep(received, used, held),
+        tally: tally::counted(t, answer),
+        next: next_after(answer, written),
+        recorder,
+    }
+}
+
+// Serves what is held: all frames at once, or one by one where they are recorded.
+fn serve_some(
+    table: &mut [u8],
+    received: &mut [u8],
+    held: usize,
+    replies: &mut [u8],
+    t: Tally,
+    r: Recorder,
+) -> Session
+    requires { ⌜ held ≤ length (now received) ⌝ }
+    ensures { λ s. ⌜ (s .held ≤ length (now (received .entry))) × Waits (s .next) (s .held) ⌝ }
+{
+    if recorder::is_on(r) {
+        return serve_first(table, clock::now(), received, held, replies, t, r);
+    }
+    serve_held(table, clock::now(), received, held, replies, t, r)
 }
 
 // Reads on, and serves what is held then. There is room for more, so where nothing comes the input has ended or can't be read.
@@ -100,6 +178,7 @@ fn receive_on(
     replies: &mut [u8],
     held: usize,
     tally: Tally,
+    recorder: Recorder,
 ) -> Session
     requires { ⌜ (held < 1424) × (1424 ≤ length (now received)) ⌝ }
     ensures { λ r. ⌜ (r .held ≤ length (now (received .entry))) × Waits (r .next) (r .held) ⌝ }
@@ -110,9 +189,10 @@ fn receive_on(
             held,
             tally,
             next: Next::Close,
+            recorder,
         };
     }
-    serve_held(table, clock::now(), received, held + came, replies, tally)
+    serve_some(table, received, held + came, replies, tally, recorder)
 }
 
 fn turn(table: &mut [u8], received: &mut [u8], replies: &mut [u8], s: Session) -> Session
@@ -122,9 +202,10 @@ fn turn(table: &mut [u8], received: &mut [u8], replies: &mut [u8], s: Session) -
     let held = s.held;
     let tally = s.tally;
     let next = s.next;
+    let recorder = s.recorder;
     match next {
-        Next::Receive => receive_on(table, received, replies, held, tally),
-        Next::Serve => serve_held(table, clock::now(), received, held, replies, tally),
+        Next::Receive => receive_on(table, received, replies, held, tally, recorder),
+        Next::Serve => serve_some(table, received, held, replies, tally, recorder),
         Next::Close => s,
     }
 }
@@ -140,7 +221,12 @@ fn is_open(s: Session) -> bool {
 
 // Serves the input to its end. A proved loop has to end, and nothing says that an input does, so the turns are counted down from a number
 // that no input uses up.
-pub(crate) fn serve_input(table: &mut [u8], received: &mut [u8], replies: &mut [u8]) -> Tally
+pub(crate) fn serve_input(
+    table: &mut [u8],
+    received: &mut [u8],
+    replies: &mut [u8],
+    recorder: Recorder,
+) -> Session
     requires { ⌜ 1424 ≤ length (now received) ⌝ }
 {
     let mut s = Session {
@@ -151,11 +237,12 @@ pub(crate) fn serve_input(table: &mut [u8], received: &mut [u8], replies: &mut [
             silent: 0,
         },
         next: Next::Receive,
+        recorder,
     };
     let mut turns = u64::MAX;
     while 0 < turns && is_open(s) {
         s = turn(table, received, replies, s);
         turns -= 1;
     }
-    s.tally
+    s
 }

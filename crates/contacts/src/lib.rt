@@ -7,11 +7,13 @@ ghost use Rattle.owner.specs.Owner.{sizeOf, makeOutcome, made, readOf, purgeOf,
 ghost use Rattle.request.specs.Reading.{reading};
 ghost use Rattle.request_writer.specs.Writing.{writing, frameBytes, outputOf};
 ghost use Rattle.run.specs.Run.{begun, runEnd, ranOf};
+ghost use Rattle.replay.specs.Replay.{replayed};
 ghost use Rattle.contacts.specs.Contacts.{ServesOne};
-ghost use Rattle.answers.specs.Answers.{ranAnswer, documentAnswer, purgedAnswer, requestAnswer, fieldsFor, writtenAnswer};
+ghost use Rattle.answers.specs.Answers.{ranAnswer, documentAnswer, purgedAnswer, requestAnswer, fieldsFor, writtenAnswer, replayedAnswer};
 use answers::DocumentAnswer;
 use answers::PurgedAnswer;
 use answers::RanAnswer;
+use answers::ReplayedAnswer;
 use answers::RequestAnswer;
 use answers::ServedAnswer;
 use answers::WrittenAnswer;
@@ -128,4 +130,12 @@ pub extern "C" fn contacts_write_request(
         cas: Cas(cas),
     };
     answers::written_answer(request_writer::write(f, extras, key, value, out))
+}
+
+// Replays the trace of a voyage on a fresh active table of 32 rows in the lent memory.
+#[no_mangle]
+pub extern "C" fn contacts_replay(b: &mut [u8], trace: &[u8]) -> ReplayedAnswer
+    ensures { λ r. ⌜ (r ≡ replayedAnswer (replayed (now (b .entry)) (now (trace .entry)) .answer)) × (now (b .exit) ≡ replayed (now (b .entry)) (now (trace .entry)) .table) ⌝ }
+{
+    answers::replayed_answer(replay::replay(b, trace))
 }

@@ -106,6 +106,27 @@ pub struct Written {
     pub len: usize,
 }
 
+/// A trace replayed: outcome 5; or where and how its replay ended, or how many frames it has.
+#[repr(C)]
+#[derive(Clone, Copy, Debug, Default, PartialEq, Eq)]
+pub struct Replayed {
+    pub outcome: u8,
+    /// One of [`end`].
+    pub end: u8,
+    pub place: usize,
+    pub frames: usize,
+}
+
+/// How a replay ends.
+pub mod end {
+    /// At a reply that isn't the last frame's.
+    pub const DIFFERS: u8 = 1;
+    /// At a field, or an opening, that stops it.
+    pub const STOPPED: u8 = 2;
+    /// At the end of the trace.
+    pub const REPLAYED: u8 = 3;
+}
+
 /// What the writer takes; the extended meta stands at the value's end.
 #[derive(Clone, Copy, Debug, PartialEq, Eq)]
 pub struct Fields<'a> {
@@ -130,4 +151,5 @@ pub trait Store {
     fn serve_run(&self, table: &mut [u8], clock: u32, received: &[u8], reply: &mut [u8], tally: &mut Tally) -> Ran;
     fn read_request(&self, received: &[u8]) -> Request;
     fn write_request(&self, fields: &Fields, out: &mut [u8]) -> Written;
+    fn replay(&self, table: &mut [u8], trace: &[u8]) -> Replayed;
 }

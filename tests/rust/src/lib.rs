@@ -3,6 +3,7 @@
 pub mod answers;
 pub mod comparison;
 pub mod coverage;
+pub mod failures;
 pub mod frame;
 pub mod generate;
 mod library;
@@ -14,6 +15,9 @@ pub mod session;
 pub mod settings;
 pub mod shrink;
 pub mod sweep;
+pub mod trace;
+pub mod trace_vectors;
 pub mod vectors;
+pub mod voyages;
 
 pub use library::Library;

@@ -1,6 +1,6 @@
 //! The proved library, `libcontacts.a`, behind the same calls.
 
-use crate::answers::{Document, Fields, Purged, Ran, Request, Served, Store, Tally, Written};
+use crate::answers::{Document, Fields, Purged, Ran, Replayed, Request, Served, Store, Tally, Written};
 
 /// The library as a store.
 #[derive(Clone, Copy, Debug)]
@@ -48,6 +48,7 @@ extern "C" {
         out: *mut u8,
         out_len: usize,
     ) -> Written;
+    fn contacts_replay(table: *mut u8, table_len: usize, trace: *const u8, trace_len: usize) -> Replayed;
 }
 
 // Each call lends whole slices: the pointer is never null and the length is that of the slice, so the library may read
@@ -125,5 +126,9 @@ impl Store for Library {
                 out.len(),
             )
         }
+    }
+
+    fn replay(&self, table: &mut [u8], trace: &[u8]) -> Replayed {
+        unsafe { contacts_replay(table.as_mut_ptr(), table.len(), trace.as_ptr(), trace.len()) }
     }
 }

@@ -15,6 +15,11 @@ pub fn lists() -> usize {
     setting("CONTACTS_LISTS", 1_000) as usize
 }
 
+/// `CONTACTS_TRACES`: how many traces are compared.
+pub fn traces() -> u64 {
+    setting("CONTACTS_TRACES", 20_000)
+}
+
 fn setting(name: &str, otherwise: u64) -> u64 {
     match std::env::var(name) {
         Ok(text) => text.parse().unwrap_or_else(|_| panic!("{name} is no number: {text}")),

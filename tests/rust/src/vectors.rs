@@ -17,7 +17,8 @@ const MEMORY: usize = 340_000;
 const AREA: usize = 2_048;
 const SPACE: usize = 8_192;
 
-const NOT_UNDERSTOOD: &str = "what?";
+/// What a line is answered that spells no call.
+pub(crate) const NOT_UNDERSTOOD: &str = "what?";
 
 /// What the program prints for these lines.
 pub fn expected(lines: &str) -> String {
@@ -244,7 +245,8 @@ fn spelled(text: &str) -> Option<Vec<u8>> {
     Some(bytes).filter(|bytes| bytes.len() < SPACE)
 }
 
-fn octets(digits: &str) -> Option<Vec<u8>> {
+/// The bytes of hexadecimal digits, two each.
+pub(crate) fn octets(digits: &str) -> Option<Vec<u8>> {
     digits.as_bytes().chunks(2).map(octet).collect()
 }
 

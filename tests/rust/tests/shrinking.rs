@@ -1,12 +1,14 @@
-//! A fault injected into the rendering is found, and its session is made small.
+//! A fault injected into the rendering is found, and its session or its trace is made small.
 
-use contact_tests::answers::{Document, Fields, Purged, Ran, Request, Served, Store, Tally, Written};
+use contact_tests::answers::{end, Document, Fields, Purged, Ran, Replayed, Request, Served, Store, Tally, Written};
 use contact_tests::comparison::Comparison;
 use contact_tests::rendering::Rendering;
 use contact_tests::replay::{from_text, to_text};
 use contact_tests::session::{difference, Call};
+use contact_tests::trace::Trace;
+use contact_tests::voyages::{compared, TraceComparison};
 
-/// The rendering, but for a Delete's reply, which carries CAS 0.
+/// The rendering, but for a Delete's reply, which carries CAS 0, and the place of a reply that differs, which is its end.
 struct Faulty;
 
 const DELETE: u8 = 0x04;
@@ -51,6 +53,14 @@ impl Store for Faulty {
     fn write_request(&self, fields: &Fields, out: &mut [u8]) -> Written {
         Rendering.write_request(fields, out)
     }
+
+    fn replay(&self, table: &mut [u8], trace: &[u8]) -> Replayed {
+        let replayed = Rendering.replay(table, trace);
+        match replayed.end {
+            end::DIFFERS => Replayed { place: replayed.place + 3, ..replayed },
+            _ => replayed,
+        }
+    }
 }
 
 #[test]
@@ -68,4 +78,15 @@ fn a_failing_session_is_made_small() {
     let replayed = from_text(&to_text(&small)).expect("the text reads back");
     assert_eq!(replayed, small);
     assert!(difference(stores, &replayed).is_some());
+}
+
+#[test]
+fn a_failing_trace_is_made_small() {
+    let stores: [&dyn Store; 2] = [&Rendering, &Faulty];
+    let found = TraceComparison::new(stores, 1).run(10_000).expect_err("the fault is found");
+    assert!(found.what.starts_with("answer differs:"), "{}", found.what);
+    let small = Trace::read(&found.trace);
+    assert_eq!(small.fields.iter().map(|field| field.tag).collect::<Vec<_>>(), [2, 3]);
+    assert!(small.fields[1].value.is_empty() && small.rest.is_empty());
+    assert!(compared(stores, &found.trace, &found.lent).is_err());
 }

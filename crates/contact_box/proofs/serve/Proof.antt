@@ -62,6 +62,9 @@ head-of-requires c κs = search needs
 ended-requires : tie.Need-ended-requires
 ended-requires c κs = search needs
 
+ended-requires-2 : tie.Need-ended-requires-2
+ended-requires-2 c κs = search needs
+
 returns : tie.Need-returns
 returns c = search needs
 
@@ -81,4 +84,5 @@ serve-spec =
     serve-input-requires
     head-of-requires
     ended-requires
+    ended-requires-2
     returns)

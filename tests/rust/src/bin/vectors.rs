@@ -1,9 +1,15 @@
-//! Answers the lines of `crates/store_vectors/stdin` by the rendering: the program's expected output.
+//! Answers the lines of `crates/store_vectors/stdin`, or with `vectors replay` those of `crates/replay_vectors/stdin`, by the
+//! rendering: the program's expected output.
 
-use contact_tests::vectors::expected;
+use contact_tests::{trace_vectors, vectors};
+use std::error::Error;
 
-fn main() -> std::io::Result<()> {
-    let lines = std::io::read_to_string(std::io::stdin())?;
-    print!("{}", expected(&lines));
+fn main() -> Result<(), Box<dyn Error>> {
+    let expected = match std::env::args().nth(1).as_deref() {
+        None => vectors::expected,
+        Some("replay") => trace_vectors::expected,
+        Some(_) => return Err("usage: vectors [replay]".into()),
+    };
+    print!("{}", expected(&std::io::read_to_string(std::io::stdin())?));
     Ok(())
 }

@@ -8,6 +8,7 @@ mod lifetimes;
 mod listings;
 mod searches;
 mod situations;
+pub mod voyages;
 
 use crate::generate::faults::Fault;
 use crate::generate::tables::Damage;

@@ -1,4 +1,4 @@
-//! Tables and calls at random, biased to the limits of document 01 and of orders 1, 2, 4 and 5.
+//! Tables, calls and traces at random, biased to the limits of document 01 and of orders 1, 2, 4, 5 and 6.
 
 mod clocks;
 pub mod faults;
@@ -9,6 +9,7 @@ mod listings;
 mod parts;
 mod requests;
 pub mod tables;
+mod voyages;
 
 use crate::answers::Tally;
 use crate::frame::Frame;

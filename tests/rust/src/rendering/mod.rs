@@ -1,4 +1,4 @@
-//! Document 01 with orders 1, 2, 4 and 5 of document 02 in plain Rust, written from the papers alone, to be read with them
+//! Document 01 with orders 1, 2, 4, 5 and 6 of document 02 in plain Rust, written from the papers alone, to be read with them
 //! beside.
 //!
 //! | Section of 01 | Module |
@@ -24,12 +24,14 @@ pub mod shape;
 pub mod status;
 pub mod table;
 pub mod tally;
+pub mod voyage;
 
 pub use owner::{make, purge, read, size, sound};
 pub use request::{read_request, write_request};
 pub use serving::{serve, serve_run};
+pub use voyage::replay;
 
-use crate::answers::{Document, Fields, Purged, Ran, Request, Served, Store, Tally, Written};
+use crate::answers::{Document, Fields, Purged, Ran, Replayed, Request, Served, Store, Tally, Written};
 
 /// The rendering as a store.
 #[derive(Clone, Copy, Debug)]
@@ -70,5 +72,9 @@ impl Store for Rendering {
 
     fn write_request(&self, fields: &Fields, out: &mut [u8]) -> Written {
         write_request(fields, out)
+    }
+
+    fn replay(&self, table: &mut [u8], trace: &[u8]) -> Replayed {
+        replay(table, trace)
     }
 }

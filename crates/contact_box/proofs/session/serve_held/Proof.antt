@@ -11,18 +11,19 @@ use Rattle.tally.specs.declared.Tally.{Tally}
 use Rattle.run.specs.declared.Ran.{Ran}
 use Rattle.run.specs.Run.{calledOn, begun, runEnd, ranOf}
 use Rattle.contact_box.specs.declared.session.Next.{Next}
+use Rattle.contact_box.specs.declared.recorder.Recorder.{Recorder}
 use Rattle.contact_box.specs.Session.{nextOf, Waits, Goes}
 use Rattle.contact_box.specs.declared.session.Next.the-variants.{Close}
 use Rattle.contact_box.proofs.Waiting.{waits}
 use Rattle.contact_box.proofs.session.serve_held.Statement.{statement}
 use Rattle.contact_box.proofs.session.serve_held.Tie as tie
 
-goes : (clock held n : ℕ) (b b′ s s′ run out : List ℕ) (t : Tally) (r : Ran) (x : Next) (written : Bool) → held ≤ length s → run ≡ take held s
+goes : (clock held n : ℕ) (b b′ s s′ run out : List ℕ) (t : Tally) (r : Ran) (x : Next) (v : Recorder) (written : Bool) → held ≤ length s → run ≡ take held s
     → r ≡ ranOf clock run (runEnd clock run (begun b out t)) → b′ ≡ runEnd clock run (begun b out t) .table
     → (n ≡ held - r .cursor .at) × (take n s′ ≡ drop (r .cursor .at) (take held s)) → x ≡ cond written (nextOf (r .stop)) Close
-    → Goes (take held s) held (runEnd clock (take held s) (begun b out t)) b′ s′ (record { held = n; tally = r .tally; next = x })
+    → Goes (take held s) held (runEnd clock (take held s) (begun b out t)) b′ s′ (record { held = n; tally = r .tally; next = x; recorder = v })
 unfolding ranOf
-goes clock held n b b′ s s′ run out t r x written h e q w k f =
+goes clock held n b b′ s s′ run out t r x v written h e q w k f =
     let z = runEnd clock (take held s) (begun b out t) in
     let p : r ≡ ranOf clock (take held s) z = q ∙ ap (λ (y : List ℕ). ranOf clock y (runEnd clock y (begun b out t))) e in
     let left : n ≡ held - z .at = k .0 ∙ ap (λ (y : Ran). held - y .cursor .at) p in
@@ -77,7 +78,7 @@ returns c =
     let ran = serve-run in
     let k = c .before .before .before .keep in
     goes (a .clock) (a .held) (k .result) (a .table .now) (ran .last .0) (a .received .now) (k .last .0) (part .result .now) (a .replies .now) (a .t)
-    (ran .result) (c .next-after .result) (write-all .result) pre (part .ensures) (ran .ensures .0) (ran .ensures .1 .0) (k .ensures)
+    (ran .result) (c .next-after .result) (a .recorder) (write-all .result) pre (part .ensures) (ran .ensures .0) (ran .ensures .1 .0) (k .ensures)
     (c .next-after .ensures)
 
 pub serve-held-spec : {M : Type 1} → statement M

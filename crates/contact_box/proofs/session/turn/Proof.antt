@@ -11,17 +11,14 @@ enum-told c = search needs
 
 receive-on-requires : tie.Need-receive-on-requires
 receive-on-requires c κs =
-    let s = c .before .before .before .before .before .before .before .before .before in
+    let s = c .before .before .before .before .before .before .before .before .before .before in
     (subst (λ (n : Next). Waits n (s .args .s .held)) (c .before .before .before .enum-told .given .1) (s .pre .1 .1), s .pre .1 .0)
 
 enum-told-2 : tie.Need-enum-told-2
 enum-told-2 c = search needs
 
-now-requires : tie.Need-now-requires
-now-requires c κs = search needs
-
-serve-held-requires : tie.Need-serve-held-requires
-serve-held-requires c κs = search needs
+serve-some-requires : tie.Need-serve-some-requires
+serve-some-requires c κs = search needs
 
 enum-told-3 : tie.Need-enum-told-3
 enum-told-3 c = search needs
@@ -60,8 +57,7 @@ turn-spec =
     enum-told
     receive-on-requires
     enum-told-2
-    now-requires
-    serve-held-requires
+    serve-some-requires
     enum-told-3
     same-length
     same-length-2

@@ -1,0 +1,4 @@
+pub mod Frames
+pub mod Turning
+pub mod Walking
+pub mod Opening

@@ -1,0 +1,131 @@
+-- Order 6: "what was replayed before is the same as serving those frames and purging one by one." Over the list of calls that a trace spells, each with its clock. `Spelling.antt` says it of every trace. Proved in proofs/Serving.antt.
+use Prim.Native.Nat.{ℕ, _+_}
+use mathlib.Core.Path.{_≡_}
+use mathlib.Core.List.{List, [], _∷_, _++_}
+use mathlib.Core.Option.{Option, none, some}
+use lib.ListN.{length, replicate}
+use Rattle.octets.specs.Parts.{Bytes, part}
+use Rattle.serving.specs.declared.Served.the-variants.{Done}
+use Rattle.serving.specs.Serve.{served, servedReply}
+use Rattle.trace.specs.declared.Field.{Field}
+use Rattle.trace.specs.declared.Field.the-variants.{Clock, Frame, Reply, Purge as Purges, Broken}
+use Rattle.trace.specs.Trace.{Placed}
+use Rattle.replay.specs.declared.Ending.{Ending}
+use Rattle.replay.specs.declared.Ending.the-variants.{Damaged, Differs, Stopped, Replayed}
+use Rattle.replay.specs.Replay.{After, sentReply}
+use Rattle.promises.specs.Clock.{TableCall, Serve, Purge, memoryAfter}
+
+-- ---- the calls that fields spell
+-- "tag 1 clock": the clock after a field
+abbrev pub clockBy : ℕ → Field → ℕ
+clockBy clock (Clock n) = n
+clockBy clock (Frame len) = clock
+clockBy clock (Reply len) = clock
+clockBy clock (Purges bound) = clock
+clockBy clock Broken = clock
+
+-- "tag 2 one request frame", "tag 4 a purge bound": the call that a field asks for, if it asks for one
+abbrev pub callBy : ℕ → Field → List ℕ → List TableCall
+callBy clock (Clock n) bytes = []
+callBy clock (Frame len) bytes = Serve (record { clock = clock; received = bytes; reply = replicate {A = ℕ} 1302 0 }) ∷ []
+callBy clock (Reply len) bytes = []
+callBy clock (Purges bound) bytes = Purge clock (bound .0) ∷ []
+callBy clock Broken bytes = []
+
+abbrev pub callsOf : ℕ → List Placed → List TableCall
+callsOf clock [] = []
+callsOf clock (p ∷ ps) = callBy clock (p .field) (p .bytes) ++ callsOf (clockBy clock (p .field)) ps
+
+abbrev pub framesBy : Field → ℕ
+framesBy (Clock n) = 0
+framesBy (Frame len) = 1
+framesBy (Reply len) = 0
+framesBy (Purges bound) = 0
+framesBy Broken = 0
+
+abbrev pub framesIn : List Placed → ℕ
+framesIn [] = 0
+framesIn (p ∷ ps) = framesBy (p .field) + framesIn ps
+
+-- the last frame's reply, none before any frame
+abbrev pub lastBy : List ℕ → ℕ → Option (List ℕ) → Field → List ℕ → Option (List ℕ)
+lastBy b clock last (Clock n) bytes = last
+lastBy b clock last (Frame len) bytes = some (sentReply b clock bytes)
+lastBy b clock last (Reply len) bytes = last
+lastBy b clock last (Purges bound) bytes = last
+lastBy b clock last Broken bytes = last
+
+-- ---- on a table's memory b, at a clock, after a frame with this reply or none
+-- "exactly one frame with outcome 0": it is served with some status and a reply of so many bytes, and all bytes are consumed
+pub record OneFrame (b : List ℕ) (clock : ℕ) (bytes : List ℕ) (len : ℕ) : Type 0 where
+  pub status : ℕ
+  pub sent : ℕ
+  pub answer : served b clock bytes 1302 ≡ Done status len sent
+
+-- a field that doesn't end the replay
+abbrev pub LeadsOn : List ℕ → ℕ → Option (List ℕ) → Field → List ℕ → Type 0
+LeadsOn b clock last (Clock n) bytes = Unit {0}
+LeadsOn b clock last (Frame len) bytes = OneFrame b clock bytes len
+LeadsOn b clock last (Reply len) bytes = last ≡ some bytes
+LeadsOn b clock last (Purges bound) bytes = Unit {0}
+LeadsOn b clock last Broken bytes = ⊥
+
+abbrev pub AllLeadOn : List ℕ → ℕ → Option (List ℕ) → List Placed → Type 0
+AllLeadOn b clock last [] = Unit {0}
+AllLeadOn b clock last (p ∷ ps) =
+    LeadsOn b clock last (p .field) (p .bytes)
+    × AllLeadOn (memoryAfter b (callBy clock (p .field) (p .bytes))) (clockBy clock (p .field)) (lastBy b clock last (p .field) (p .bytes)) ps
+
+-- the field that ends it: an expected reply that isn't the last frame's, or what stops it
+abbrev pub DiffersAt : List ℕ → ℕ → Option (List ℕ) → Field → List ℕ → Type 0
+DiffersAt b clock last (Reply len) bytes = (r : List ℕ) × ((last ≡ some r) × (r ≡ bytes → ⊥))
+DiffersAt b clock last (Clock n) bytes = ⊥
+DiffersAt b clock last (Frame len) bytes = ⊥
+DiffersAt b clock last (Purges bound) bytes = ⊥
+DiffersAt b clock last Broken bytes = ⊥
+
+abbrev pub StopsAt : List ℕ → ℕ → Option (List ℕ) → Field → List ℕ → Type 0
+StopsAt b clock last (Reply len) bytes = last ≡ none
+StopsAt b clock last (Clock n) bytes = ⊥
+StopsAt b clock last (Frame len) bytes = OneFrame b clock bytes len → ⊥
+StopsAt b clock last (Purges bound) bytes = ⊥
+StopsAt b clock last Broken bytes = Unit {0}
+
+-- where a replay of these fields ended, after some that lead on
+abbrev pub EndsAt : List ℕ → ℕ → Option (List ℕ) → ℕ → List Placed → Ending → Type 0
+EndsAt b clock last n [] (Replayed m) = m ≡ n
+EndsAt b clock last n [] (Differs at) = ⊥
+EndsAt b clock last n [] (Stopped at) = ⊥
+EndsAt b clock last n [] Damaged = ⊥
+EndsAt b clock last n (p ∷ ps) (Replayed m) = ⊥
+EndsAt b clock last n (p ∷ ps) (Differs at) = (at ≡ p .at) × DiffersAt b clock last (p .field) (p .bytes)
+EndsAt b clock last n (p ∷ ps) (Stopped at) = (at ≡ p .at) × StopsAt b clock last (p .field) (p .bytes)
+EndsAt b clock last n (p ∷ ps) Damaged = ⊥
+
+-- after fields that lead on: the clock, and the last frame's reply
+abbrev pub clockPast : ℕ → List Placed → ℕ
+clockPast clock [] = clock
+clockPast clock (p ∷ ps) = clockPast (clockBy clock (p .field)) ps
+
+abbrev pub lastAfter : List ℕ → ℕ → Option (List ℕ) → List Placed → Option (List ℕ)
+lastAfter b clock last [] = last
+lastAfter b clock last (p ∷ ps) =
+    lastAfter (memoryAfter b (callBy clock (p .field) (p .bytes))) (clockBy clock (p .field)) (lastBy b clock last (p .field) (p .bytes)) ps
+
+-- ---- the replay of fields
+pub record ReplaysAs (b : List ℕ) (clock : ℕ) (last : Option (List ℕ)) (n : ℕ) (fields : List Placed) (e : After) : Type 0 where
+  -- those before the place where it ended, and the others
+  pub done : List Placed
+  pub rest : List Placed
+  pub split : fields ≡ done ++ rest
+  -- each of their frames was served with outcome 0, and each reply that they expect was sent
+  pub goes : AllLeadOn b clock last done
+  -- "what was replayed before is the same as serving those frames and purging one by one"
+  pub table : e .table ≡ memoryAfter b (callsOf clock done)
+  pub ends : EndsAt (memoryAfter b (callsOf clock done)) (clockPast clock done) (lastAfter b clock last done) (n + framesIn done) rest (e .answer)
+
+-- the reply that is compared is the one that serving puts at the start of the reply area
+abbrev pub SentIsReply : Type 0
+SentIsReply =
+    (b : List ℕ) (clock : ℕ) (s out : List ℕ) (status used len : ℕ) → Bytes b → length out ≡ 1302 → served b clock s (length out) ≡ Done status used len
+    → sentReply b clock s ≡ part (servedReply b clock s out) 0 len
