@@ -522,7 +522,7 @@ typedef struct contacts_replayed {
     uint8_t outcome;
     uint8_t end;     /* CONTACTS_REPLAY_DIFFERS .. CONTACTS_REPLAY_REPLAYED */
     size_t place;    /* where the field's tag stands that ended the replay, counted from the trace's first byte */
-    size_t frames;   /* frames served */
+    size_t frames;   /* with CONTACTS_REPLAY_REPLAYED, the frames served */
 } contacts_replayed;
 
 /*
