@@ -15,7 +15,7 @@ use Rattle.document.specs.Documents.{Key}
 use Rattle.rows.specs.Row.{Row}
 use Rattle.rows.specs.Find.{findRow}
 use Rattle.plain.specs.Plain.{Distinct}
-use Rattle.ordered.specs.Order.{follows, orderedFrom, ordered}
+use Rattle.ordered.specs.Order.{follows, orderedFrom, ordered, rowSide}
 use Rattle.ordered.specs.Claims.{OrderedDistinct, FreshOrdered}
 
 follows-trans : (a b c : Row) → follows a b ≡ true → follows b c ≡ true → follows a c ≡ true
@@ -57,17 +57,12 @@ pub each-ordered : (ws : List Row) → EachFollows ws → ordered ws ≡ true
 each-ordered [] c = refl
 each-ordered (w ∷ ws) c = from-each w ws c
 
--- a row's side of a key; a free row is above every key
-abbrev pub rowSide : Key → Row → Side
-rowSide key none = Greater
-rowSide key (some e) = sideOf (e .key) key
-
 pub not-less : (o : Side) → o ≡ Greater → o ≡ Less → ⊥
 not-less o g l = let z : _≡_ {A = ℕ} 0 1 = cc in omega arith
 
 -- after a row that isn't below the key all are above it, and the key isn't there
 module _ (key : Key) where
-  side-after : (w v : Row) → follows w v ≡ true → (rowSide key w ≡ Less → ⊥) → rowSide key v ≡ Greater
+  pub side-after : (w v : Row) → follows w v ≡ true → (rowSide key w ≡ Less → ⊥) → rowSide key v ≡ Greater
   side-after w none p n = refl
   side-after none (some e) p n = absurd (false≢true p)
   side-after (some d) (some e) p n =
