@@ -53,7 +53,7 @@ module _ (p : Doc → Bool) where
   each-staying [] c = tt
   each-staying (v ∷ ws) c = cases (stays p v) (λ t. rw t (follow-staying v ws (c .0), each-staying ws (c .1))) (λ f. rw f (each-staying ws (c .1)))
 
-  few-stay : (ws : List Row) → length (stayingRows p ws) ≤ length ws
+  pub few-stay : (ws : List Row) → length (stayingRows p ws) ≤ length ws
   few-stay [] = omega arith
   few-stay (v ∷ ws) = cases (stays p v) (λ t. rw t (omega (arith, few-stay ws))) (λ f. rw f (omega (arith, few-stay ws)))
 
