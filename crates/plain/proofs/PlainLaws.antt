@@ -20,7 +20,7 @@ same-flip : (a b : Key) → same a b ≡ false → same b a ≡ false
 same-flip a b h = cases (same b a) (λ s. absurd (true≢false (sym (rw (same-true b a s) (same-refl a)) ∙ h))) (λ s. s)
 
 -- the tests for two keys that differ can be swapped
-swap : (i k j : Key) (a b : Doc) (o : Option Doc) → same i k ≡ false
+pub swap : (i k j : Key) (a b : Doc) (o : Option Doc) → same i k ≡ false
     → cond (same i j) (some a) (cond (same k j) (some b) o) ≡ cond (same k j) (some b) (cond (same i j) (some a) o)
 swap i k j a b o h = cases (same k j) (λ s. rw (s, ← same-true k j s, h)) (λ s. rw s)
 

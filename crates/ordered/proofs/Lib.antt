@@ -1,0 +1,4 @@
+pub mod OrderLaws
+pub mod InsertLaws
+pub mod PurgeLaws
+pub mod OrderedLaws

@@ -1,0 +1,32 @@
+-- What is claimed of rows in key order, by themselves and beside the plain engine's. Proved in proofs/.
+use Prim.Native.Nat.{ℕ}
+use mathlib.Core.Path.{_≡_}
+use mathlib.Core.Bool.{true}
+use mathlib.Core.List.{List}
+use Rattle.engine.specs.Engine.{Laws}
+use Rattle.engine.specs.Alike.{Alike, StaysAlike}
+use Rattle.rows.specs.Row.{Row}
+use Rattle.rows.specs.Table.{fresh}
+use Rattle.plain.specs.Plain.{Distinct, plain}
+use Rattle.ordered.specs.Order.{ordered}
+use Rattle.ordered.specs.Ordered.{orderedEngine}
+
+-- no two rows in order have one key, so that what holds of the plain engine's rows holds of them
+abbrev pub OrderedDistinct : Type 0
+OrderedDistinct = (r : List Row) → ordered r ≡ true → Distinct r
+
+-- a store and a purge leave rows in order, and what is found, the room and the number of rows are what any engine's are
+abbrev pub OrderedLaws : Type 0
+OrderedLaws = Laws orderedEngine
+
+-- "Keep the old table as the plain engine": rows of the two that hold the same documents have the same room and the same purge counts, and a store and a purge keep them alike, "row places aside"
+abbrev pub OrderedAlike : Type 0
+OrderedAlike = StaysAlike plain orderedEngine
+
+-- a fresh table is in order
+abbrev pub FreshOrdered : Type 0
+FreshOrdered = (n state mode vbucket : ℕ) → ordered (fresh n state mode vbucket .rows) ≡ true
+
+-- "fresh tables made alike" are alike
+abbrev pub FreshAlike : Type 0
+FreshAlike = (n state mode vbucket : ℕ) → Alike plain orderedEngine (fresh n state mode vbucket .rows) (fresh n state mode vbucket .rows)

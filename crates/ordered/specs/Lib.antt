@@ -1,0 +1,5 @@
+pub mod Order
+pub mod Insert
+pub mod Purge
+pub mod Ordered
+pub mod Claims

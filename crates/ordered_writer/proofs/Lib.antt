@@ -1,0 +1,4 @@
+pub mod Moving
+pub mod Closing
+pub mod Inserting
+pub mod Purging

@@ -1,0 +1,3 @@
+pub mod Insertion
+pub mod Gaps
+pub mod Claims
