@@ -1,4 +1,4 @@
--- The reply area under serving, whatever the table, the clock and the received bytes: a reply fits the room that serving asks for, the reply to another status than 0 is a bare header, and a touch and a join are answered what order 4 says. Proved in proofs/Replies.antt and Touched.antt.
+-- The reply area under serving, whatever the table, the clock and the received bytes: a reply fits the room that serving asks for, the reply to another status than 0 is a bare header, and a touch and a join are answered what order 4 says. Proved in proofs/Replies.antt and Answered.antt.
 use Prim.Native.Nat.{ℕ, _+_, _^_, _≤_, _<_}
 use mathlib.Core.Path.{_≡_}
 use mathlib.Core.Bool.{Bool, true, false, cond, _&&_}

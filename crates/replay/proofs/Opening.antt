@@ -1,21 +1,22 @@
 -- A trace that has opened, on memory for 32 rows: the table that is made there is a fresh one in the trace's mode.
 use native.Mathlib.Omega.{arith}
 use Prim.Native.Nat.{ℕ, _≤_}
-use mathlib.Core.Path.{_≡_, refl, sym, ap, _∙_}
+use mathlib.Core.Path.{_≡_, refl, sym, ap, subst, _∙_}
 use mathlib.Core.Bool.{true, false, _||_}
 use mathlib.Core.Logic.{_⊎_, inl, inr}
 use mathlib.Core.List.{List, []}
 use lib.ListN.{length}
 use lib.Dec.{ltb, eqb}
-use borrow.Author.Tests.{eqb-true, eq-eqb, ltb-false}
+use borrow.Author.Tests.{eq-eqb, ltb-false}
 use Rattle.octets.specs.BigEndian.{num}
-use Rattle.octets.proofs.Choices.{cond-elim, either}
+use Rattle.octets.proofs.Choices.{cond-elim}
 use Rattle.rows.specs.RowRules.{sizeOk}
 use Rattle.rows.specs.Table.{tableBytes, fresh}
 use Rattle.owner.specs.Owner.{makeOk, made}
 use Rattle.trace.specs.declared.Opening.{Opening}
 use Rattle.trace.specs.declared.Opening.the-variants.{Broken, Opened}
 use Rattle.trace.specs.Trace.{openingOf, fieldsIn}
+use Rattle.trace.proofs.Modes.{mode-known}
 use Rattle.replay.specs.declared.Ending.{Ending}
 use Rattle.replay.specs.declared.Ending.the-variants.{Damaged, Stopped}
 use Rattle.replay.specs.Replay.{After, onOpening, replayed, walked}
@@ -29,10 +30,6 @@ pub record Opens (trace : List ℕ) (mode : ℕ) : Type 0 where
 no-opening {ℓ} : {X : Type ℓ} (mode vbucket : ℕ) → Broken ≡ Opened mode vbucket → X
 no-opening mode vbucket e = absurd (let y : _≡_ {A = ℕ} 0 1 = cc in omega arith)
 
-named : (n mode : ℕ) → n ≡ mode → (eqb n 1 ≡ true) ⊎ (eqb n 2 ≡ true) → (mode ≡ 1) ⊎ (mode ≡ 2)
-named n mode e (inl t) = inl (sym e ∙ eqb-true n 1 t)
-named n mode e (inr t) = inr (sym e ∙ eqb-true n 2 t)
-
 pub opens : (trace : List ℕ) (mode vbucket : ℕ) → openingOf trace ≡ Opened mode vbucket → Opens trace mode
 unfolding openingOf
 opens trace mode vbucket e =
@@ -44,7 +41,7 @@ opens trace mode vbucket e =
     record {
       least = ltb-false _ _ u;
       most = ltb-false _ _ t;
-      known = named (num trace 0 1) mode m (either (eqb (num trace 0 1) 1) (eqb (num trace 0 1) 2) v);
+      known = subst (λ (n : ℕ). (n ≡ 1) ⊎ (n ≡ 2)) m (mode-known (num trace 0 1) v);
     })
     (λ v z. no-opening mode vbucket z)))
 

@@ -9,6 +9,7 @@ ghost use Rattle.octets.specs.Compare.{same};
 ghost use Rattle.replay.specs.Replay.{replayed, walked};
 ghost use Rattle.replay.specs.Turns.{passed, replyStep, FrameTurns, Turns, Walks};
 use run::Cursor;
+use serving::ROOM;
 use serving::Served;
 use trace::FRONT;
 use trace::Field;
@@ -164,7 +165,7 @@ pub fn replay(b: &mut [u8], trace: &[u8]) -> Ending
     match trace::opening_of(trace) {
         Opening::Broken => Ending::Stopped(0),
         Opening::Opened(mode, vbucket) => {
-            let mut out = [0u8; 1302];
+            let mut out = [0u8; ROOM];
             owner::make(b, ROWS, ACTIVE, mode, vbucket);
             replay_fields(b, trace, &mut out)
         }

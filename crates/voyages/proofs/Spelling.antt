@@ -12,11 +12,12 @@ use lib.Seq.{drop-drop}
 use borrow.Author.Tests.{ltb-true, ltb-false, eqb-true, eqb-false, le-ltb, eq-eqb, ne-eqb}
 use Rattle.octets.specs.Parts.{part}
 use Rattle.octets.specs.BigEndian.{be, num}
-use Rattle.octets.proofs.Choices.{cases, both, either}
+use Rattle.octets.proofs.Choices.{cases, both}
 use Rattle.trace.specs.declared.Opening.the-variants.{Broken as NotOpened, Opened}
 use Rattle.trace.specs.declared.Field.{Field}
 use Rattle.trace.specs.declared.Field.the-variants.{Clock, Frame, Reply, Purge, Broken}
 use Rattle.trace.specs.Trace.{Placed, openingOf, lengthIn, bytesHeld, fieldBy, fieldOf, isBroken, placedFrom, fieldsFrom, fieldsIn}
+use Rattle.trace.proofs.Modes.{mode-known, known-mode}
 use Rattle.replay.specs.declared.Ending.{Ending}
 use Rattle.replay.specs.declared.Ending.the-variants.{Damaged, Differs, Stopped, Replayed}
 use Rattle.replay.specs.Replay.{replayed}
@@ -25,14 +26,6 @@ use Rattle.voyages.specs.Spelling.{WellOpened, BadOpeningStops, OtherSiz
 use Rattle.voyages.proofs.Serving.{opened-serves}
 
 -- ---- the opening
-known-mode : (n : ℕ) → (n ≡ 1) ⊎ (n ≡ 2) → (eqb n 1 || eqb n 2) ≡ true
-known-mode n (inl e) = rw e refl
-known-mode n (inr e) = rw e refl
-
-mode-known : (n : ℕ) → (eqb n 1 ≡ true) ⊎ (eqb n 2 ≡ true) → (n ≡ 1) ⊎ (n ≡ 2)
-mode-known n (inl t) = inl (eqb-true n 1 t)
-mode-known n (inr t) = inr (eqb-true n 2 t)
-
 opening-read : (trace : List ℕ) → WellOpened trace → openingOf trace ≡ Opened (num trace 0 1) (num trace 1 2)
 unfolding openingOf
 opening-read trace w =
@@ -47,7 +40,7 @@ opening-bad trace f =
     (λ v. absurd (f (record {
       least = ltb-false _ _ u;
       most = ltb-false _ _ t;
-      mode = mode-known (num trace 0 1) (either (eqb (num trace 0 1) 1) (eqb (num trace 0 1) 2) v);
+      mode = mode-known (num trace 0 1) v;
     })))
     (λ v. rw (t, u, v) refl)))
 
