@@ -1,4 +1,4 @@
-/* The search for a key, timed or counted in two libraries: see bench/search. */
+/* The plain engine's search for a key, timed or counted in two libraries: see bench/search. */
 #include "../include/contacts.h"
 #include <stdio.h>
 #include <stdlib.h>
@@ -9,8 +9,8 @@
 #define CLOCK 1000
 #define NOBODY 255 /* the number of a key that no row has */
 
-typedef contacts_document read_call(const uint8_t *, size_t, uint32_t, const uint8_t *, size_t);
-typedef contacts_served serve_call(uint8_t *, size_t, uint32_t, const uint8_t *, size_t, uint8_t *, size_t,
+typedef contacts_document read_call(bool, const uint8_t *, size_t, uint32_t, const uint8_t *, size_t);
+typedef contacts_served serve_call(bool, uint8_t *, size_t, uint32_t, const uint8_t *, size_t, uint8_t *, size_t,
                                    contacts_tally *);
 read_call front_read;
 serve_call front_serve;
@@ -66,10 +66,10 @@ static size_t make_frame(uint8_t opcode, size_t extras, size_t key_len, size_t v
 /* One call, whose instructions callgrind counts. */
 __attribute__((noinline)) int counted(const struct side *side, enum call call, size_t key_len, size_t frame_len) {
     if (call == READ || call == READ_NOTHING) {
-        contacts_document d = side->read(table, sizeof table, CLOCK, key, call == READ ? key_len : 0);
+        contacts_document d = side->read(true, table, sizeof table, CLOCK, key, call == READ ? key_len : 0);
         return d.outcome ? -1 : d.status;
     }
-    contacts_served s = side->serve(table, sizeof table, CLOCK, frame, frame_len, reply, sizeof reply, &tally);
+    contacts_served s = side->serve(true, table, sizeof table, CLOCK, frame, frame_len, reply, sizeof reply, &tally);
     return s.outcome ? -1 : s.status;
 }
 

@@ -33,13 +33,13 @@ static contacts_written write_get(uint16_t vbucket, size_t key_len)
 
 static contacts_served serve(size_t len)
 {
-    return contacts_serve(table, sizeof table, NOW, frame, len, reply, sizeof reply, &tally);
+    return contacts_serve(false, table, sizeof table, NOW, frame, len, reply, sizeof reply, &tally);
 }
 
 /* The seconds left, also of a contact that is past. */
 static void tell(const char *when, uint32_t clock)
 {
-    contacts_document found = contacts_read(table, sizeof table, clock, key, KEY);
+    contacts_document found = contacts_read(false, table, sizeof table, clock, key, KEY);
     switch (found.lifetime) {
     case CONTACTS_LIFETIME_SECONDS:
         printf("%s: %" PRId64 " seconds left\n", when, found.left);
@@ -65,7 +65,7 @@ int main(void)
     size_t at = CONTACTS_FRAME_HEADER + reply[CONTACTS_FRAME_AT_EXTRAS_LENGTH];
     printf("get: status 0x%02x, value \"%.*s\"\n", get.status, (int)(get.reply - at), (const char *)reply + at);
 
-    contacts_document found = contacts_read(table, sizeof table, NOW, key, KEY);
+    contacts_document found = contacts_read(false, table, sizeof table, NOW, key, KEY);
     printf("read: flags %" PRIu32 ", expiry %" PRIu32 ", revision %" PRIu64 ", CAS %" PRIu64 ", value \"%.*s\"\n",
            found.flags, found.expiry, found.revision, found.cas, (int)found.value.len,
            (const char *)table + found.value.at);

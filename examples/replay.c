@@ -16,7 +16,7 @@ int main(void)
     size_t len = fread(trace, 1, sizeof trace, stdin);
     if (ferror(stdin))
         return 1;
-    contacts_replayed replayed = contacts_replay(table, sizeof table, trace, len);
+    contacts_replayed replayed = contacts_replay(false, table, sizeof table, trace, len);
     switch (replayed.end) {
     case CONTACTS_REPLAY_DIFFERS:
         printf("differs %zu\n", replayed.place);

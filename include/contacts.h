@@ -3,7 +3,7 @@
  *
  * Link with libcontacts.a, which is for x86-64 Linux. A table is plain memory of yours: the library makes it, serves
  * requests on it, reads and purges it, and keeps nothing between calls. It allocates nothing, does no input or output,
- * and takes less than 4 KiB of stack, contacts_replay less than 6 KiB (measured).
+ * and takes less than 5 KiB of stack, contacts_replay less than 6 KiB (measured).
  *
  * Every call is proved to return and to meet a contract that fixes its answer and every lent byte, whatever numbers and
  * bytes you pass. This header says the contracts in words. docs/LAYOUT.md has the layout of tables, frames, traces and
@@ -243,6 +243,26 @@ extern "C" {
  * an expiry is expired, until the table is made anew. Check the clock before the first call.
  */
 
+/* ---- The engine ------------------------------------------------------------------------------------------------ */
+
+/*
+ * Two engines keep a table's rows, and every call on a table but contacts_size and contacts_make has as its first
+ * argument which one: bool plain. Pass false.
+ *
+ *   false   rows in key order: the used rows come first, in rising order of their keys' bytes (0x7f before 0x80, a
+ *           prefix before what it begins), and the free rows after them. A new key is put at its place, and the rows
+ *           after it move by one; a purge moves the rows that stay together. A row out of this order, a key that two
+ *           rows have, and a used row after a free one are damage, seen in one walk; a key is found by halving
+ *   true    the plain engine, to compare with: a row stays where it is, a new key takes the lowest free row, and of the
+ *           order only that no two rows have one key is asked. It is the slower one on large tables
+ *
+ * A fresh table is the same for both. From there on, calls made alike have the same answers, replies, tallies,
+ * documents, tombstones, mark and kept clock by either; only the places of rows differ, so value.at of contacts_read.
+ *
+ * WARNING: stay with one engine for a table. One whose rows are in key order is sound by either; but once the plain
+ * engine has stored a new key in it or purged it, its rows may be out of order, and with false it is damaged.
+ */
+
 /* ---- The owner's calls ----------------------------------------------------------------------------------------- */
 
 /* Bytes of the table or of a frame: their place, counted from its first byte, and their number. */
@@ -271,10 +291,12 @@ size_t contacts_size(size_t rows);
 uint8_t contacts_make(uint8_t *table, size_t table_len, size_t rows, uint8_t state, uint8_t mode, uint16_t vbucket);
 
 /*
- * Whether the memory is a sound table: of the size of 1 to 256 rows, and as docs/LAYOUT.md says in every byte. All else
- * is damaged. Reading, purging and serving test this themselves.
+ * Whether the memory is a sound table of this engine: of the size of 1 to 256 rows, and as docs/LAYOUT.md says in every
+ * byte. All else is damaged. Reading, purging and serving test this themselves.
+ *
+ *   plain   false: rows in key order; true: the plain engine. So in all calls
  */
-bool contacts_sound(const uint8_t *table, size_t table_len);
+bool contacts_sound(bool plain, const uint8_t *table, size_t table_len);
 
 /* What a read tells of a document's lifetime. */
 #define CONTACTS_LIFETIME_NONE 0      /* nothing: there is no document; left is 0 */
@@ -308,12 +330,13 @@ typedef struct contacts_document {
  *   outcome 0, status 0x01      no live document with this key; all else is 0, but for the two of an expired document:
  *     lifetime SECONDS          it is expired; left is 0 or less: 0 at its expiry, -60 a minute after it
  *     lifetime NONE             the key has no row or a tombstone, or is of 0 or over 250 bytes
- *   outcome 0, status 0         the document. The value's bytes are table + value.at, until a call changes the table.
+ *   outcome 0, status 0         the document. The value's bytes are table + value.at, until a call changes the table: a
+ *                               new key and a purge move the rows of other keys too
  *     lifetime SECONDS          left is above 0: the document expires in so many seconds
  *     lifetime NEVER            it never expires: its expiry is 0
  */
-contacts_document contacts_read(const uint8_t *table, size_t table_len, uint32_t clock, const uint8_t *key,
-                                size_t key_len);
+contacts_document contacts_read(bool plain, const uint8_t *table, size_t table_len, uint32_t clock,
+                                const uint8_t *key, size_t key_len);
 
 typedef struct contacts_purged {
     uint8_t outcome;
@@ -323,7 +346,8 @@ typedef struct contacts_purged {
 /*
  * Frees exactly the rows of tombstones and of documents expired at the later clock whose CAS is at or below the bound,
  * raises the kept clock to the later clock, also where no row is freed, and leaves all else of the table, the mark too.
- * With UINT64_MAX as bound it frees them all.
+ * With UINT64_MAX as bound it frees them all. The rows that stay keep their order and move together, free rows follow;
+ * with plain true they stay where they are.
  *
  * WARNING: a freed row is forgotten. If an older copy of an erased or expired document may still arrive, as a with-meta
  * write, it is then stored as new: the contact comes back. Choose as bound a CAS up to which every copy has arrived,
@@ -331,7 +355,7 @@ typedef struct contacts_purged {
  *
  * Answers outcome 0 and the number of rows freed, or outcome 5 and 0 with nothing changed where the table is damaged.
  */
-contacts_purged contacts_purge(uint8_t *table, size_t table_len, uint32_t clock, uint64_t bound);
+contacts_purged contacts_purge(bool plain, uint8_t *table, size_t table_len, uint32_t clock, uint64_t bound);
 
 /* ---- Serving --------------------------------------------------------------------------------------------------- */
 
@@ -424,7 +448,7 @@ typedef struct contacts_served {
  * bytes of the reply area past the reply are unchanged, and a status other than 0 changes no byte of the table but the
  * kept clock's.
  */
-contacts_served contacts_serve(uint8_t *table, size_t table_len, uint32_t clock, const uint8_t *received,
+contacts_served contacts_serve(bool plain, uint8_t *table, size_t table_len, uint32_t clock, const uint8_t *received,
                                size_t received_len, uint8_t *reply, size_t reply_len, contacts_tally *tally);
 
 typedef struct contacts_ran {
@@ -447,7 +471,7 @@ typedef struct contacts_ran {
  *   outcome 2 or 3          the frame at received + used; close the connection after the replies
  *   outcome 1, needed N     the frame at received + used isn't all there; N is 24 and its body length
  */
-contacts_ran contacts_serve_run(uint8_t *table, size_t table_len, uint32_t clock, const uint8_t *received,
+contacts_ran contacts_serve_run(bool plain, uint8_t *table, size_t table_len, uint32_t clock, const uint8_t *received,
                                 size_t received_len, uint8_t *reply, size_t reply_len, contacts_tally *tally);
 
 /* ---- Requests -------------------------------------------------------------------------------------------------- */
@@ -553,7 +577,7 @@ typedef struct contacts_replayed {
  * and the purges before the end, served and purged one by one, leave it. A field that stops the replay changes nothing,
  * also where it holds a whole frame and more bytes.
  */
-contacts_replayed contacts_replay(uint8_t *table, size_t table_len, const uint8_t *trace, size_t trace_len);
+contacts_replayed contacts_replay(bool plain, uint8_t *table, size_t table_len, const uint8_t *trace, size_t trace_len);
 
 #ifdef __cplusplus
 }

@@ -1,6 +1,6 @@
 //! What is served on what: a table, free or full, and a request.
 
-use contact_tests::answers::Tally;
+use contact_tests::answers::{Engine, Tally};
 use contact_tests::frame::{meta_extras, plain_extras, touch_extras, Frame};
 use contact_tests::rendering;
 use contacts::{opcode, Mode, State, Status};
@@ -73,13 +73,19 @@ impl Table {
         }
     }
 
+    /// The table as users get it, its rows in key order.
     pub fn memory(&self) -> Vec<u8> {
+        self.memory_of(Engine::Ordered)
+    }
+
+    /// The table after its documents are set one after another.
+    pub fn memory_of(&self, engine: Engine) -> Vec<u8> {
         let mut memory = vec![0; rendering::size(self.rows)];
         rendering::make(&mut memory, self.rows, State::Active.number(), Mode::Revision.number(), 0);
         let mut reply = [0; contacts::REPLY_ROOM];
         for place in 0..self.used() {
             let set = frame(opcode::SET, plain_extras(0, 0), self.key_at(place), self.value);
-            rendering::serve(&mut memory, CLOCK, &set, &mut reply, &mut Tally::default());
+            rendering::serve(engine, &mut memory, CLOCK, &set, &mut reply, &mut Tally::default());
         }
         memory
     }

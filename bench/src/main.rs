@@ -1,8 +1,10 @@
 //! The proved library timed beside the Rust rendering and a plain pass over the table: `contact-bench MACHINE ROUNDS`
-//! writes the figures into docs/BENCHMARK.md and plots them in docs/benchmark.svg.
+//! writes the figures into docs/BENCHMARK.md and plots them in docs/benchmark.svg and docs/benchmark-rows.svg.
 
 mod cases;
 mod floor;
+mod growth;
+mod orders;
 mod plot;
 mod race;
 mod report;
@@ -17,6 +19,7 @@ use voyages::Voyage;
 
 const PAGE: &str = concat!(env!("CARGO_MANIFEST_DIR"), "/../docs/BENCHMARK.md");
 const PLOT: &str = concat!(env!("CARGO_MANIFEST_DIR"), "/../docs/benchmark.svg");
+const GROWTH: &str = concat!(env!("CARGO_MANIFEST_DIR"), "/../docs/benchmark-rows.svg");
 
 /// The lines of the page between which its figures stand.
 const FROM: &str = "<!-- figures of bench/run -->\n";
@@ -30,7 +33,11 @@ fn main() -> Result<(), Box<dyn Error>> {
     let part = format!("{machine} Best of {rounds} rounds.\n\n{}", figures.markdown());
     fs::write(PAGE, with_figures(&page, &part).ok_or("docs/BENCHMARK.md has no place for the figures")?)?;
     fs::write(PLOT, plot::plot(&figures.serving))?;
+    fs::write(GROWTH, growth::plot(&figures.orders.growth))?;
     println!("{}\n{}\n{}", figures.on_serving(), figures.on_damage(), figures.on_replays());
+    for goal in figures.orders.goals() {
+        println!("{}: {}, {}.", goal.words, goal.measured, if goal.holds { "holds" } else { "doesn't hold" });
+    }
     figures.within_limit().then_some(()).ok_or("the damage test takes too long".into())
 }
 
@@ -41,7 +48,12 @@ fn measure(rounds: usize) -> Figures {
         let times = voyage.race(rounds);
         (voyage, times)
     });
-    Figures { serving: serving.collect(), damage: damage.collect(), replays: replays.collect() }
+    Figures {
+        serving: serving.collect(),
+        damage: damage.collect(),
+        replays: replays.collect(),
+        orders: orders::Figures::measure(rounds),
+    }
 }
 
 /// The page with its figures replaced.

@@ -117,19 +117,19 @@ fn library_mark(x: f64, y: f64) -> String {
     format!("<circle cx=\"{x:.1}\" cy=\"{y}\" r=\"4.5\" fill=\"#1f5fa8\"/>\n")
 }
 
-fn stroke((x1, y1): (f64, f64), (x2, y2): (f64, f64), colour: &str, width: f64) -> String {
+pub fn stroke((x1, y1): (f64, f64), (x2, y2): (f64, f64), colour: &str, width: f64) -> String {
     format!(
-        "<line x1=\"{x1:.1}\" y1=\"{y1}\" x2=\"{x2:.1}\" y2=\"{y2}\" stroke=\"{colour}\" stroke-width=\"{width}\"/>\n"
+        "<line x1=\"{x1:.1}\" y1=\"{y1:.1}\" x2=\"{x2:.1}\" y2=\"{y2:.1}\" stroke=\"{colour}\" stroke-width=\"{width}\"/>\n"
     )
 }
 
-const TITLE: &str = r#"font-size="17" font-weight="bold""#;
+pub const TITLE: &str = r#"font-size="17" font-weight="bold""#;
 const BOLD: &str = r#"font-weight="bold""#;
-const MIDDLE: &str = r#"text-anchor="middle""#;
-const END: &str = r#"text-anchor="end""#;
+pub const MIDDLE: &str = r#"text-anchor="middle""#;
+pub const END: &str = r#"text-anchor="end""#;
 const SLOWER: &str = r##"text-anchor="end" font-weight="bold" fill="#b00020""##;
 
 /// Text whose middle is at this height.
-fn text(x: f64, y: f64, style: &str, words: &str) -> String {
-    format!("<text x=\"{x:.1}\" y=\"{}\" {style}>{words}</text>\n", y + 4.0)
+pub fn text(x: f64, y: f64, style: &str, words: &str) -> String {
+    format!("<text x=\"{x:.1}\" y=\"{:.1}\" {style}>{words}</text>\n", y + 4.0)
 }

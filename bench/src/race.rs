@@ -38,7 +38,7 @@ pub fn race(
     mut rendering: impl FnMut(&mut [u8]),
     mut library: impl FnMut(&mut [u8]),
 ) -> Times {
-    let mut track = Track::of(table);
+    let mut track = Track::of(&table.memory(), table.rows);
     let mut best = Times { floor: f64::INFINITY, rendering: f64::INFINITY, library: f64::INFINITY };
     for _ in 0..rounds {
         best.floor = best.floor.min(track.time(|memory| {
@@ -46,6 +46,40 @@ pub fn race(
         }));
         best.rendering = best.rendering.min(track.time(&mut rendering));
         best.library = best.library.min(track.time(&mut library));
+    }
+    best
+}
+
+/// What is done with a table's memory.
+type Call<'s> = Box<dyn FnMut(&mut [u8]) + 's>;
+
+/// One of those that are timed in turns.
+pub struct Side<'s> {
+    memory: Vec<u8>,
+    call: Call<'s>,
+}
+
+impl<'s> Side<'s> {
+    pub fn new(memory: &[u8], call: impl FnMut(&mut [u8]) + 's) -> Side<'s> {
+        Side { memory: memory.to_vec(), call: Box::new(call) }
+    }
+
+    /// The plain pass over this memory.
+    pub fn pass(memory: &[u8]) -> Side<'s> {
+        Side::new(memory, |memory| {
+            black_box(pass(memory));
+        })
+    }
+}
+
+/// The best times of any number of sides on tables of so many rows, timed in turns as by [`race`].
+pub fn best<const N: usize>(rows: usize, rounds: usize, sides: [Side; N]) -> [f64; N] {
+    let mut sides = sides.map(|Side { memory, call }| (Track::of(&memory, rows), call));
+    let mut best = [f64::INFINITY; N];
+    for _ in 0..rounds {
+        for (best, (track, call)) in best.iter_mut().zip(&mut sides) {
+            *best = best.min(track.time(call));
+        }
     }
     best
 }
@@ -63,12 +97,12 @@ struct Track {
 impl Track {
     const LINE: usize = 64;
 
-    fn of(table: &Table) -> Track {
-        let mut one = table.memory();
+    fn of(memory: &[u8], rows: usize) -> Track {
+        let mut one = memory.to_vec();
         let size = one.len();
         let stride = size.next_multiple_of(Track::LINE);
         one.resize(stride, 0);
-        let start = one.repeat(ROWS_ON_THE_CLOCK / table.rows);
+        let start = one.repeat(ROWS_ON_THE_CLOCK / rows);
         let memory = vec![0; start.len() + Track::LINE];
         let from = memory.as_ptr().align_offset(Track::LINE);
         Track { size, stride, start, memory, from }

@@ -1,6 +1,7 @@
 //! The figures in words and as Markdown.
 
 use crate::cases::{Case, Fill, Table};
+use crate::orders;
 use crate::race::Times;
 use crate::voyages::{ReplayTimes, Voyage};
 
@@ -11,6 +12,7 @@ pub struct Figures {
     pub serving: Vec<(Case, Times)>,
     pub damage: Vec<(Table, Times)>,
     pub replays: Vec<(Voyage, ReplayTimes)>,
+    pub orders: orders::Figures,
 }
 
 impl Figures {
@@ -71,12 +73,73 @@ impl Figures {
 
 | Keys | Bytes | Frames | Rendering, ns | One by one, ns | Library, ns | Library / rendering | Library / one by one |
 |---|---|---|---|---|---|---|---|
-{replays}",
+{replays}
+{}",
             self.on_serving(),
             self.on_damage(),
             self.on_replays(),
+            on_orders(&self.orders),
         )
     }
+}
+
+/// Rows in key order: the goals, and what they are judged by.
+fn on_orders(figures: &orders::Figures) -> String {
+    let goals = figures.goals().into_iter().map(|goal| {
+        let holds = if goal.holds { "yes" } else { "**no**" };
+        format!("| {} | {} | {holds} |\n", goal.words, goal.measured)
+    });
+    let cases = figures.cases.iter().map(|(case, times)| {
+        let (what, keys, length) = (case.what.name(), case.keys.name(), case.length);
+        format!("| {what} | {length}, {keys} | {} |\n", order_cells(times))
+    });
+    let fronts = figures.fronts.iter().map(|front| {
+        let (moved, over) = (grouped(front.memmove), front.times.ordered / front.memmove);
+        format!("| {} | {} | {moved} | {over:.2} |\n", front.length, order_cells(&front.times))
+    });
+    let growth = figures.growth.iter().flat_map(|growth| {
+        let line = |(rows, times): &(usize, orders::Times)| {
+            format!("| {rows} | {} | {} |\n", growth.length, order_cells(times))
+        };
+        growth.by_rows.iter().map(line).collect::<Vec<_>>()
+    });
+    format!(
+        "### Rows in key order, 256 rows
+
+| Goal | Measured | Holds |
+|---|---|---|
+{}
+| What | Keys, bytes | {ORDER_TIMES} |
+|---|---|---|---|---|---|---|---|---|
+{}
+A Set of a new key before all of 255 rows, which moves 334,560 bytes, beside `memmove` of them:
+
+| Key, bytes | {ORDER_TIMES} | memmove, ns | Key order / memmove |
+|---|---|---|---|---|---|---|---|---|---|
+{}
+A Get of the last that came, by the number of rows, keys scattered:
+
+| Rows | Keys, bytes | {ORDER_TIMES} |
+|---|---|---|---|---|---|---|---|---|
+{}",
+        goals.collect::<String>(),
+        cases.collect::<String>(),
+        fronts.collect::<String>(),
+        growth.collect::<String>(),
+    )
+}
+
+const ORDER_TIMES: &str =
+    "Floor, ns | Rendering, ns | Plain, ns | Key order, ns | Key order / rendering | Key order / plain | Key order / floor";
+
+fn order_cells(times: &orders::Times) -> String {
+    let orders::Times { floor, rendering, plain, ordered, .. } = *times;
+    let ratios = [ordered / rendering, times.over_plain()].map(|ratio| {
+        let bold = if ratio > 1.0 { "**" } else { "" };
+        format!("{bold}{ratio:.2}{bold}")
+    });
+    let [floor, rendering, plain, ordered] = [floor, rendering, plain, ordered].map(grouped);
+    format!("{floor} | {rendering} | {plain} | {ordered} | {} | {:.2}", ratios.join(" | "), times.over_floor())
 }
 
 fn serving_line(Case { table, request }: &Case, times: &Times) -> String {

@@ -2,6 +2,7 @@
 
 use crate::cases::{Case, Table};
 use crate::race::{race, Times};
+use contact_tests::answers::Engine::Ordered;
 use contact_tests::{answers, rendering};
 use contacts::REPLY_ROOM;
 use std::hint::black_box;
@@ -17,7 +18,7 @@ pub fn calling(case: &Case, rounds: usize) -> Times {
 
 fn reading(case: &Case, rounds: usize) -> Times {
     let (clock, key, memory) = (case.clock(), case.key(), case.table.memory());
-    let rendered = rendering::read(&memory, clock, &key);
+    let rendered = rendering::read(Ordered, &memory, clock, &key);
     assert_eq!((rendered.outcome, rendered.status), (0, case.request.status().number()), "{case:?}");
     let read = contacts::read(&memory, clock, &key).expect("the table is sound");
     let shown = read.live().map(|document| (document.cas.0, document.value));
@@ -27,7 +28,7 @@ fn reading(case: &Case, rounds: usize) -> Times {
         &case.table,
         rounds,
         |memory| {
-            black_box(rendering::read(memory, clock, black_box(&key)));
+            black_box(rendering::read(Ordered, memory, clock, black_box(&key)));
         },
         |memory| {
             let _ = black_box(contacts::read(memory, clock, black_box(&key)));
@@ -44,7 +45,7 @@ fn serving(case: &Case, rounds: usize) -> Times {
         &case.table,
         rounds,
         |memory| {
-            black_box(rendering::serve(memory, clock, black_box(&frame), &mut rendered, &mut rendered_tally));
+            black_box(rendering::serve(Ordered, memory, clock, black_box(&frame), &mut rendered, &mut rendered_tally));
         },
         |memory| {
             let _ = black_box(contacts::serve(memory, clock, black_box(&frame), &mut reply, &mut tally));
@@ -59,7 +60,8 @@ fn hold_to_one_answer(case: &Case) {
     let mut memory = rendered_memory.clone();
     let (mut rendered_reply, mut reply) = ([0xee; REPLY_ROOM], [0xee; REPLY_ROOM]);
     let (mut rendered_tally, mut tally) = (answers::Tally::default(), contacts::Tally::default());
-    let rendered = rendering::serve(&mut rendered_memory, clock, &frame, &mut rendered_reply, &mut rendered_tally);
+    let rendered =
+        rendering::serve(Ordered, &mut rendered_memory, clock, &frame, &mut rendered_reply, &mut rendered_tally);
     let served = contacts::serve(&mut memory, clock, &frame, &mut reply, &mut tally).expect("the frame is whole");
 
     assert_eq!(served.status, case.request.status(), "{case:?}");
@@ -77,12 +79,12 @@ fn hold_to_one_answer(case: &Case) {
 
 pub fn damage_test(table: &Table, rounds: usize) -> Times {
     let memory = table.memory();
-    assert!(rendering::sound(&memory) && contacts::sound(&memory), "{table:?}");
+    assert!(rendering::sound(Ordered, &memory) && contacts::sound(&memory), "{table:?}");
     race(
         table,
         rounds,
         |memory| {
-            black_box(rendering::sound(memory));
+            black_box(rendering::sound(Ordered, memory));
         },
         |memory| {
             black_box(contacts::sound(memory));

@@ -1,5 +1,6 @@
 //! A voyage replayed from its trace, beside its frames served one by one, and beside the rendering's replay.
 
+use contact_tests::answers::Engine::Ordered;
 use contact_tests::answers::{self, end};
 use contact_tests::frame::{meta_extras, plain_extras, Frame};
 use contact_tests::rendering;
@@ -78,7 +79,7 @@ impl Voyage {
         let (mut table, fresh) = (fresh(), fresh());
         for _ in 0..rounds.div_ceil(CALLS_IN_A_REPLAY) {
             let time = self.time(|| {
-                black_box(rendering::replay(&mut table, black_box(&self.trace)));
+                black_box(rendering::replay(Ordered, &mut table, black_box(&self.trace)));
             });
             best.rendering = best.rendering.min(time);
             let time = self.time(|| {
@@ -113,7 +114,7 @@ impl Voyage {
     /// All three replay it whole, and leave the same table.
     fn hold_to_one_answer(&self) {
         let (mut rendered, mut served, mut replayed) = (fresh(), fresh(), vec![0xee; fresh().len()]);
-        let answer = rendering::replay(&mut rendered, &self.trace);
+        let answer = rendering::replay(Ordered, &mut rendered, &self.trace);
         assert_eq!((answer.end, answer.frames), (end::REPLAYED, self.frames()));
         assert!(self.serves_alike(&mut served));
         let replay = contacts::replay_in(&mut replayed, &self.trace);
@@ -130,7 +131,7 @@ fn fresh() -> Vec<u8> {
 
 fn replied(table: &mut [u8], frame: &[u8]) -> Vec<u8> {
     let mut reply = vec![0; REPLY_ROOM];
-    let served = rendering::serve(table, CLOCK, frame, &mut reply, &mut answers::Tally::default());
+    let served = rendering::serve(Ordered, table, CLOCK, frame, &mut reply, &mut answers::Tally::default());
     assert_eq!((served.outcome, served.status), (0, 0));
     reply.truncate(served.reply);
     reply

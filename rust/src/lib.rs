@@ -16,6 +16,9 @@
 //! [`replay`] serves once more, on a fresh table, what a boat recorded in a [`Trace`], and says where a reply differs from
 //! the one that the boat gave.
 //!
+//! A table keeps its used rows first and in key order, so that a key is found by halving. [`plain`] has the engine that
+//! doesn't, to compare with.
+//!
 //! `include/contacts.h` says what every command does, `docs/LAYOUT.md` how tables, frames and traces are
 //! laid out.
 //!
@@ -43,8 +46,10 @@
 #![deny(missing_docs, unsafe_code)]
 
 mod answers;
+mod engine;
 pub mod opcode;
 pub mod option;
+pub mod plain;
 mod raw;
 mod request;
 mod serve;

@@ -1,4 +1,5 @@
 //! The calls of `libcontacts.a` as `include/contacts.h` declares them, over slices. All unsafe code of the crate is here.
+//! Where a call takes `plain`, false is the engine with rows in key order and true the plain one.
 //!
 //! Every call is safe for the same reason: what the library asks of its caller is what a reference has. A slice is that
 //! many bytes with values, its pointer isn't null, its length is under 2^63, `&mut` overlaps nothing else that is lent,
@@ -108,10 +109,18 @@ pub const REPLAY_STOPPED: u8 = 2;
 extern "C" {
     fn contacts_size(rows: usize) -> usize;
     fn contacts_make(table: *mut u8, table_len: usize, rows: usize, state: u8, mode: u8, vbucket: u16) -> u8;
-    fn contacts_sound(table: *const u8, table_len: usize) -> bool;
-    fn contacts_read(table: *const u8, table_len: usize, clock: u32, key: *const u8, key_len: usize) -> DocumentAnswer;
-    fn contacts_purge(table: *mut u8, table_len: usize, clock: u32, bound: u64) -> PurgedAnswer;
+    fn contacts_sound(plain: bool, table: *const u8, table_len: usize) -> bool;
+    fn contacts_read(
+        plain: bool,
+        table: *const u8,
+        table_len: usize,
+        clock: u32,
+        key: *const u8,
+        key_len: usize,
+    ) -> DocumentAnswer;
+    fn contacts_purge(plain: bool, table: *mut u8, table_len: usize, clock: u32, bound: u64) -> PurgedAnswer;
     fn contacts_serve(
+        plain: bool,
         table: *mut u8,
         table_len: usize,
         clock: u32,
@@ -122,6 +131,7 @@ extern "C" {
         tally: *mut Tally,
     ) -> ServedAnswer;
     fn contacts_serve_run(
+        plain: bool,
         table: *mut u8,
         table_len: usize,
         clock: u32,
@@ -147,7 +157,13 @@ extern "C" {
         out: *mut u8,
         out_len: usize,
     ) -> WrittenAnswer;
-    fn contacts_replay(table: *mut u8, table_len: usize, trace: *const u8, trace_len: usize) -> ReplayedAnswer;
+    fn contacts_replay(
+        plain: bool,
+        table: *mut u8,
+        table_len: usize,
+        trace: *const u8,
+        trace_len: usize,
+    ) -> ReplayedAnswer;
 }
 
 pub fn size(rows: usize) -> usize {
@@ -158,21 +174,29 @@ pub fn make(table: &mut [u8], rows: usize, state: u8, mode: u8, vbucket: u16) ->
     unsafe { contacts_make(table.as_mut_ptr(), table.len(), rows, state, mode, vbucket) }
 }
 
-pub fn sound(table: &[u8]) -> bool {
-    unsafe { contacts_sound(table.as_ptr(), table.len()) }
+pub fn sound(plain: bool, table: &[u8]) -> bool {
+    unsafe { contacts_sound(plain, table.as_ptr(), table.len()) }
 }
 
-pub fn read(table: &[u8], clock: u32, key: &[u8]) -> DocumentAnswer {
-    unsafe { contacts_read(table.as_ptr(), table.len(), clock, key.as_ptr(), key.len()) }
+pub fn read(plain: bool, table: &[u8], clock: u32, key: &[u8]) -> DocumentAnswer {
+    unsafe { contacts_read(plain, table.as_ptr(), table.len(), clock, key.as_ptr(), key.len()) }
 }
 
-pub fn purge(table: &mut [u8], clock: u32, bound: u64) -> PurgedAnswer {
-    unsafe { contacts_purge(table.as_mut_ptr(), table.len(), clock, bound) }
+pub fn purge(plain: bool, table: &mut [u8], clock: u32, bound: u64) -> PurgedAnswer {
+    unsafe { contacts_purge(plain, table.as_mut_ptr(), table.len(), clock, bound) }
 }
 
-pub fn serve(table: &mut [u8], clock: u32, received: &[u8], reply: &mut [u8], tally: &mut Tally) -> ServedAnswer {
+pub fn serve(
+    plain: bool,
+    table: &mut [u8],
+    clock: u32,
+    received: &[u8],
+    reply: &mut [u8],
+    tally: &mut Tally,
+) -> ServedAnswer {
     unsafe {
         contacts_serve(
+            plain,
             table.as_mut_ptr(),
             table.len(),
             clock,
@@ -185,9 +209,17 @@ pub fn serve(table: &mut [u8], clock: u32, received: &[u8], reply: &mut [u8], ta
     }
 }
 
-pub fn serve_run(table: &mut [u8], clock: u32, received: &[u8], reply: &mut [u8], tally: &mut Tally) -> RanAnswer {
+pub fn serve_run(
+    plain: bool,
+    table: &mut [u8],
+    clock: u32,
+    received: &[u8],
+    reply: &mut [u8],
+    tally: &mut Tally,
+) -> RanAnswer {
     unsafe {
         contacts_serve_run(
+            plain,
             table.as_mut_ptr(),
             table.len(),
             clock,
@@ -224,8 +256,8 @@ pub fn write_request(fields: &crate::Fields, extras: &[u8], key: &[u8], value: &
     }
 }
 
-pub fn replay(table: &mut [u8], trace: &[u8]) -> ReplayedAnswer {
-    unsafe { contacts_replay(table.as_mut_ptr(), table.len(), trace.as_ptr(), trace.len()) }
+pub fn replay(plain: bool, table: &mut [u8], trace: &[u8]) -> ReplayedAnswer {
+    unsafe { contacts_replay(plain, table.as_mut_ptr(), table.len(), trace.as_ptr(), trace.len()) }
 }
 
 #[cfg(test)]

@@ -1,7 +1,7 @@
 //! Serving requests on a table.
 
-use crate::raw::{self, Tally};
-use crate::{Outcome, Status, Stop};
+use crate::engine::Engine;
+use crate::{Status, Stop, Tally};
 
 /// One frame served.
 #[derive(Clone, Copy, Debug, PartialEq, Eq, Hash)]
@@ -23,6 +23,9 @@ pub struct Ran<'r> {
     pub replies: &'r [u8],
     /// Why it stopped. [`Outcome::Short`] with 24 needed is the end of the run, and [`Outcome::Room`] asks for another
     /// call once the replies are sent, where `used` isn't all.
+    ///
+    /// [`Outcome::Short`]: crate::Outcome::Short
+    /// [`Outcome::Room`]: crate::Outcome::Room
     pub stop: Stop,
 }
 
@@ -37,6 +40,12 @@ pub struct Ran<'r> {
 ///
 /// In this order: [`Outcome::Damaged`]; [`Outcome::Room`]; [`Outcome::Short`] with 24 needed; [`Outcome::Magic`];
 /// [`Outcome::Length`]; [`Outcome::Short`] with 24 and the body needed. Table, reply area and tally are then unchanged.
+///
+/// [`Outcome::Damaged`]: crate::Outcome::Damaged
+/// [`Outcome::Room`]: crate::Outcome::Room
+/// [`Outcome::Short`]: crate::Outcome::Short
+/// [`Outcome::Magic`]: crate::Outcome::Magic
+/// [`Outcome::Length`]: crate::Outcome::Length
 pub fn serve<'r>(
     table: &mut [u8],
     clock: u32,
@@ -44,23 +53,11 @@ pub fn serve<'r>(
     reply: &'r mut [u8],
     tally: &mut Tally,
 ) -> Result<Served<'r>, Stop> {
-    let answer = raw::serve(table, clock, received, reply, tally);
-    match Outcome::from_number(answer.outcome) {
-        Some(outcome) => Err(Stop { outcome, needed: answer.needed }),
-        None => Ok(Served { status: Status::known(answer.status), used: answer.used, reply: &reply[..answer.reply] }),
-    }
+    Engine::Ordered.serve(table, clock, received, reply, tally)
 }
 
 /// Serves the received frames one after another, each as [`serve`] does, until a call is refused. Each frame needs
 /// [`REPLY_ROOM`](crate::REPLY_ROOM) bytes of the reply area after the replies before it.
 pub fn serve_run<'r>(table: &mut [u8], clock: u32, received: &[u8], reply: &'r mut [u8], tally: &mut Tally) -> Ran<'r> {
-    let answer = raw::serve_run(table, clock, received, reply, tally);
-    Ran {
-        used: answer.used,
-        replies: &reply[..answer.reply],
-        stop: Stop {
-            outcome: Outcome::from_number(answer.outcome).expect("a run ends at a refused call"),
-            needed: answer.needed,
-        },
-    }
+    Engine::Ordered.serve_run(table, clock, received, reply, tally)
 }

@@ -1,5 +1,6 @@
 //! The owner's calls: size, make, test, read and purge a table.
 
+use crate::engine::Engine;
 use crate::{raw, Damaged};
 
 /// The number of a key's last change. No key's is above the table's mark.
@@ -136,9 +137,10 @@ pub fn make(table: &mut [u8], rows: usize, state: State, mode: Mode, vbucket: u1
     }
 }
 
-/// Whether the memory is a sound table. Reading, purging and serving test this themselves.
+/// Whether the memory is a sound table: as `docs/LAYOUT.md` says in every byte, with the used rows first and in ascending
+/// order of their keys' bytes. Reading, purging and serving test this themselves.
 pub fn sound(table: &[u8]) -> bool {
-    raw::sound(table)
+    Engine::Ordered.sound(table)
 }
 
 /// Reads a key's document at the later of the kept clock and this one, in seconds since 1970, whatever the table's vbucket
@@ -169,32 +171,12 @@ pub fn sound(table: &[u8]) -> bool {
 ///
 /// [`Damaged`] where the table is.
 pub fn read<'t>(table: &'t [u8], clock: u32, key: &[u8]) -> Result<Found<'t>, Damaged> {
-    let answer = raw::read(table, clock, key);
-    if answer.outcome != 0 {
-        return Err(Damaged);
-    }
-    let left = match answer.lifetime {
-        raw::LIFETIME_NEVER => Some(Left::Never),
-        raw::LIFETIME_SECONDS => Some(Left::Seconds(answer.left)),
-        _ => None,
-    };
-    Ok(match (answer.status, left) {
-        (0, left) => Found::Live(Document {
-            flags: answer.flags,
-            expiry: answer.expiry,
-            revision: Revision(answer.revision),
-            cas: Cas(answer.cas),
-            left: left.expect("the library tells what a live document has left"),
-            value: answer.value.of(table),
-        }),
-        (_, Some(Left::Seconds(left))) => Found::Expired { left },
-        _ => Found::Nothing,
-    })
+    Engine::Ordered.read(table, clock, key)
 }
 
 /// Frees exactly the tombstones and the documents expired at the later of the kept clock and this one whose CAS is at or
-/// below the bound, and says how many. The kept clock is raised to the later one, also where no row is freed. All else of
-/// the table stays, the mark too.
+/// below the bound, and says how many. The rows that stay move together, and free rows follow. The kept clock is raised to the
+/// later one, also where no row is freed. All else of the table stays, the mark too.
 ///
 /// A freed row is forgotten: an older copy of an erased or expired document that arrives later, as a with-meta write, is
 /// stored as new, and the contact comes back. Choose as bound a CAS up to which every copy has arrived.
@@ -203,9 +185,5 @@ pub fn read<'t>(table: &'t [u8], clock: u32, key: &[u8]) -> Result<Found<'t>, Da
 ///
 /// [`Damaged`] where the table is; it is then unchanged.
 pub fn purge(table: &mut [u8], clock: u32, bound: Cas) -> Result<usize, Damaged> {
-    let answer = raw::purge(table, clock, bound.0);
-    match answer.outcome {
-        0 => Ok(answer.freed),
-        _ => Err(Damaged),
-    }
+    Engine::Ordered.purge(table, clock, bound)
 }

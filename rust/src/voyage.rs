@@ -1,7 +1,7 @@
 //! Recording a voyage in a trace, and replaying it.
 
-use crate::{raw, size, Cas, Damaged, Mode, FRAME_HEADER, REPLAY_ROWS, TRACE_MAX};
-use crate::{read_request, Refusal};
+use crate::engine::Engine;
+use crate::{read_request, Cas, Damaged, Mode, Refusal, FRAME_HEADER, TRACE_MAX};
 use std::error::Error;
 use std::fmt;
 
@@ -61,9 +61,10 @@ impl fmt::Display for Replay {
 /// assert_eq!(contacts::replay(trace.bytes()), Replay::Replayed { frames: 1 });
 /// # Ok::<(), Box<dyn std::error::Error>>(())
 /// ```
+///
+/// [`REPLAY_ROWS`]: crate::REPLAY_ROWS
 pub fn replay(trace: &[u8]) -> Replay {
-    let mut table = vec![0; size(REPLAY_ROWS).expect("a table may have 32 rows")];
-    replay_in(&mut table, trace).expect("the memory is of their size")
+    Engine::Ordered.replay(trace)
 }
 
 /// Replays a trace as [`replay`] does, in this memory of a table of [`REPLAY_ROWS`] rows, so that many traces need it but
@@ -75,16 +76,11 @@ pub fn replay(trace: &[u8]) -> Replay {
 /// # Errors
 ///
 /// [`Damaged`] exactly if the memory isn't of [`size`]`(`[`REPLAY_ROWS`]`)`. It is then unchanged.
+///
+/// [`REPLAY_ROWS`]: crate::REPLAY_ROWS
+/// [`size`]: crate::size
 pub fn replay_in(table: &mut [u8], trace: &[u8]) -> Result<Replay, Damaged> {
-    let answer = raw::replay(table, trace);
-    if answer.outcome != 0 {
-        return Err(Damaged);
-    }
-    Ok(match answer.end {
-        raw::REPLAY_DIFFERS => Replay::Differs { place: answer.place },
-        raw::REPLAY_STOPPED => Replay::Stopped { place: answer.place },
-        _ => Replay::Replayed { frames: answer.frames },
-    })
+    Engine::Ordered.replay_in(table, trace)
 }
 
 /// A voyage as it is recorded: the table's mode and vbucket, then clocks, frames, replies and purges in the order in which
@@ -93,6 +89,8 @@ pub fn replay_in(table: &mut [u8], trace: &[u8]) -> Result<Replay, Damaged> {
 /// A trace of what was served on an active table of [`REPLAY_ROWS`] rows, from its making on, is [`Replay::Replayed`]. Of a
 /// table with other rows the replies may differ where rows run out. What is refused isn't written, so that whatever is in a
 /// trace of this kind, no field stops its replay.
+///
+/// [`REPLAY_ROWS`]: crate::REPLAY_ROWS
 #[derive(Clone, Debug, PartialEq, Eq, Hash)]
 pub struct Trace {
     bytes: Vec<u8>,

@@ -107,7 +107,7 @@ fn purging_frees_tombstones_and_expired_documents_up_to_the_bound() {
     assert_eq!(purge(&mut table, NOW + HOUR, Cas(u64::MAX)), Ok(1));
     assert_eq!(read(&table, NOW + HOUR, b"live").unwrap().live().unwrap().value, b"v");
     assert_eq!(table[MARK..16], 4u64.to_be_bytes());
-    assert!(table[ROW..ROW + 1312].iter().all(|&b| b == 0));
+    assert!(table[ROW + 1312..].iter().all(|&b| b == 0), "the live row moved to the first place");
 }
 
 #[test]

@@ -16,10 +16,10 @@ use Rattle.request.specs.Reading.{readingOutcome, readingStatus}
 use Rattle.request_writer.specs.Writing.{statusNo, outcomeNo}
 use Rattle.serving.specs.declared.Served.{Served}
 use Rattle.serving.specs.Serve.{servedOutcome, servedStatus, servedUsed, servedLength, servedNeeded}
-use Rattle.owner.specs.declared.Document.{Document}
-use Rattle.owner.specs.declared.Document.the-variants.{Damaged, Missing, Expired, Live}
-use Rattle.owner.specs.declared.Purged.{Purged}
-use Rattle.owner.specs.Owner.{readOutcome, readStatus, purgeOutcome, purgedCount}
+use Rattle.owning.specs.declared.Document.{Document}
+use Rattle.owning.specs.declared.Document.the-variants.{Damaged, Missing, Expired, Live}
+use Rattle.owning.specs.declared.Purged.{Purged}
+use Rattle.owning.specs.Owner.{readOutcome, readStatus, purgeOutcome, purgedCount}
 use Rattle.run.specs.declared.Ran.{Ran}
 use Rattle.replay.specs.declared.Ending.{Ending}
 use Rattle.replay.specs.declared.Ending.the-variants.{Damaged as NotReplayed, Differs, Stopped, Replayed}

@@ -13,6 +13,7 @@ use Rattle.octets.proofs.Choices.{cases}
 use Rattle.octets.proofs.Lists.{part-front}
 use Rattle.header.specs.declared.Header.{Header}
 use Rattle.header.specs.Header.{headerOf}
+use Rattle.engine.specs.declared.Config.{Config}
 use Rattle.request.specs.declared.Gate.{Gate}
 use Rattle.request.specs.declared.Gate.the-variants.{Stop, Whole}
 use Rattle.serving.specs.declared.Served.the-variants.{Refused, Done}
@@ -37,19 +38,21 @@ module _ (run : List ℕ) where
   size : length (firstFrame run) ≤ 24 + headerOf run .body
   size = simp length-take (omega arith)
 
-  pub first-cut : (b : List ℕ) (clock room need : ℕ) → served b clock (firstFrame run) room ≡ Refused 1 need → length run < 1424
-  first-cut b clock room need e =
-      let c = cut b clock (firstFrame run) room need e in
+  pub first-cut : (config : Config) (b : List ℕ) (clock room need : ℕ) → served config b clock (firstFrame run) room ≡ Refused 1 need → length run < 1424
+  first-cut config b clock room need e =
+      let c = cut config b clock (firstFrame run) room need e in
       let l : length (firstFrame run) ≡ _ = length-take (24 + headerOf run .body) run in
       omega (arith, c .0, c .1, l, same-body)
 
-  whole-by : (b : List ℕ) (clock room st used len : ℕ) (g : Gate) → gateAll b room (firstFrame run) ≡ g → answerBy b clock (firstFrame run) g ≡ Done st used len → used ≡ length (firstFrame run)
-  whole-by b clock room st used len (Stop k need) q e = absurd (let y : _≡_ {A = ℕ} 0 1 = cc in omega arith)
-  whole-by b clock room st used len (Whole h) q e =
+  whole-by : (config : Config) (b : List ℕ) (clock room st used len : ℕ) (g : Gate) → gateAll config b room (firstFrame run) ≡ g
+      → answerBy b clock (firstFrame run) g ≡ Done st used len → used ≡ length (firstFrame run)
+  whole-by config b clock room st used len (Stop k need) q e = absurd (let y : _≡_ {A = ℕ} 0 1 = cc in omega arith)
+  whole-by config b clock room st used len (Whole h) q e =
       let u : 24 + h .body ≡ used = cc in
-      let w = was-open b (firstFrame run) room h q in
+      let w = was-open config b (firstFrame run) room h q in
       omega (arith, u, w .frame .inside, ap (λ (x : Header). x .body) (w .frame .header), same-body, size)
 
-  pub first-whole : (b : List ℕ) (clock room st used len : ℕ) → served b clock (firstFrame run) room ≡ Done st used len → used ≡ length (firstFrame run)
+  pub first-whole : (config : Config) (b : List ℕ) (clock room st used len : ℕ)
+      → served config b clock (firstFrame run) room ≡ Done st used len → used ≡ length (firstFrame run)
   unfolding served
-  first-whole b clock room st used len e = whole-by b clock room st used len (gateAll b room (firstFrame run)) refl e
+  first-whole config b clock room st used len e = whole-by config b clock room st used len (gateAll config b room (firstFrame run)) refl e

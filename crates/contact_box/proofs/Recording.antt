@@ -9,8 +9,10 @@ use lib.Dec.{leb, ltb}
 use lib.ListN.{length}
 use Rattle.octets.specs.Parts.{Bytes, part}
 use Rattle.octets.proofs.Lists.{part-most}
+use Rattle.engine.specs.declared.Config.{Config}
 use Rattle.request.specs.declared.Gate.{Gate}
 use Rattle.request.specs.declared.Gate.the-variants.{Stop, Whole}
+use Rattle.engines.proofs.Tables.{sound-plain}
 use Rattle.reply.proofs.Frames.{reply-most}
 use Rattle.serving.specs.declared.Served.{Served}
 use Rattle.serving.specs.declared.Served.the-variants.{Refused, Done}
@@ -28,20 +30,21 @@ use Rattle.contact_box.proofs.First.{first-whole}
 abbrev Bounded : Served → Type 0
 Bounded r = (servedUsed r ≤ 1424) × (servedLength r ≤ 1302)
 
-bounded-by : (b s : List ℕ) (clock room : ℕ) (g : Gate) → gateAll b room s ≡ g → Bytes b → Bounded (answerBy b clock s g)
-bounded-by b s clock room (Stop n need) q y = (omega arith, omega arith)
-bounded-by b s clock room (Whole h) q y = let w = was-open b s room h q in (omega (arith, w .frame .limit), reply-most b clock s h y (w .undamaged))
+bounded-by : (config : Config) (b s : List ℕ) (clock room : ℕ) (g : Gate) → gateAll config b room s ≡ g → Bytes b → Bounded (answerBy b clock s g)
+bounded-by config b s clock room (Stop n need) q y = (omega arith, omega arith)
+bounded-by config b s clock room (Whole h) q y =
+    let w = was-open config b s room h q in (omega (arith, w .frame .limit), reply-most b clock s h y (sound-plain config b (w .undamaged)))
 
-bounded : (b : List ℕ) (clock : ℕ) (s : List ℕ) (room : ℕ) (r : Served) → r ≡ served b clock s room → Bytes b → Bounded r
+bounded : (config : Config) (b : List ℕ) (clock : ℕ) (s : List ℕ) (room : ℕ) (r : Served) → r ≡ served config b clock s room → Bytes b → Bounded r
 unfolding served
-bounded b clock s room r e y = subst Bounded (sym e) (bounded-by b s clock room (gateAll b room s) refl y)
+bounded config b clock s room r e y = subst Bounded (sym e) (bounded-by config b s clock room (gateAll config b room s) refl y)
 
-pub short : (b : List ℕ) (clock : ℕ) (run out frame reply : List ℕ) (room len : ℕ) (r : Served) → r ≡ served b clock (firstFrame run) room → Bytes b
-    → frame ≡ firstFrame run → len ≡ servedLength r → reply ≡ part out 0 len → Short r frame reply
-short b clock run out frame reply room len (Refused n need) e y f l q = tt
-short b clock run out frame reply room len (Done st used k) e y f l q =
-    let m = bounded b clock (firstFrame run) room (Done st used k) e y in
-    (omega (arith, ap length f, first-whole run b clock room st used k (sym e), m .0), omega (arith, ap length q, part-most out 0 len, l, m .1))
+pub short : (config : Config) (b : List ℕ) (clock : ℕ) (run out frame reply : List ℕ) (room len : ℕ) (r : Served)
+    → r ≡ served config b clock (firstFrame run) room → Bytes b → frame ≡ firstFrame run → len ≡ servedLength r → reply ≡ part out 0 len → Short r frame reply
+short config b clock run out frame reply room len (Refused n need) e y f l q = tt
+short config b clock run out frame reply room len (Done st used k) e y f l q =
+    let m = bounded config b clock (firstFrame run) room (Done st used k) e y in
+    (omega (arith, ap length f, first-whole run config b clock room st used k (sym e), m .0), omega (arith, ap length q, part-most out 0 len, l, m .1))
 
 -- ---- the area has room, so a frame's fields are left out only where the trace would be too long
 module _ (r : Recorder) (clock : ℕ) (frame reply : List ℕ) (f : length frame ≤ 1424) (q : length reply ≤ 1302) (n m : ℕ)

@@ -7,7 +7,7 @@ use borrow.Author.Tests.{le-leb, eq-eqb}
 use lib.ListN.{length}
 use Rattle.rows.specs.RowRules.{sizeOk}
 use Rattle.rows.specs.Table.{tableBytes, fresh}
-use Rattle.owner.specs.Owner.{sizeOf, makeOk, made}
+use Rattle.owning.specs.Owner.{sizeOf, makeOk, made}
 use Rattle.contact_box.specs.Arguments.{Makes}
 
 module _ (rows mode : ℕ) (m : Makes rows mode) where

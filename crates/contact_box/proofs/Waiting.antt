@@ -12,7 +12,8 @@ use Rattle.header.specs.Header.{headerOf}
 use Rattle.request.specs.declared.Gate.{Gate}
 use Rattle.request.specs.declared.Gate.the-variants.{Stop, Whole}
 use Rattle.request.specs.Reading.{gateOf}
-use Rattle.plain.specs.Damage.{sound}
+use Rattle.engine.specs.declared.Config.{Config}
+use Rattle.engines.specs.Damage.{soundBy}
 use Rattle.serving.specs.declared.Served.{Served}
 use Rattle.serving.specs.declared.Served.the-variants.{Refused, Done}
 use Rattle.serving.specs.Serve.{gateAll, answerBy, served}
@@ -33,16 +34,6 @@ cut-gate s need e =
     (λ t z. let h = ltb-true (length s) (24 + headerOf s .body) t in (h, omega (arith, h, ltb-false 1400 (headerOf s .body) g)))
     (λ t z. absurd (let y : _≡_ {A = ℕ} 0 1 = cc in omega arith)))))
 
-cut-all : (b s : List ℕ) (room need : ℕ) → gateAll b room s ≡ Stop 1 need → Cut s
-unfolding gateAll
-cut-all b s room need e =
-    cond-elim (not (sound b)) _ _ _ e (λ t z. absurd (let y : _≡_ {A = ℕ} 5 1 = cc in omega arith))
-    (λ f e. cond-elim (ltb room 1302) _ _ _ e (λ t z. absurd (let y : _≡_ {A = ℕ} 4 1 = cc in omega arith)) (λ t z. cut-gate s need z))
-
-cut-by : (b s : List ℕ) (clock room need : ℕ) (g : Gate) → gateAll b room s ≡ g → answerBy b clock s g ≡ Refused 1 need → Cut s
-cut-by b s clock room need (Stop k need′) q e = let y : Stop k need′ ≡ Stop 1 need = cc in cut-all b s room need (cc)
-cut-by b s clock room need (Whole h) q e = absurd (let y : _≡_ {A = ℕ} 0 1 = cc in omega arith)
-
 pub waits-by : (n : ℕ) (r : Served) (written : Bool) → ((need : ℕ) → r ≡ Refused 1 need → n < 1424) → Waits (cond written (nextOf r) Close) n
 waits-by n r false h = tt
 waits-by n (Done status used len) true h = tt
@@ -51,9 +42,20 @@ waits-by n (Refused k need) true h =
     (λ t. rw t (h need (ap (λ (m : ℕ). Refused m need) (eqb-true k 1 t))))
     (λ f. rw f (cases (eqb k 4) (λ t. rw t tt) (λ f. rw f tt)))
 
-pub cut : (b : List ℕ) (clock : ℕ) (s : List ℕ) (room need : ℕ) → served b clock s room ≡ Refused 1 need → Cut s
-unfolding served
-cut b clock s room need e = cut-by b s clock room need (gateAll b room s) refl e
+module _ (config : Config) where
+  cut-all : (b s : List ℕ) (room need : ℕ) → gateAll config b room s ≡ Stop 1 need → Cut s
+  unfolding gateAll
+  cut-all b s room need e =
+      cond-elim (not (soundBy config b)) _ _ _ e (λ t z. absurd (let y : _≡_ {A = ℕ} 5 1 = cc in omega arith))
+      (λ f e. cond-elim (ltb room 1302) _ _ _ e (λ t z. absurd (let y : _≡_ {A = ℕ} 4 1 = cc in omega arith)) (λ t z. cut-gate s need z))
 
-pub waits : (b : List ℕ) (clock : ℕ) (s : List ℕ) (room : ℕ) (written : Bool) → Waits (cond written (nextOf (served b clock s room)) Close) (length s)
-waits b clock s room written = waits-by (length s) (served b clock s room) written (λ need e. cut b clock s room need e .1)
+  cut-by : (b s : List ℕ) (clock room need : ℕ) (g : Gate) → gateAll config b room s ≡ g → answerBy b clock s g ≡ Refused 1 need → Cut s
+  cut-by b s clock room need (Stop k need′) q e = let y : Stop k need′ ≡ Stop 1 need = cc in cut-all b s room need (cc)
+  cut-by b s clock room need (Whole h) q e = absurd (let y : _≡_ {A = ℕ} 0 1 = cc in omega arith)
+
+  pub cut : (b : List ℕ) (clock : ℕ) (s : List ℕ) (room need : ℕ) → served config b clock s room ≡ Refused 1 need → Cut s
+  unfolding served
+  cut b clock s room need e = cut-by b s clock room need (gateAll config b room s) refl e
+
+  pub waits : (b : List ℕ) (clock : ℕ) (s : List ℕ) (room : ℕ) (written : Bool) → Waits (cond written (nextOf (served config b clock s room)) Close) (length s)
+  waits b clock s room written = waits-by (length s) (served config b clock s room) written (λ need e. cut b clock s room need e .1)

@@ -6,6 +6,7 @@ use mathlib.Core.List.{List}
 use lib.Dec.{eqb}
 use lib.ListN.{length, take, drop}
 use Rattle.header.specs.Header.{headerOf}
+use Rattle.engine.specs.declared.Config.{Config}
 use Rattle.serving.specs.declared.Served.{Served}
 use Rattle.serving.specs.declared.Served.the-variants.{Refused, Done}
 use Rattle.serving.specs.Serve.{servedUsed, servedLength, served, servedTable, servedReply}
@@ -43,13 +44,13 @@ abbrev pub firstFrame : List ℕ → List ℕ
 firstFrame run = take (24 + headerOf run .body) run
 
 -- the first frame of the bytes that were held is served and recorded, all of it, and the bytes behind it are held at the start
-pub record GoesOne (clock : ℕ) (run : List ℕ) (held : ℕ) (b out : List ℕ) (t : Tally) (r : Recorder) (table received : List ℕ) (s : Session) : Type 0 where
+pub record GoesOne (config : Config) (clock : ℕ) (run : List ℕ) (held : ℕ) (b out : List ℕ) (t : Tally) (r : Recorder) (table received : List ℕ) (s : Session) : Type 0 where
   pub answer : Served
-  pub answered : answer ≡ served b clock (firstFrame run) (length out)
+  pub answered : answer ≡ served config b clock (firstFrame run) (length out)
   pub whole : (status used len : ℕ) → answer ≡ Done status used len → used ≡ length (firstFrame run)
-  pub stored : table ≡ servedTable b clock (firstFrame run) (length out)
+  pub stored : table ≡ servedTable config b clock (firstFrame run) (length out)
   pub counted : s .tally ≡ countedOf t answer
   pub left : s .held ≡ held - servedUsed answer
   pub kept : take (s .held) received ≡ drop (servedUsed answer) run
-  pub recorded : Records r clock answer (firstFrame run) (take (servedLength answer) (servedReply b clock (firstFrame run) out)) (s .recorder)
+  pub recorded : Records r clock answer (firstFrame run) (take (servedLength answer) (servedReply config b clock (firstFrame run) out)) (s .recorder)
   pub waits : Waits (s .next) (s .held)

@@ -26,7 +26,7 @@ mod session;
 ghost use mathlib.Core.Path.{_≡_};
 ghost use lib.ListN.{length};
 ghost use Rattle.rows.specs.Table.{tableBytes, fresh};
-ghost use Rattle.owner.specs.Owner.{sizeOf};
+ghost use Rattle.owning.specs.Owner.{sizeOf};
 ghost use Rattle.contact_box.specs.Arguments.{Makes};
 use arguments::Parsed;
 use recorder::Recorder;

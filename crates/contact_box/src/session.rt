@@ -4,11 +4,12 @@ ghost use mathlib.Core.Bool.{cond};
 ghost use Prim.Native.Nat.{_+_, _-_, _≤_, _<_};
 ghost use lib.ListN.{length, take, drop};
 ghost use Rattle.run.specs.Run.{begun, runEnd};
-ghost use Rattle.serving.specs.Serve.{servedUsed, servedLength};
+ghost use Rattle.serving.specs.Serve.{servedLength};
 ghost use Rattle.contact_box.specs.Session.{nextOf, Waits, Goes, firstFrame, GoesOne};
 use crate::clock;
 use crate::recorder;
 use crate::recorder::Recorder;
+use engine::Config;
 use libc::STDIN_FILENO;
 use libc::STDOUT_FILENO;
 use serving::Served;
@@ -73,6 +74,7 @@ fn next_after(answer: Served, written: bool) -> Next
 
 // Serves the frames that are held, and writes their replies.
 fn serve_held(
+    config: Config,
     table: &mut [u8],
     clock: u32,
     received: &mut [u8],
@@ -83,10 +85,17 @@ fn serve_held(
 ) -> Session
     requires { ⌜ held ≤ length (now received) ⌝ }
     ensures { λ s. ⌜ Goes (take held (now (received .entry))) held
-        (runEnd clock (take held (now (received .entry))) (begun (now (table .entry)) (now (replies .entry)) t))
+        (runEnd config clock (take held (now (received .entry))) (begun (now (table .entry)) (now (replies .entry)) t))
         (now (table .exit)) (now (received .exit)) s ⌝ }
 {
-    let ran = run::serve_run(table, clock, octets::part(received, 0, held), replies, t);
+    let ran = run::serve_run(
+        config,
+        table,
+        clock,
+        octets::part(received, 0, held),
+        replies,
+        t,
+    );
     let written = io::write_all(STDOUT_FILENO, octets::part(replies, 0, ran.filled));
     let cursor = ran.cursor;
     let tally = ran.tally;
@@ -107,15 +116,6 @@ fn first_frame(run: &[u8]) -> &[u8]
     octets::part(run, 0, layout.end)
 }
 
-fn used_of(answer: Served) -> usize
-    ensures { λ n. ⌜ n ≡ servedUsed answer ⌝ }
-{
-    match answer {
-        Served::Done(_, used, _) => used,
-        Served::Refused(_, _) => 0,
-    }
-}
-
 fn length_of(answer: Served) -> usize
     ensures { λ n. ⌜ n ≡ servedLength answer ⌝ }
 {
@@ -127,6 +127,7 @@ fn length_of(answer: Served) -> usize
 
 // Serves the first of the frames that are held, without what stands behind it, writes its reply, and records both.
 fn serve_first(
+    config: Config,
     table: &mut [u8],
     clock: u32,
     received: &mut [u8],
@@ -136,12 +137,12 @@ fn serve_first(
     r: Recorder,
 ) -> Session
     requires { ⌜ held ≤ length (now received) ⌝ }
-    ensures { λ s. ⌜ GoesOne clock (take held (now (received .entry))) held (now (table .entry)) (now (replies .entry)) t r
+    ensures { λ s. ⌜ GoesOne config clock (take held (now (received .entry))) held (now (table .entry)) (now (replies .entry)) t r
         (now (table .exit)) (now (received .exit)) s ⌝ }
 {
     let frame = first_frame(octets::part(received, 0, held));
-    let answer = serve::serve_one(table, clock, frame, replies);
-    let used = used_of(answer);
+    let answer = serve::serve_one(config, table, clock, frame, replies);
+    let used = run::used_of(answer);
     let reply = octets::part(replies, 0, length_of(answer));
     let written = io::write_all(STDOUT_FILENO, reply);
     let recorder = recorder::record_answer(r, clock, answer, frame, reply);
@@ -153,7 +154,7 @@ fn serve_first(
     }
 }
 
-// Serves what is held: all frames at once, or one by one where they are recorded.
+// Serves what is held, on rows in key order: all frames at once, or one by one where they are recorded.
 fn serve_some(
     table: &mut [u8],
     received: &mut [u8],
@@ -165,10 +166,11 @@ fn serve_some(
     requires { ⌜ held ≤ length (now received) ⌝ }
     ensures { λ s. ⌜ (s .held ≤ length (now (received .entry))) × Waits (s .next) (s .held) ⌝ }
 {
+    let config = engine::config_for(false);
     if recorder::is_on(r) {
-        return serve_first(table, clock::now(), received, held, replies, t, r);
+        return serve_first(config, table, clock::now(), received, held, replies, t, r);
     }
-    serve_held(table, clock::now(), received, held, replies, t, r)
+    serve_held(config, table, clock::now(), received, held, replies, t, r)
 }
 
 // Reads on, and serves what is held then. There is room for more, so where nothing comes the input has ended or can't be read.

@@ -7,6 +7,7 @@ use borrow.Author.Tests.{eq-eqb}
 use lib.ListN.{length}
 use lib.Dec.{eqb}
 use Rattle.octets.specs.Compare.{same}
+use Rattle.engine.specs.declared.Config.{Config}
 use Rattle.serving.specs.Serve.{served}
 use Rattle.trace.specs.declared.Opening.{Opening}
 use Rattle.trace.specs.declared.Opening.the-variants.{Broken as NotOpened, Opened}
@@ -23,24 +24,26 @@ by-choice : (v : Voyage) (go : Voyage → After) (b : Bool) (x y : Turn) → Zer
 by-choice v go true x y p q = p
 by-choice v go false x y p q = q
 
-turn-zero : (at : ℕ) (v : Voyage) (f : Field) (bytes : List ℕ) (go : Voyage → After) → ((w : Voyage) → Zero (go w)) → Zero (onTurn v (onField at v f bytes) go)
-turn-zero at v (Clock clock) bytes go h = h (withClock clock v)
-turn-zero at v (Frame len) bytes go h =
-    by-choice v go (isOneFrame (served (v .table) (v .clock) bytes 1302) len) (On (withFrame bytes v)) (End (Stopped at)) (h (withFrame bytes v)) refl
-turn-zero at v (Reply len) bytes go h =
-    by-choice v go (eqb (v .frames) 0) (End (Stopped at)) (cond (same bytes (v .reply)) (On v) (End (Differs at))) refl
-    (by-choice v go (same bytes (v .reply)) (On v) (End (Differs at)) (h v) refl)
-turn-zero at v (Purge bound) bytes go h = h (withPurge (bound .0) v)
-turn-zero at v Broken bytes go h = refl
+module _ (config : Config) where
+  turn-zero : (at : ℕ) (v : Voyage) (f : Field) (bytes : List ℕ) (go : Voyage → After) → ((w : Voyage) → Zero (go w))
+      → Zero (onTurn v (onField config at v f bytes) go)
+  turn-zero at v (Clock clock) bytes go h = h (withClock clock v)
+  turn-zero at v (Frame len) bytes go h =
+      by-choice v go (isOneFrame (served config (v .table) (v .clock) bytes 1302) len) (On (withFrame config bytes v)) (End (Stopped at)) (h (withFrame config bytes v)) refl
+  turn-zero at v (Reply len) bytes go h =
+      by-choice v go (eqb (v .frames) 0) (End (Stopped at)) (cond (same bytes (v .reply)) (On v) (End (Differs at))) refl
+      (by-choice v go (same bytes (v .reply)) (On v) (End (Differs at)) (h v) refl)
+  turn-zero at v (Purge bound) bytes go h = h (withPurge config (bound .0) v)
+  turn-zero at v Broken bytes go h = refl
 
-walked-zero : (v : Voyage) (ps : List Placed) → Zero (walked v ps)
-walked-zero v [] = refl
-walked-zero v (p ∷ ps) = turn-zero (p .at) v (p .field) (p .bytes) (λ w. walked w ps) (λ w. walked-zero w ps)
+  walked-zero : (v : Voyage) (ps : List Placed) → Zero (walked config v ps)
+  walked-zero v [] = refl
+  walked-zero v (p ∷ ps) = turn-zero (p .at) v (p .field) (p .bytes) (λ w. walked config w ps) (λ w. walked-zero w ps)
 
-opening-zero : (b trace : List ℕ) (o : Opening) → Zero (onOpening b trace o)
-opening-zero b trace NotOpened = refl
-opening-zero b trace (Opened mode vbucket) = walked-zero (setOut mode vbucket) (fieldsIn trace)
+  opening-zero : (b trace : List ℕ) (o : Opening) → Zero (onOpening config b trace o)
+  opening-zero b trace NotOpened = refl
+  opening-zero b trace (Opened mode vbucket) = walked-zero (setOut mode vbucket) (fieldsIn trace)
 
-pub answers : (b trace : List ℕ) → length b ≡ 42000 → Zero (replayed b trace)
-unfolding replayed
-answers b trace e = rw (eq-eqb (length b) 42000 e) (opening-zero b trace (openingOf trace))
+  pub answers : (b trace : List ℕ) → length b ≡ 42000 → Zero (replayed config b trace)
+  unfolding replayed
+  answers b trace e = rw (eq-eqb (length b) 42000 e) (opening-zero b trace (openingOf trace))

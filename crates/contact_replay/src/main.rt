@@ -1,5 +1,5 @@
-// Replays the trace of a voyage that stands on standard input, on a fresh active table of 32 rows, and writes one line to standard
-// output:
+// Replays the trace of a voyage that stands on standard input, on a fresh active table of 32 rows in key order, and writes one line
+// to standard output:
 //
 //     contact_replay < TRACE
 //
@@ -15,6 +15,7 @@ ghost use Prim.Native.Nat.{_+_, _≤_};
 ghost use lib.ListN.{length, take};
 ghost use Rattle.replay.specs.Replay.{replayed, replayOutcome};
 ghost use Rattle.contact_replay.specs.Line.{said, lineOf};
+use engine::Config;
 use libc::STDIN_FILENO;
 use libc::STDOUT_FILENO;
 use replay::Ending;
@@ -61,12 +62,12 @@ fn put_line(out: &mut [u8], r: Ending) -> usize
 }
 
 // Replays a trace in the table's memory, and puts the line for it at the start of out. The memory is of the right size, so there is one.
-fn answer(table: &mut [u8], trace: &[u8], out: &mut [u8]) -> usize
+fn answer(config: Config, table: &mut [u8], trace: &[u8], out: &mut [u8]) -> usize
     requires { ⌜ (length (now table) ≡ 42000) × (30 ≤ length (now out)) ⌝ }
-    ensures { λ n. ⌜ (take n (now (out .exit)) ≡ lineOf (replayed (now (table .entry)) (now (trace .entry)) .answer))
-        × (replayOutcome (replayed (now (table .entry)) (now (trace .entry)) .answer) ≡ 0) ⌝ }
+    ensures { λ n. ⌜ (take n (now (out .exit)) ≡ lineOf (replayed config (now (table .entry)) (now (trace .entry)) .answer))
+        × (replayOutcome (replayed config (now (table .entry)) (now (trace .entry)) .answer) ≡ 0) ⌝ }
 {
-    put_line(out, replay::replay(table, trace))
+    put_line(out, replay::replay(config, table, trace))
 }
 
 fn main() {
@@ -74,6 +75,11 @@ fn main() {
     let mut table = memory();
     let mut line = [0u8; 30];
     let n = io::read_full(STDIN_FILENO, &mut trace);
-    let len = answer(&mut table, octets::part(&trace, 0, n), &mut line);
+    let len = answer(
+        engine::config_for(false),
+        &mut table,
+        octets::part(&trace, 0, n),
+        &mut line,
+    );
     io::write_all(STDOUT_FILENO, octets::part(&line, 0, len));
 }

@@ -2,8 +2,9 @@
 // it passes on. include/contacts.h documents them.
 ghost use mathlib.Core.Path.{_≡_};
 ghost use lib.ListN.{length};
-ghost use Rattle.plain.specs.Damage.{sound};
-ghost use Rattle.owner.specs.Owner.{sizeOf, makeOutcome, made, readOf, purgeOf, purgedBytes};
+ghost use Rattle.engine.specs.Config.{configFor};
+ghost use Rattle.engines.specs.Damage.{soundBy};
+ghost use Rattle.owning.specs.Owner.{sizeOf, makeOutcome, made, readOf, purgeOf, purgedBytes};
 ghost use Rattle.request.specs.Reading.{reading};
 ghost use Rattle.request_writer.specs.Writing.{writing, frameBytes, outputOf};
 ghost use Rattle.run.specs.Run.{begun, runEnd, ranOf};
@@ -40,61 +41,63 @@ pub extern "C" fn contacts_make(b: &mut [u8], rows: usize, state: u8, mode: u8, 
 
 // Whether the memory is a table that is not damaged.
 #[no_mangle]
-pub extern "C" fn contacts_sound(b: &[u8]) -> bool
-    ensures { λ r. ⌜ r ≡ sound (now (b .entry)) ⌝ }
+pub extern "C" fn contacts_sound(plain: bool, b: &[u8]) -> bool
+    ensures { λ r. ⌜ r ≡ soundBy (configFor plain) (now (b .entry)) ⌝ }
 {
-    table::is_sound(b)
+    table::is_sound(engine::config_for(plain), b)
 }
 
 // Serves the request at the start of the received bytes, and counts it.
 #[no_mangle]
 pub extern "C" fn contacts_serve(
+    plain: bool,
     b: &mut [u8],
     clock: u32,
     s: &[u8],
     out: &mut [u8],
     t: &mut Tally,
 ) -> ServedAnswer
-    ensures { λ r. ⌜ ServesOne (now (b .entry)) clock (now (s .entry)) (now (out .entry)) (now (t .entry)) r (now (b .exit)) (now (out .exit)) (now (t .exit)) ⌝ }
+    ensures { λ r. ⌜ ServesOne (configFor plain) (now (b .entry)) clock (now (s .entry)) (now (out .entry)) (now (t .entry)) r (now (b .exit)) (now (out .exit)) (now (t .exit)) ⌝ }
 {
     let start = Cursor { at: 0 };
-    let moved = start.serve(b, clock, s, out, t);
+    let moved = start.serve(engine::config_for(plain), b, clock, s, out, t);
     answers::served_answer(moved.served)
 }
 
 // Serves the frames of a run one after another, each reply after those before it, until a call is refused.
 #[no_mangle]
 pub extern "C" fn contacts_serve_run(
+    plain: bool,
     b: &mut [u8],
     clock: u32,
     run: &[u8],
     out: &mut [u8],
     t: &mut Tally,
 ) -> RanAnswer
-    ensures { λ r. ⌜ (r ≡ ranAnswer (ranOf clock (now (run .entry)) (runEnd clock (now (run .entry)) (begun (now (b .entry)) (now (out .entry)) (now (t .entry))))))
-        × ((now (b .exit) ≡ runEnd clock (now (run .entry)) (begun (now (b .entry)) (now (out .entry)) (now (t .entry))) .table)
-        × ((now (out .exit) ≡ runEnd clock (now (run .entry)) (begun (now (b .entry)) (now (out .entry)) (now (t .entry))) .reply)
-        × (now (t .exit) ≡ runEnd clock (now (run .entry)) (begun (now (b .entry)) (now (out .entry)) (now (t .entry))) .tally))) ⌝ }
+    ensures { λ r. ⌜ (r ≡ ranAnswer (ranOf (configFor plain) clock (now (run .entry)) (runEnd (configFor plain) clock (now (run .entry)) (begun (now (b .entry)) (now (out .entry)) (now (t .entry))))))
+        × ((now (b .exit) ≡ runEnd (configFor plain) clock (now (run .entry)) (begun (now (b .entry)) (now (out .entry)) (now (t .entry))) .table)
+        × ((now (out .exit) ≡ runEnd (configFor plain) clock (now (run .entry)) (begun (now (b .entry)) (now (out .entry)) (now (t .entry))) .reply)
+        × (now (t .exit) ≡ runEnd (configFor plain) clock (now (run .entry)) (begun (now (b .entry)) (now (out .entry)) (now (t .entry))) .tally))) ⌝ }
 {
-    let r = run::serve_run(b, clock, run, out, *t);
+    let r = run::serve_run(engine::config_for(plain), b, clock, run, out, *t);
     *t = answers::ran_tally(r);
     answers::ran_answer(r)
 }
 
 // Reads a key's live document. Nothing changes.
 #[no_mangle]
-pub extern "C" fn contacts_read(b: &[u8], clock: u32, key: &[u8]) -> DocumentAnswer
-    ensures { λ r. ⌜ r ≡ documentAnswer (readOf (now (b .entry)) clock (now (key .entry))) ⌝ }
+pub extern "C" fn contacts_read(plain: bool, b: &[u8], clock: u32, key: &[u8]) -> DocumentAnswer
+    ensures { λ r. ⌜ r ≡ documentAnswer (readOf (configFor plain) (now (b .entry)) clock (now (key .entry))) ⌝ }
 {
-    answers::document_answer(owner::read(b, clock, key))
+    answers::document_answer(owner::read(engine::config_for(plain), b, clock, key))
 }
 
 // Frees the tombstones and expired documents with CAS at or below the bound, and says how many.
 #[no_mangle]
-pub extern "C" fn contacts_purge(b: &mut [u8], clock: u32, bound: u64) -> PurgedAnswer
-    ensures { λ r. ⌜ (r ≡ purgedAnswer (purgeOf (now (b .entry)) clock bound)) × (now (b .exit) ≡ purgedBytes (now (b .entry)) clock bound) ⌝ }
+pub extern "C" fn contacts_purge(plain: bool, b: &mut [u8], clock: u32, bound: u64) -> PurgedAnswer
+    ensures { λ r. ⌜ (r ≡ purgedAnswer (purgeOf (configFor plain) (now (b .entry)) clock bound)) × (now (b .exit) ≡ purgedBytes (configFor plain) (now (b .entry)) clock bound) ⌝ }
 {
-    answers::purged_answer(owner::purge(b, clock, Cas(bound)))
+    answers::purged_answer(owner::purge(engine::config_for(plain), b, clock, Cas(bound)))
 }
 
 // Reads the request at the start of the received bytes.
@@ -134,8 +137,8 @@ pub extern "C" fn contacts_write_request(
 
 // Replays the trace of a voyage on a fresh active table of 32 rows in the lent memory.
 #[no_mangle]
-pub extern "C" fn contacts_replay(b: &mut [u8], trace: &[u8]) -> ReplayedAnswer
-    ensures { λ r. ⌜ (r ≡ replayedAnswer (replayed (now (b .entry)) (now (trace .entry)) .answer)) × (now (b .exit) ≡ replayed (now (b .entry)) (now (trace .entry)) .table) ⌝ }
+pub extern "C" fn contacts_replay(plain: bool, b: &mut [u8], trace: &[u8]) -> ReplayedAnswer
+    ensures { λ r. ⌜ (r ≡ replayedAnswer (replayed (configFor plain) (now (b .entry)) (now (trace .entry)) .answer)) × (now (b .exit) ≡ replayed (configFor plain) (now (b .entry)) (now (trace .entry)) .table) ⌝ }
 {
-    answers::replayed_answer(replay::replay(b, trace))
+    answers::replayed_answer(replay::replay(engine::config_for(plain), b, trace))
 }

@@ -4,8 +4,8 @@ use crate::frames::Call;
 use crate::tell;
 use numbers::Cas;
 use numbers::Left;
-use owner::Document;
-use owner::Purged;
+use owning::Document;
+use owning::Purged;
 
 const SET_AT: u32 = 1000000;
 
@@ -163,7 +163,7 @@ fn put_read(line: &mut [u8], at: usize, clock: u32) -> usize {
     let mut boat = [0u8; frames::SIZE];
     let mut reply = [0u8; frames::ROOM];
     set_contact(&mut boat, &mut reply);
-    match owner::read(&boat, clock, b"wreck:north-bank") {
+    match owner::read(frames::config(), &boat, clock, b"wreck:north-bank") {
         Document::Damaged => tell::put_outcome(line, at, 5),
         Document::Missing => tell::put_status(line, at, 0x01),
         Document::Expired(_) => tell::put_status(line, at, 0x01),
@@ -193,7 +193,7 @@ fn aged(clock: u32) {
     let end = put_left(
         &mut line,
         BEFORE_COLUMN,
-        owner::read(&boat, clock, b"wreck:north-bank"),
+        owner::read(frames::config(), &boat, clock, b"wreck:north-bank"),
     );
     tell::line(&line, end);
 }
@@ -211,7 +211,7 @@ fn put_purged(line: &mut [u8], at: usize, clock: u32) -> usize {
     let mut boat = [0u8; frames::SIZE];
     let mut reply = [0u8; frames::ROOM];
     let held = set_contact(&mut boat, &mut reply);
-    match owner::purge(&mut boat, clock, held) {
+    match owner::purge(frames::config(), &mut boat, clock, held) {
         Purged::Damaged => tell::put_outcome(line, at, 5),
         Purged::Freed(n) => {
             let end = tell::put(line, at, b"rows freed: ");

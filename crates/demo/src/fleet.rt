@@ -74,6 +74,7 @@ fn is_on(r: &[u8], other: &[u8]) -> bool {
         return true;
     }
     let l = table::find(
+        frames::config(),
         other,
         octets::part(r, rows::FIXED, slot.keylen as usize),
         false,

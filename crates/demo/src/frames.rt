@@ -1,4 +1,5 @@
 // A boat's table, and requests on it: each is written as a frame, and the frame is served.
+use engine::Config;
 use numbers::Cas;
 use request::Fields;
 use request_writer::Written;
@@ -21,6 +22,11 @@ pub(crate) struct Call {
     pub(crate) clock: u32,
     pub(crate) opcode: u8,
     pub(crate) cas: Cas,
+}
+
+// The engine of every boat: rows in key order.
+pub(crate) fn config() -> Config {
+    engine::config_for(false)
 }
 
 pub(crate) fn fresh(boat: &mut [u8]) {
@@ -54,5 +60,11 @@ pub(crate) fn send(
     };
     let mut frame = [0u8; 256];
     let n = size(request_writer::write(f, extras, key, value, &mut frame));
-    serve::serve_one(boat, call.clock, octets::part(&frame, 0, n), reply)
+    serve::serve_one(
+        config(),
+        boat,
+        call.clock,
+        octets::part(&frame, 0, n),
+        reply,
+    )
 }

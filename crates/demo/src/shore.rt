@@ -137,7 +137,7 @@ fn put_row(line: &mut [u8], m: Metadata, value: &[u8]) -> usize {
 }
 
 fn put_held(line: &mut [u8], boat: &[u8], key: &[u8]) -> usize {
-    let l = table::find(boat, key, false);
+    let l = table::find(frames::config(), boat, key, false);
     let stored = l.stored;
     match stored {
         Stored::Used(m) => put_row(line, m, octets::part(boat, l.at, l.len)),

@@ -1,2 +1,3 @@
 pub mod Engine
 pub mod Alike
+pub mod Config

@@ -1,4 +1,6 @@
 // What an engine is: rows that are searched by key, written and purged, and the laws that any engine meets, in specs/Engine.antt.
+ghost use mathlib.Core.Path.{_≡_};
+ghost use Rattle.engine.specs.Config.{configFor};
 use document::Head;
 
 // Where a document for a key is stored.
@@ -15,4 +17,31 @@ pub enum Place {
 pub enum Checked {
     Damaged,
     Sound(Head),
+}
+
+// Which engine keeps a table's rows. The table's memory doesn't say it.
+pub enum EngineKind {
+    // rows in place, a new key in the lowest free one
+    Plain,
+    // used rows first, in key order
+    Ordered,
+}
+
+// What a call is told beside its memory and its clock.
+pub struct Config {
+    pub engine: EngineKind,
+}
+
+// The plain engine, or rows in key order.
+pub fn config_for(plain: bool) -> Config
+    ensures { λ r. ⌜ r ≡ configFor plain ⌝ }
+{
+    if plain {
+        return Config {
+            engine: EngineKind::Plain,
+        };
+    }
+    Config {
+        engine: EngineKind::Ordered,
+    }
 }

@@ -4,3 +4,4 @@ pub mod Members
 pub mod LiveKeys
 pub mod Exact
 pub mod Paging
+pub mod Writing

@@ -8,6 +8,7 @@ use Rattle.keys.specs.Keys.{keyBelow}
 use Rattle.keys.proofs.KeyLaws.{irreflexive, transitive, trichotomy}
 use Rattle.document.specs.Documents.{Key}
 use Rattle.listing.specs.Listing.{insertKey, sortKeys, fromKey}
+use Rattle.listing.specs.Order.{NoneBelow}
 use Rattle.listing.specs.Claims.{OneOf, BelowAll, Rising}
 use Rattle.listing.proofs.Sorting.{below-least, least-least, not-both}
 
@@ -98,6 +99,15 @@ pub sort-rising : (xs : List Key) → Once xs → Rising (sortKeys xs)
 sort-rising [] o = tt
 sort-rising (x ∷ xs) o = insert-rising x (sortKeys xs) (λ m. o .0 (one-sort x xs m)) (sort-rising xs (o .1))
 
+-- ascending keys are sorted already
+insert-below : (k : Key) (xs : List Key) → BelowAll k xs → insertKey k xs ≡ k ∷ xs
+insert-below k [] b = refl
+insert-below k (x ∷ xs) b = rw (not-both k x (b .0))
+
+pub sort-same : (xs : List Key) → Rising xs → sortKeys xs ≡ xs
+sort-same [] r = refl
+sort-same (x ∷ xs) r = ap (insertKey x) (sort-same xs (r .1)) ∙ insert-below x xs (r .0)
+
 -- of two lists joined, each of the first is below each of the second
 pub rising-first : (xs ys : List Key) → Rising (xs ++ ys) → Rising xs
 rising-first [] ys r = tt
@@ -161,6 +171,11 @@ from-after start k (x ∷ xs) r m =
     here : keyBelow x start ≡ false → OneOf k (x ∷ xs) → keyBelow k start ≡ false
     here f (inl e) = ap (λ (j : Key). keyBelow j start) e ∙ f
     here f (inr n) = least-least start x k f (not-both x k (below-one x k xs (r .0) n))
+
+-- where no key is below it
+pub from-all : (start : Key) (xs : List Key) → NoneBelow start xs → fromKey start xs ≡ xs
+from-all start [] n = refl
+from-all start (x ∷ xs) n = rw (n .0)
 
 -- a second start key that is not below the first
 pub from-again : (start last : Key) (xs : List Key) → keyBelow last start ≡ false → fromKey last (fromKey start xs) ≡ fromKey last xs

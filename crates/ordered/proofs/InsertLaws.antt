@@ -2,10 +2,10 @@
 use native.Mathlib.Omega.{arith}
 use mathlib.Core.Path.{_≡_, refl, sym, ap, _∙_}
 use mathlib.Core.Bool.{true, cond}
-use mathlib.Core.List.{List, [], _∷_}
+use mathlib.Core.List.{List, [], _∷_, _++_}
 use mathlib.Core.Option.{Option, none, some}
 use Prim.Native.Nat.{suc, _<_}
-use lib.ListN.{length}
+use lib.ListN.{length, take, drop}
 use Rattle.octets.specs.Compare.{same}
 use Rattle.octets.proofs.Choices.{cases}
 use Rattle.octets.proofs.Options.{none-some}
@@ -15,9 +15,10 @@ use Rattle.keys.proofs.KeyLaws.{sides, side-equal, side-flip, equal-same, less-
 use Rattle.document.specs.Documents.{Key, Doc, Entry}
 use Rattle.rows.specs.Row.{Row}
 use Rattle.rows.specs.Find.{findRow, freeRows}
+use Rattle.plain.specs.Plain.{replace}
 use Rattle.plain.proofs.PlainLaws.{swap}
 use Rattle.ordered.specs.Order.{follows, ordered}
-use Rattle.ordered.specs.Insert.{oneFreeLess, insertRow}
+use Rattle.ordered.specs.Insert.{rowsBelow, oneFreeLess, insertRow}
 use Rattle.ordered.proofs.OrderLaws.{AllFollow, EachFollows, follow-trans, ordered-each, each-ordered, not-less, not-after}
 
 -- rows without the first free one
@@ -59,6 +60,16 @@ module _ (k : Key) (d : Doc) where
   not-above : (x : Entry) (ws : List Row) → AllFollow (some x) ws → sideOf (x .key) k ≡ Greater → findRow (some x ∷ ws) k ≡ none
   not-above x ws a g = rw (greater-same (x .key) k g) (not-after k (some x) ws a (not-less (sideOf (x .key) k) g))
 
+  -- over the key's row, where it has one
+  pub insert-replaces : (ws : List Row) (e : Doc) → EachFollows ws → findRow ws k ≡ some e → insertRow ws k d ≡ replace ws k d
+  insert-replaces [] e c f = none-some e f
+  insert-replaces (none ∷ ws) e c f = none-some e (sym (not-after k none ws (c .0) (not-less Greater refl)) ∙ f)
+  insert-replaces (some x ∷ ws) e c f =
+      sides (sideOf (x .key) k)
+      (λ l. rw (l, less-same (x .key) k l) (ap (λ (r : List Row). some x ∷ r) (insert-replaces ws e (c .1) (rw (less-same (x .key) k l) at f))))
+      (λ q. rw (q, equal-same (x .key) k q))
+      (λ g. none-some e (sym (not-above x ws (c .0) g) ∙ f))
+
   pub find-insert : (ws : List Row) → (findRow ws k ≡ none → 0 < freeRows ws) → (j : Key) → findRow (insertRow ws k d) j ≡ cond (same k j) (some d) (findRow ws j)
   find-insert [] room j = absurd (let h = room refl in omega arith)
   find-insert (none ∷ ws) room j = refl
@@ -69,6 +80,17 @@ module _ (k : Key) (d : Doc) where
       rw (l, find-insert ws (λ q. room (rw n q)) j) (swap (x .key) k j (x .doc) d (findRow ws j) n))
       (λ e. rw (e, side-equal (x .key) k e) (cases (same k j) (λ s. rw s) (λ s. rw s)))
       (λ g. rw (g, find-less ws j))
+
+  -- a key without a row gets one past the rows below it
+  pub insert-new : (ws : List Row) → findRow ws k ≡ none → 0 < freeRows ws
+      → insertRow ws k d ≡ take (rowsBelow k ws) ws ++ (some new ∷ oneFreeLess (drop (rowsBelow k ws) ws))
+  insert-new [] n h = absurd (omega arith)
+  insert-new (none ∷ ws) n h = refl
+  insert-new (some x ∷ ws) n h =
+      sides (sideOf (x .key) k)
+      (λ l. rw l (ap (λ (r : List Row). some x ∷ r) (insert-new ws (rw (less-same (x .key) k l) at n) h)))
+      (λ e. none-some (x .doc) (sym (rw (equal-same (x .key) k e) at n)))
+      (λ g. rw g)
 
   pub free-insert : (ws : List Row) → findRow ws k ≡ none → 0 < freeRows ws → suc (freeRows (insertRow ws k d)) ≡ freeRows ws
   free-insert [] n h = absurd (omega arith)

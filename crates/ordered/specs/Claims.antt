@@ -6,10 +6,16 @@ use mathlib.Core.List.{List}
 use Rattle.engine.specs.Engine.{Laws}
 use Rattle.engine.specs.Alike.{Alike, StaysAlike}
 use Rattle.rows.specs.Row.{Row}
-use Rattle.rows.specs.Table.{fresh}
+use Rattle.rows.specs.Table.{Table, fresh}
 use Rattle.plain.specs.Plain.{Distinct, plain}
+use Rattle.plain.specs.Claims.{Good}
 use Rattle.ordered.specs.Order.{ordered}
 use Rattle.ordered.specs.Ordered.{orderedEngine}
+
+-- a good table whose rows are in order
+pub record GoodOrdered (t : Table) : Type 0 where
+  pub good : Good t
+  pub order : ordered (t .rows) ≡ true
 
 -- no two rows in order have one key, so that what holds of the plain engine's rows holds of them
 abbrev pub OrderedDistinct : Type 0

@@ -3,3 +3,4 @@ pub mod Insert
 pub mod Purge
 pub mod Ordered
 pub mod Claims
+pub mod Damage

@@ -26,10 +26,16 @@ use Rattle.rows.specs.Table.{rowCount, tableOf}
 use Rattle.rows.proofs.OneRow.{row-at, row-there, row-free, row-used}
 use Rattle.plain.specs.Lookup.{isFree}
 use Rattle.plain.proofs.Rows.{is-free}
-use Rattle.plain.proofs.TableLaws.{length-rows}
+use Rattle.plain.proofs.TableLaws.{count-rows}
 use Rattle.ordered.specs.Order.{follows, rowSide}
 use Rattle.ordered.proofs.OrderLaws.{AllFollow, EachFollows, side-after}
-use Rattle.ordered_lookup.specs.Halving.{middle, halve, halved, keyPlace, lastFree}
+use Rattle.ordered_lookup.specs.Halving.{middle, halve, halved, keyPlace, placeNumber, lastFree}
+
+pub over-into {ℓ} : {X : Type ℓ} (i j : ℕ) → Over i ≡ Into j → X
+over-into i j e = let z : _≡_ {A = ℕ} 0 1 = cc in absurd (omega arith)
+
+pub over-same : (i j : ℕ) → Over i ≡ Over j → i ≡ j
+over-same i j e = cc
 
 module _ (side : ℕ → Side) where
   -- more steps than there are places change nothing
@@ -47,6 +53,21 @@ module _ (side : ℕ → Side) where
       let below = enough m k lo mid (omega arith) (omega arith) in
       rw t (λ i. bySide (side mid) (above i) (Over mid) (below i)))
       (λ f. rw f)
+
+  -- a row's place is that of a row on neither side
+  pub halve-over : (m lo hi i : ℕ) → halve m side lo hi ≡ Over i → (i < hi) × (side i ≡ Equal)
+  unfolding halve
+  halve-over zero lo hi i e = over-into i lo (sym e)
+  halve-over (suc m) lo hi i e =
+      cases (ltb lo hi)
+      (λ t.
+      let q = ltb-true lo hi t in
+      let mid = middle lo hi in
+      sides (side mid)
+      (λ l. halve-over m (mid + 1) hi i (rw (t, l) at e))
+      (λ s. let z : mid ≡ i = over-same mid i (rw (t, s) at e) in (omega arith, ap side (sym z) ∙ s))
+      (λ g. let h = halve-over m lo mid i (rw (t, g) at e) in (omega (arith, h .0), h .1)))
+      (λ f. over-into i lo (sym (rw f at e)))
 
   module _ (lo hi : ℕ) where
     pub halved-end : hi ≤ lo → halved side lo hi ≡ Into lo
@@ -80,10 +101,6 @@ module _ (b : List ℕ) where
       let e : 16 + i * 1312 + 1312 - (16 + i * 1312) ≡ 1312 = omega arith in
       rw e (ap rowOf (sym (row-there b i h)) ∙ sym (row-at b i))
 
-  count : length (tableOf b .rows) ≡ rowCount b
-  unfolding tableOf
-  count = length-rows (rowCount b) (drop 16 b)
-
   -- the side of the key on which the row at a place stands
   abbrev pub sideAt : Key → ℕ → Side
   sideAt key i = rowSide key (getD (tableOf b .rows) i none)
@@ -93,7 +110,7 @@ module _ (b : List ℕ) where
 
   pub halving-start : (key : Key) (n : ℕ) → n ≡ rowCount b → keyPlace key (tableOf b .rows) ≡ halved (sideAt key) 0 n
   unfolding keyPlace
-  halving-start key n e = ap (halved (sideAt key) 0) (count ∙ sym e)
+  halving-start key n e = ap (halved (sideAt key) 0) (count-rows b ∙ sym e)
 
   pub last-none : rowCount b ≡ 0 → false ≡ lastFree (tableOf b .rows)
   unfolding tableOf
@@ -101,7 +118,7 @@ module _ (b : List ℕ) where
 
   pub last-kind : (n : ℕ) → n ≡ rowCount b → 0 < n → (r : List ℕ) → rowOf r ≡ getD (tableOf b .rows) (n - 1) none → eqb (num r 0 2) 0 ≡ lastFree (tableOf b .rows)
   last-kind n e h r q =
-      let l : length (tableOf b .rows) ≡ n = count ∙ sym e in
+      let l : length (tableOf b .rows) ≡ n = count-rows b ∙ sym e in
       sym (is-free r) ∙ ap isFree (q ∙ ap (λ (m : ℕ). getD (tableOf b .rows) (m - 1) none) (sym l)) ∙ last-there (tableOf b .rows) (omega (arith, l))
     where
       last-there : (ws : List Row) → 1 ≤ length ws → isFree (getD ws (length ws - 1) none) ≡ lastFree ws

@@ -1,18 +1,20 @@
 -- The place that halving gives in rows in order, against what a lookup means and the number of free rows.
 use native.Mathlib.Omega.{arith}
+use native.Mathlib.Nat.{zero-add}
 use mathlib.Core.Path.{_≡_, refl, sym, ap, _∙_}
 use mathlib.Core.Bool.{Bool, true, false, _&&_, cond, false≢true}
 use mathlib.Core.List.{List, [], _∷_, _++_}
 use mathlib.Core.Option.{none, some}
-use Prim.Native.Nat.{ℕ, zero, suc, _+_, _<_}
+use Prim.Native.Nat.{ℕ, zero, suc, _+_, _-_, _<_}
 use lib.Dec.{ltb}
 use lib.ListN.{length, take, drop, set, getD}
 use borrow.Author.Tests.{lt-ltb, ltb-true, ltb-false}
 use Rattle.octets.proofs.Choices.{both, cond-elim}
 use Rattle.octets.proofs.Options.{none-some}
+use Rattle.keys.specs.declared.Side.{Side}
 use Rattle.keys.specs.declared.Side.the-variants.{Less, Equal, Greater}
 use Rattle.keys.specs.Keys.{sideOf}
-use Rattle.keys.proofs.KeyLaws.{sides, side-refl, below-side, equal-same, less-same, greater-same}
+use Rattle.keys.proofs.KeyLaws.{sides, side-refl, side-equal, below-side, equal-same, less-same, greater-same}
 use Rattle.document.specs.Documents.{Key, Doc, Entry}
 use Rattle.engine.specs.declared.Place.{Place}
 use Rattle.engine.specs.declared.Place.the-variants.{Over, Into, Full}
@@ -23,21 +25,17 @@ use Rattle.plain.specs.declared.Found.the-variants.{At, Nothing}
 use Rattle.plain.specs.Lookup.{findIn}
 use Rattle.plain.proofs.Places.{founds, find-place, find-nothing, nothing-find}
 use Rattle.ordered.specs.Order.{follows, ordered, rowSide}
-use Rattle.ordered.specs.Insert.{oneFreeLess, insertRow}
-use Rattle.ordered.proofs.OrderLaws.{AllFollow, EachFollows, ordered-each, not-less, not-after, side-after}
-use Rattle.ordered_lookup.specs.Halving.{lastFree, withRoom, placeOrdered}
-use Rattle.ordered_lookup.specs.Claims.{rowsBelow, foundOr, HalvingFinds, HoldsKey, KeyPlaced, OrderedPlaces, PlacePuts}
-use Rattle.ordered_lookup.proofs.HalvingLaws.{walked, halving-walks, all-at}
+use Rattle.ordered.specs.Insert.{rowsBelow, oneFreeLess, insertRow}
+use Rattle.ordered.proofs.OrderLaws.{AllFollow, EachFollows, ordered-each, not-less, not-after}
+use Rattle.ordered.proofs.InsertLaws.{insert-new}
+use Rattle.ordered_lookup.specs.Halving.{halved, keyPlace, placeNumber, firstFrom, lastFree, withRoom, placeOrdered}
+use Rattle.ordered_lookup.specs.Claims.{foundOr, HalvingFinds, HoldsKey, KeyPlaced, OrderedPlaces, PlacePuts, FirstPastBelow}
+use Rattle.ordered_lookup.proofs.HalvingLaws.{over-into, over-same, halve-over, walked, halving-walks, all-at}
 
 module _ (key : Key) where
-  -- after a row that isn't below the key none is
-  none-below : (w : Row) (ws : List Row) → AllFollow w ws → (rowSide key w ≡ Less → ⊥) → rowsBelow key ws ≡ 0
-  none-below w [] a n = refl
-  none-below w (v ∷ ws) a n = rw (side-after key w v (a .0) n) (none-below w ws (a .1) n)
-
-  above : (i : ℕ) (w : Row) (ws : List Row) → AllFollow w ws → (rowSide key w ≡ Less → ⊥) → Into i ≡ foundOr (findIn key (i + 1) ws) (Into (i + rowsBelow key ws))
+  above : (i : ℕ) (w : Row) (ws : List Row) → AllFollow w ws → (rowSide key w ≡ Less → ⊥) → Into i ≡ foundOr (findIn key (i + 1) ws) (Into (i + 0))
   above i w ws a n =
-      let e : i ≡ i + rowsBelow key ws = omega (arith, none-below w ws a n) in
+      let e : i ≡ i + 0 = omega arith in
       rw (nothing-find key (i + 1) ws (not-after key w ws a n)) (ap Into e)
 
   walk-found : (i : ℕ) (ws : List Row) → EachFollows ws → walked key i ws ≡ foundOr (findIn key i ws) (Into (i + rowsBelow key ws))
@@ -50,6 +48,18 @@ module _ (key : Key) where
       rw (l, less-same (x .key) key l) (walk-found (i + 1) ws (c .1) ∙ ap (λ (n : ℕ). foundOr (findIn key (i + 1) ws) (Into n)) e))
       (λ q. rw (q, equal-same (x .key) key q))
       (λ g. rw (g, greater-same (x .key) key g) (above i (some x) ws (c .0) (not-less (sideOf (x .key) key) g)))
+
+  walk-number : (i : ℕ) (ws : List Row) → placeNumber (walked key i ws) ≡ i + rowsBelow key ws
+  walk-number i [] = omega arith
+  walk-number i (w ∷ ws) =
+      sides (rowSide key w)
+      (λ l. rw l (omega (arith, walk-number (i + 1) ws)))
+      (λ e. rw e (omega arith))
+      (λ g. rw g (omega arith))
+
+pub first-past-below : FirstPastBelow
+unfolding firstFrom
+first-past-below ws key o = ap placeNumber (halving-walks key ws (ordered-each ws o)) ∙ walk-number key 0 ws ∙ zero-add (rowsBelow key ws)
 
 -- the last row is free where any is
 last-tells : (ws : List Row) → EachFollows ws → lastFree ws ≡ ltb 0 (freeRows ws)
@@ -102,38 +112,34 @@ module _ (key : Key) (e : Entry) (named : e .key ≡ key) where
       let l = before-side (some x) (rw t at (all-at (some x) ws (c .0) i (omega arith))) in
       rw l (ap (λ (l : List Row). some x ∷ l) (held-put d i ws (c .1) (omega arith) t))
 
--- a put of a key without a row
-module _ (key : Key) (d : Doc) where
-  abbrev own : Row
-  own = some (record { key = key; doc = d })
-
-  abbrev put-at : ℕ → List Row → List Row
-  put-at i ws = take i ws ++ (own ∷ oneFreeLess (drop i ws))
-
-  new-put : (ws : List Row) → EachFollows ws → findRow ws key ≡ none → 0 < freeRows ws → insertRow ws key d ≡ put-at (rowsBelow key ws) ws
-  new-put [] c f h = absurd (omega arith)
-  new-put (none ∷ ws) c f h = rw (none-below key none ws (c .0) (not-less Greater refl))
-  new-put (some x ∷ ws) c f h =
-      sides (sideOf (x .key) key)
-      (λ l. rw l (ap (λ (l : List Row). some x ∷ l) (new-put ws (c .1) (rw (less-same (x .key) key l) at f) h)))
-      (λ q. none-some (x .doc) (sym (rw (equal-same (x .key) key q) at f)))
-      (λ g. rw (g, none-below key (some x) ws (c .0) (not-less (sideOf (x .key) key) g)))
-
 -- no place is another
-over-into {ℓ} : {X : Type ℓ} (i j : ℕ) → Over i ≡ Into j → X
-over-into i j e = let z : _≡_ {A = ℕ} 0 1 = cc in absurd (omega arith)
-
 over-full {ℓ} : {X : Type ℓ} (i : ℕ) → Over i ≡ Full → X
 over-full i e = let z : _≡_ {A = ℕ} 0 1 = cc in absurd (omega arith)
 
 into-full {ℓ} : {X : Type ℓ} (i : ℕ) → Into i ≡ Full → X
 into-full i e = let z : _≡_ {A = ℕ} 0 1 = cc in absurd (omega arith)
 
-over-same : (i j : ℕ) → Over i ≡ Over j → i ≡ j
-over-same i j e = cc
-
 into-same : (i j : ℕ) → Into i ≡ Into j → i ≡ j
 into-same i j e = cc
+
+room-over : (room : Bool) (p : Place) (i : ℕ) → withRoom room p ≡ Over i → p ≡ Over i
+room-over room (Over j) i e = e
+room-over true (Into j) i e = over-into i j (sym e)
+room-over false (Into j) i e = over-full i (sym e)
+room-over room Full i e = over-full i (sym e)
+
+row-keyed : (key : Key) (w : Row) → rowSide key w ≡ Equal → (e : Entry) × ((w ≡ some e) × (e .key ≡ key))
+row-keyed key none s = let z : _≡_ {A = ℕ} 0 1 = cc in absurd (omega arith)
+row-keyed key (some x) s = (x, (refl, side-equal (x .key) key s))
+
+-- in any rows, in order or not, a document goes over a row that has its key
+pub over-keyed : (ws : List Row) (key : Key) (new : Bool) (i : ℕ) → placeOrdered new key ws ≡ Over i
+    → (i < length ws) × ((e : Entry) × ((getD ws i none ≡ some e) × (e .key ≡ key)))
+unfolding placeOrdered keyPlace halved
+over-keyed ws key new i e =
+    let at : ℕ → Side = λ j. rowSide key (getD ws j none) in
+    let h = halve-over at (length ws - 0) 0 (length ws) i (room-over (new && lastFree ws) (keyPlace key ws) i e) in
+    (h .0, row-keyed key (getD ws i none) (h .1))
 
 module _ (ws : List Row) (key : Key) (new : Bool) (o : ordered ws ≡ true) where
   abbrev room : Bool
@@ -211,5 +217,7 @@ pub place-puts : PlacePuts
 place-puts ws key d i o =
     let c = ordered-each ws o in (
       (λ e. let h = given-over ws key true o i e in held-put key (h .entry) (h .named) d i ws c (h .below) (h .there)),
-      (λ e. let h = given-into ws key true o i e in new-put key d ws c (h .1 .0) (h .1 .1) ∙ ap (λ (n : ℕ). put-at key d n ws) (sym (h .0 .1))),
+      (λ e.
+          let h = given-into ws key true o i e in
+          insert-new key d ws (h .1 .0) (h .1 .1) ∙ ap (λ (n : ℕ). take n ws ++ (some (record { key = key; doc = d }) ∷ oneFreeLess (drop n ws))) (sym (h .0 .1))),
     )

@@ -1,12 +1,11 @@
 -- What is found by halving in rows that are in key order. Proved in proofs/.
-use Prim.Native.Nat.{ℕ, suc, _<_}
+use Prim.Native.Nat.{ℕ, _≤_, _<_}
 use mathlib.Core.Path.{_≡_}
 use mathlib.Core.Bool.{Bool, true, false, _&&_, cond}
-use mathlib.Core.List.{List, [], _∷_, _++_}
+use mathlib.Core.List.{List, _∷_, _++_}
 use mathlib.Core.Option.{none, some}
 use lib.Dec.{ltb}
 use lib.ListN.{length, take, drop, set, getD}
-use Rattle.keys.specs.Keys.{bySide}
 use Rattle.document.specs.Documents.{Key, Doc, Entry}
 use Rattle.engine.specs.declared.Place.{Place}
 use Rattle.engine.specs.declared.Place.the-variants.{Over, Into, Full}
@@ -15,21 +14,16 @@ use Rattle.rows.specs.Find.{findRow, freeRows}
 use Rattle.plain.specs.declared.Found.{Found}
 use Rattle.plain.specs.declared.Found.the-variants.{At, Nothing}
 use Rattle.plain.specs.Lookup.{findIn}
-use Rattle.ordered.specs.Order.{ordered, rowSide}
-use Rattle.ordered.specs.Insert.{oneFreeLess, insertRow}
-use Rattle.ordered_lookup.specs.Halving.{placeOrdered}
-
--- how many rows have a key below
-abbrev pub rowsBelow : Key → List Row → ℕ
-rowsBelow key [] = 0
-rowsBelow key (w ∷ ws) = bySide (rowSide key w) (suc (rowsBelow key ws)) (rowsBelow key ws) (rowsBelow key ws)
+use Rattle.ordered.specs.Order.{ordered}
+use Rattle.ordered.specs.Insert.{rowsBelow, oneFreeLess, insertRow}
+use Rattle.ordered_lookup.specs.Halving.{placeOrdered, firstFrom}
 
 -- over the row that was found, else another place
 abbrev pub foundOr : Found → Place → Place
 foundOr (At i) p = Over i
 foundOr Nothing p = p
 
--- halving gives what a walk over all rows gives: the key's row, else, where one is asked for and a row is free, a place after as many rows as have a key below
+-- halving gives what a walk over all rows gives: the key's row, else, where one is asked for and a row is free, a place past the rows below it
 abbrev pub HalvingFinds : Type 0
 HalvingFinds =
     (ws : List Row) (key : Key) (new : Bool) → ordered ws ≡ true
@@ -64,3 +58,7 @@ PlacePuts =
     (ws : List Row) (key : Key) (d : Doc) (i : ℕ) → ordered ws ≡ true
     → (placeOrdered true key ws ≡ Over i → insertRow ws key d ≡ set ws i (some (record { key = key; doc = d })))
     × (placeOrdered true key ws ≡ Into i → insertRow ws key d ≡ take i ws ++ (some (record { key = key; doc = d }) ∷ oneFreeLess (drop i ws)))
+
+-- the first row that is not below a key stands past those below it
+abbrev pub FirstPastBelow : Type 0
+FirstPastBelow = (ws : List Row) (key : Key) → ordered ws ≡ true → firstFrom key ws ≡ rowsBelow key ws

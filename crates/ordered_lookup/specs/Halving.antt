@@ -36,6 +36,17 @@ unfoldable pub keyPlace : Key → List Row → Place
 unfolding halved
 keyPlace key ws = halved (λ i. rowSide key (getD ws i none)) 0 (length ws)
 
+-- the number of a place, 0 without one
+abbrev pub placeNumber : Place → ℕ
+placeNumber (Over i) = i
+placeNumber (Into i) = i
+placeNumber Full = 0
+
+-- the first row that is not below the key
+unfoldable pub firstFrom : Key → List Row → ℕ
+unfolding keyPlace
+firstFrom key ws = placeNumber (keyPlace key ws)
+
 -- used rows stand first, so that the last row tells whether any is free
 abbrev pub lastFree : List Row → Bool
 lastFree [] = false

@@ -5,7 +5,7 @@ ghost use mathlib.Core.Bool.{_&&_};
 ghost use Rattle.rows.specs.Row.{rowOf};
 ghost use Rattle.rows.specs.Table.{tableOf};
 ghost use Rattle.ordered.specs.Order.{rowSide};
-ghost use Rattle.ordered_lookup.specs.Halving.{keyPlace, lastFree, withRoom, placeOrdered};
+ghost use Rattle.ordered_lookup.specs.Halving.{keyPlace, lastFree, withRoom, placeOrdered, firstFrom};
 use engine::Place;
 use keys::Side;
 use rows::FIXED;
@@ -81,5 +81,16 @@ pub fn place(b: &[u8], key: &[u8], new: bool) -> Place
         Place::Over(i) => Place::Over(i),
         Place::Into(i) => new_place(b, i, new),
         Place::Full => Place::Full,
+    }
+}
+
+// The place of the first row that is not below a key.
+pub fn first_from(b: &[u8], key: &[u8]) -> usize
+    ensures { λ r. ⌜ r ≡ firstFrom (now (key .entry)) (tableOf (now (b .entry)) .rows) ⌝ }
+{
+    match key_place(b, key) {
+        Place::Over(i) => i,
+        Place::Into(i) => i,
+        Place::Full => 0,
     }
 }

@@ -1,4 +1,4 @@
--- A new key's document stored at its place in a good table in key order: the bytes are those of the table with it put, which is good and in order.
+-- A new key's document stored at its place in a good table in key order: the bytes are those of the table with it put.
 use native.Mathlib.Omega.{arith}
 use native.Mathlib.Nat.{zero-add}
 use mathlib.Core.Path.{_≡_, refl, sym, ap, _∙_}
@@ -10,9 +10,8 @@ use lib.Seq.{take-at, drop-at, length-take-le}
 use borrow.Author.Tests.{lt-ltb, le-leb}
 use Rattle.octets.specs.Parts.{part, pasted}
 use Rattle.octets.proofs.Lists.{pasted-skip, pasted-over}
-use Rattle.octets.proofs.Options.{none-some}
 use Rattle.keys.specs.Keys.{sideOf}
-use Rattle.keys.proofs.KeyLaws.{sides, equal-same, less-same}
+use Rattle.keys.proofs.KeyLaws.{sides}
 use Rattle.document.specs.Documents.{Key, Entry}
 use Rattle.rows.specs.Row.{Row, rowBytes}
 use Rattle.rows.specs.Table.{Table, headBytes, rowsBytes, tableOf, tableBytes}
@@ -23,19 +22,19 @@ use Rattle.rows.proofs.Heads.{head-length}
 use Rattle.plain.specs.declared.Found.the-variants.{At}
 use Rattle.plain.specs.Lookup.{freeIn}
 use Rattle.plain.proofs.TableLaws.{good-first, good-more, rows-length, table-count, good-sound}
-use Rattle.ordered.specs.Insert.{oneFreeLess, insertRow}
-use Rattle.ordered.proofs.OrderLaws.{ordered-each, ordered-distinct}
-use Rattle.ordered.proofs.InsertLaws.{length-insert, ordered-insert}
-use Rattle.ordered_writer.specs.Insertion.{newPlace, rowInserted, insertedBy}
-use Rattle.ordered_writer.specs.Claims.{GoodOrdered, withPut, InsertsGood}
+use Rattle.ordered.specs.Insert.{rowsBelow, oneFreeLess, insertRow}
+use Rattle.ordered.specs.Claims.{GoodOrdered}
+use Rattle.ordered.proofs.InsertLaws.{insert-new}
+use Rattle.ordered_writer.specs.Insertion.{rowInserted, insertedBy}
+use Rattle.ordered_writer.specs.Claims.{InsertsGood}
 
 -- how many used rows stand before the first free one
-abbrev usedFirst : List Row → ℕ
+abbrev pub usedFirst : List Row → ℕ
 usedFirst [] = 0
 usedFirst (none ∷ ws) = 0
 usedFirst (some x ∷ ws) = suc (usedFirst ws)
 
-free-at : (ws : List Row) (k : ℕ) → 0 < freeRows ws → freeIn k ws ≡ At (k + usedFirst ws)
+pub free-at : (ws : List Row) (k : ℕ) → 0 < freeRows ws → freeIn k ws ≡ At (k + usedFirst ws)
 free-at [] k h = absurd (omega arith)
 free-at (none ∷ ws) k h = let e : k ≡ k + 0 = omega arith in ap At e
 free-at (some x ∷ ws) k h = let e : k + 1 + usedFirst ws ≡ k + suc (usedFirst ws) = omega arith in free-at ws (k + 1) h ∙ ap At e
@@ -70,21 +69,11 @@ free-drop (suc i) (none ∷ ws) h = absurd (omega arith)
 free-drop (suc i) (some x ∷ ws) h = free-drop i ws (omega arith)
 
 -- a new key's place
-place-within : (key : Key) (ws : List Row) → newPlace key ws ≤ usedFirst ws
+place-within : (key : Key) (ws : List Row) → rowsBelow key ws ≤ usedFirst ws
 place-within key [] = omega arith
 place-within key (none ∷ ws) = omega arith
 place-within key (some x ∷ ws) =
     sides (sideOf (x .key) key) (λ l. rw l (omega (arith, place-within key ws))) (λ e. rw e (omega arith)) (λ g. rw g (omega arith))
-
-put-place : (e : Entry) (ws : List Row) → findRow ws (e .key) ≡ none → 0 < freeRows ws
-    → take (newPlace (e .key) ws) ws ++ (some e ∷ oneFreeLess (drop (newPlace (e .key) ws) ws)) ≡ insertRow ws (e .key) (e .doc)
-put-place e [] n h = absurd (omega arith)
-put-place e (none ∷ ws) n h = refl
-put-place e (some x ∷ ws) n h =
-    sides (sideOf (x .key) (e .key))
-    (λ l. rw l (ap (λ (r : List Row). some x ∷ r) (put-place e ws (rw (less-same (x .key) (e .key) l) at n) h)))
-    (λ q. none-some (x .doc) (sym (rw (equal-same (x .key) (e .key) q) at n)))
-    (λ g. rw g)
 
 pub rows-append : (a b : List Row) → rowsBytes (a ++ b) ≡ rowsBytes a ++ rowsBytes b
 rows-append [] b = refl
@@ -101,21 +90,7 @@ module _ (mark : ℕ) where
   good-drop (suc n) [] g = tt
   good-drop (suc n) (w ∷ ws) g = good-drop n ws (good-first mark w ws g .1)
 
-  good-less : (ws : List Row) → AllGood mark ws → AllGood mark (oneFreeLess ws)
-  good-less [] g = tt
-  good-less (none ∷ ws) g = g
-  good-less (some x ∷ ws) g = (g .0, good-less ws (g .1))
-
   module _ (e : Entry) (k : EntryGood mark e) where
-    good-insert : (ws : List Row) → AllGood mark ws → AllGood mark (insertRow ws (e .key) (e .doc))
-    good-insert [] g = tt
-    good-insert (none ∷ ws) g = (k, g)
-    good-insert (some x ∷ ws) g =
-        sides (sideOf (x .key) (e .key))
-        (λ l. rw l (g .0, good-insert ws (g .1)))
-        (λ q. rw q (k, g .1))
-        (λ q. rw q (k, (g .0, good-less ws (g .1))))
-
     -- the rows up to the first free one behind the entry's, over all of them
     rows-moved : (ws : List Row) → AllGood mark ws → 0 < freeRows ws
         → pasted (rowsBytes ws) 0 (rowBytes (some e) ++ take (usedFirst ws * 1312) (rowsBytes ws)) ≡ rowsBytes (some e ∷ oneFreeLess ws)
@@ -164,38 +139,19 @@ module _ (mark : ℕ) where
 
 module _ (t : Table) (e : Entry) (g : GoodOrdered t) (k : EntryGood (t .head .mark .0) e) (n : findRow (t .rows) (e .key) ≡ none) (h : 0 < freeRows (t .rows)) where
   abbrev place : ℕ
-  place = newPlace (e .key) (t .rows)
+  place = rowsBelow (e .key) (t .rows)
 
   abbrev free : ℕ
   free = usedFirst (t .rows)
 
-  bytes-inserted : rowInserted (tableBytes t) place free e ≡ tableBytes (withPut t (e .key) (e .doc))
+  bytes-inserted : rowInserted (tableBytes t) place free e ≡ tableBytes (record { head = t .head; rows = insertRow (t .rows) (e .key) (e .doc) })
   unfolding rowInserted
   bytes-inserted =
       let w = place-within (e .key) (t .rows) in
       let fits : length (e .key) + length (e .doc .value) ≤ 1280 = omega (arith, k .key-most, k .value-most) in
       rw (table-count t (g .good), le-leb place free w, lt-ltb free (length (t .rows)) (free-within (t .rows) h), le-leb (length (e .key) + length (e .doc .value)) 1280 fits)
       (bytes-moved (t .head .mark .0) e k t place (g .good .rows) h w
-      ∙ ap (λ (r : List Row). tableBytes (record { head = t .head; rows = r })) (put-place e (t .rows) n h))
-
-  good-put : GoodOrdered (withPut t (e .key) (e .doc))
-  good-put =
-      let l = length-insert (e .key) (e .doc) (t .rows) (ordered-each (t .rows) (g .order)) (λ m. h) in
-      let o = ordered-insert (e .key) (e .doc) (t .rows) (g .order) in
-      record {
-        good = record {
-          least = rw l (g .good .least);
-          most = rw l (g .good .most);
-          state = g .good .state;
-          mode = g .good .mode;
-          vbucket = g .good .vbucket;
-          clock = g .good .clock;
-          mark = g .good .mark;
-          rows = good-insert (t .head .mark .0) e k (t .rows) (g .good .rows);
-          keys = ordered-distinct (insertRow (t .rows) (e .key) (e .doc)) o;
-        };
-        order = o;
-      }
+      ∙ ap (λ (r : List Row). tableBytes (record { head = t .head; rows = r })) (sym (insert-new (e .key) (e .doc) (t .rows) n h)))
 
 pub inserts-good : InsertsGood
 inserts-good t key d g k n h =
@@ -203,7 +159,4 @@ inserts-good t key d g k n h =
     let b = tableBytes t in
     let f : freeIn 0 (tableOf b .rows) ≡ At (usedFirst (t .rows)) =
     ap (λ (x : Table). freeIn 0 (x .rows)) (good-sound t (g .good) .1) ∙ free-at (t .rows) 0 h ∙ ap At (zero-add (usedFirst (t .rows))) in
-    record {
-      bytes = ap (insertedBy b (newPlace key (t .rows)) e) f ∙ bytes-inserted t e g k n h;
-      good = good-put t e g k n h;
-    }
+    ap (insertedBy b (rowsBelow key (t .rows)) e) f ∙ bytes-inserted t e g k n h

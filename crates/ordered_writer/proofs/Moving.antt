@@ -49,18 +49,17 @@ module _ (e : Entry) (room : length (e .key) + length (e .doc .value) ≤ 1280) 
     apart-length : length apart ≡ length b
     apart-length = let q = moved-length in length-pasted b (at + 1312) rows (omega arith)
 
-    pub insert-done : (s s′ : List ℕ) → s ≡ written b (at + 1312) rows → s′ ≡ rowStored s i e whole → s′ ≡ rowInserted b i u e
+    pub insert-done : (s s′ : List ℕ) → s ≡ pasted b (at + 1312) rows → s′ ≡ rowStored s i e whole → s′ ≡ rowInserted b i u e
     unfolding rowStored rowInserted
     insert-done s s′ p q =
         let n = moved-length in
         let l : length apart ≡ length b = apart-length in
-        let m : s ≡ apart = p ∙ written-fits b (at + 1312) rows (omega arith) in
         let c : i < rowCount apart = omega arith in
         let z : length (rowAt apart i) ≡ 1312 = row-size apart i c in
         let o : overBytes (rowAt apart i) e whole ≡ rowBytes (some e) = over-whole (rowAt apart i) z in
         let w : length (rowBytes (some e)) ≡ 1312 = ap length (sym o) ∙ length-over (rowAt apart i) e whole ∙ z in
         q
-        ∙ ap (λ (x : List ℕ). rowStored x i e whole) m
+        ∙ ap (λ (x : List ℕ). rowStored x i e whole) p
         ∙ rw (lt-ltb i (rowCount apart) c, o)
         (pasted-before b at 1312 (rowBytes (some e)) rows w (omega arith)
         ∙ rw (le-leb i u h, lt-ltb u (rowCount b) k, le-leb (length (e .key) + length (e .doc .value)) 1280 room))

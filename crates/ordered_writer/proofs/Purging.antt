@@ -1,10 +1,10 @@
--- A purge of a good table in key order: the bytes are those of the table with the engine's purge, which is good and in order, and the count is the rows' that it freed.
+-- A purge of a good table in key order: the bytes are those of the table with the engine's purge.
 use native.Mathlib.Omega.{arith}
 use mathlib.Core.Path.{_≡_, sym, ap, _∙_}
 use mathlib.Core.Bool.{Bool, cond}
 use mathlib.Core.List.{List, [], _∷_, _++_, append-nil}
 use mathlib.Core.Option.{none, some}
-use Prim.Native.Nat.{ℕ, zero, suc, _+_, _-_, _*_, _^_, _<_}
+use Prim.Native.Nat.{ℕ, suc, _+_, _-_, _*_, _^_, _<_}
 use lib.ListN.{length, take, drop, replicate}
 use lib.Seq.{take-at, drop-at}
 use Rattle.octets.proofs.Choices.{cases}
@@ -20,11 +20,10 @@ use Rattle.plain.specs.Plain.{purgeRows}
 use Rattle.plain.specs.Claims.{Good}
 use Rattle.plain.proofs.TableLaws.{first-row, later-rows, rows-after, table-count}
 use Rattle.plain.proofs.ChangeLaws.{purge-good, fresh-bytes}
-use Rattle.plain_writer.specs.Change.{purgeBytes, purgeCount}
+use Rattle.plain_writer.specs.Change.{purgeBytes}
 use Rattle.plain_writer.proofs.PurgeBytes.{purge-bytes}
 use Rattle.ordered.specs.Purge.{stayingRows, purgeOrdered}
-use Rattle.ordered.proofs.OrderLaws.{ordered-distinct}
-use Rattle.ordered.proofs.PurgeLaws.{few-stay, length-purged, ordered-purge}
+use Rattle.ordered.proofs.PurgeLaws.{few-stay}
 use Rattle.ordered_writer.specs.Gaps.{closedBytes, gapsClosed}
 use Rattle.ordered_writer.specs.Claims.{ClosesGood}
 
@@ -38,12 +37,6 @@ free-bytes : (n : ℕ) → rowsBytes (replicate n none) ≡ replicate (n * 1312)
 free-bytes n =
     let t = fresh n 0 0 0 in
     sym (rows-after t) ∙ ap (drop 16) (fresh-bytes n 0 0 0) ∙ drop-at (headBytes (t .head)) (replicate (n * 1312) 0) 16 (head-length (t .head))
-
-good-closed : (mark : ℕ) (ws : List Row) (z : ℕ) → AllGood mark ws → AllGood mark (closedRows ws z)
-good-closed mark [] zero g = tt
-good-closed mark [] (suc z) g = good-closed mark [] z tt
-good-closed mark (none ∷ ws) z g = good-closed mark ws (suc z) g
-good-closed mark (some x ∷ ws) z g = (g .0, good-closed mark ws z (g .1))
 
 module _ (mark : ℕ) (small : mark < 2 ^ 64) where
   rows-closed : (ws : List Row) (z : ℕ) → AllGood mark ws → closedBytes (length ws) (z * 1312) (rowsBytes ws) ≡ rowsBytes (closedRows ws z)
@@ -95,30 +88,6 @@ pub closes-good : ClosesGood
 closes-good t clock bound g =
     let p = goneDoc clock bound in
     let b = tableBytes t in
-    let q = purge-bytes p t (g .good) in
-    let c = table-count t (g .good) in
-    let d = purge-good t p (g .good) in
-    let e = purge-closed p (t .rows) in
-    let o = ordered-purge p (t .rows) (g .order) in
-    let n = length-purged p (t .rows) in
-    record {
-      bytes =
-          ap gapsClosed (ap (λ (k : ℕ). take 16 b ++ purgeBytes p k (drop 16 b)) c ∙ q .0)
-          ∙ gaps-closed (record { head = t .head; rows = purgeRows (t .rows) p }) d
-          ∙ ap (λ (r : List Row). tableBytes (record { head = t .head; rows = r })) e;
-      count = ap (λ (k : ℕ). purgeCount p k (drop 16 b)) c ∙ q .1;
-      good = record {
-        good = record {
-          least = rw n (g .good .least);
-          most = rw n (g .good .most);
-          state = g .good .state;
-          mode = g .good .mode;
-          vbucket = g .good .vbucket;
-          clock = g .good .clock;
-          mark = g .good .mark;
-          rows = rw e at (good-closed (t .head .mark .0) (purgeRows (t .rows) p) 0 (d .rows));
-          keys = ordered-distinct (purgeOrdered (t .rows) p) o;
-        };
-        order = o;
-      };
-    }
+    ap gapsClosed (ap (λ (k : ℕ). take 16 b ++ purgeBytes p k (drop 16 b)) (table-count t (g .good)) ∙ purge-bytes p t (g .good) .0)
+    ∙ gaps-closed (record { head = t .head; rows = purgeRows (t .rows) p }) (purge-good t p (g .good))
+    ∙ ap (λ (r : List Row). tableBytes (record { head = t .head; rows = r })) (purge-closed p (t .rows))

@@ -1,24 +1,17 @@
 -- A new key's row among the rows of any memory. What it means on a table in key order is in Claims.antt.
-use Prim.Native.Nat.{ℕ, suc, _+_, _-_, _*_}
+use Prim.Native.Nat.{ℕ, _+_, _-_, _*_}
 use mathlib.Core.Bool.{_&&_, cond}
-use mathlib.Core.List.{List, [], _∷_, _++_}
-use mathlib.Core.Option.{none, some}
+use mathlib.Core.List.{List, _++_}
+use mathlib.Core.Option.{some}
 use lib.Dec.{ltb, leb}
 use lib.ListN.{length}
 use Rattle.octets.specs.Parts.{part, pasted}
-use Rattle.keys.specs.Keys.{sideOf, bySide}
-use Rattle.document.specs.Documents.{Key, Entry}
-use Rattle.rows.specs.Row.{Row, rowBytes}
+use Rattle.document.specs.Documents.{Entry}
+use Rattle.rows.specs.Row.{rowBytes}
 use Rattle.rows.specs.Table.{rowCount, tableOf}
 use Rattle.plain.specs.declared.Found.{Found}
 use Rattle.plain.specs.declared.Found.the-variants.{At, Nothing}
 use Rattle.plain.specs.Lookup.{freeIn}
-
--- the place of a key without a row: past the rows below it. A free row is above every key.
-abbrev pub newPlace : Key → List Row → ℕ
-newPlace key [] = 0
-newPlace key (none ∷ ws) = 0
-newPlace key (some x ∷ ws) = bySide (sideOf (x .key) key) (suc (newPlace key ws)) 0 0
 
 -- from the i-th row on the entry's row and the rows from there to before the u-th, over those and the u-th; unchanged where there are no such rows or the entry doesn't fit one
 unfoldable pub rowInserted : List ℕ → ℕ → ℕ → Entry → List ℕ

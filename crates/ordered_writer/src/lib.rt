@@ -19,6 +19,30 @@ use rows::HEADER;
 use rows::ROW;
 use rows::SPACE;
 
+// Copies a row to a place, through an array: where it is copied to may be among its own bytes.
+fn copy_row(b: &mut [u8], at: usize, to: usize)
+    requires { ⌜ (at + 1312 ≤ length (now b)) × (to + 1312 ≤ length (now b)) ⌝ }
+    ensures { λ _. ⌜ now (b .exit) ≡ pasted (now (b .entry)) to (part (now (b .entry)) at 1312) ⌝ }
+{
+    let end = at + ROW;
+    let mut row = [0u8; ROW];
+    bytes::copy(&b[at..end], &mut row);
+    octet_writer::put_bytes(b, to, &row);
+}
+
+// Moves n rows by one, from the last to the first, since each is copied over the one that was copied before.
+fn move_rows(b: &mut [u8], at: usize, n: usize)
+    requires { ⌜ at + n * 1312 + 1312 ≤ length (now b) ⌝ }
+    ensures { λ _. ⌜ now (b .exit) ≡ pasted (now (b .entry)) (at + 1312) (part (now (b .entry)) at (n * 1312)) ⌝ }
+{
+    let mut left = n;
+    while 0 < left {
+        left -= 1;
+        let k = at + left * ROW;
+        copy_row(b, k, k + ROW);
+    }
+}
+
 // Moves the rows from a place to before another by one, over the row there, and writes an entry where they made room. The row
 // at the place held another key: all of it is written. Nothing changes where there are no such rows or the entry doesn't fit.
 fn insert_row(b: &mut [u8], i: usize, free: usize, key: &[u8], m: Metadata, value: &[u8])
@@ -33,7 +57,7 @@ fn insert_row(b: &mut [u8], i: usize, free: usize, key: &[u8], m: Metadata, valu
     if !row_writer::fits(key.len(), value.len()) {
         return;
     }
-    octet_writer::move_up(b, HEADER + i * ROW, (free - i) * ROW, ROW);
+    move_rows(b, HEADER + i * ROW, free - i);
     plain_writer::store(b, i, key, m, value, SPACE - key.len());
 }
 
@@ -46,17 +70,6 @@ pub fn insert(b: &mut [u8], i: usize, key: &[u8], m: Metadata, value: &[u8])
         Found::At(free) => insert_row(b, i, free, key, m, value),
         Found::Nothing => {}
     }
-}
-
-// Copies a row to a place, through an array: where it is copied to may be among its own bytes.
-fn copy_row(b: &mut [u8], at: usize, to: usize)
-    requires { ⌜ (at + 1312 ≤ length (now b)) × (to + 1312 ≤ length (now b)) ⌝ }
-    ensures { λ _. ⌜ now (b .exit) ≡ pasted (now (b .entry)) to (part (now (b .entry)) at 1312) ⌝ }
-{
-    let end = at + ROW;
-    let mut row = [0u8; ROW];
-    bytes::copy(&b[at..end], &mut row);
-    octet_writer::put_bytes(b, to, &row);
 }
 
 // Moves a used row down to a place, and says whether it is used.

@@ -14,7 +14,7 @@ use Rattle.rows.specs.Table.{headBytes, tableBytes, fresh}
 use Rattle.rows.proofs.Heads.{head-length}
 use Rattle.rows.specs.RowRules.{sizeOk}
 use Rattle.plain.proofs.ChangeLaws.{fresh-bytes}
-use Rattle.owner.specs.Owner.{makeOk, makeOutcome, made}
+use Rattle.owning.specs.Owner.{makeOk, makeOutcome, made}
 
 pasted-all : (s xs : List ℕ) → length xs ≡ length s → pasted s 0 xs ≡ xs
 unfolding pasted

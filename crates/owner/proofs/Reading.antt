@@ -1,7 +1,7 @@
 -- What reading and purging answer, by whether the table is damaged and by what is found.
 use Prim.Native.Nat.{ℕ, _^_, _<_}
 use mathlib.Core.Path.{_≡_, refl, sym, ap, _∙_}
-use mathlib.Core.Bool.{Bool, true, false, cond}
+use mathlib.Core.Bool.{true, false, cond}
 use mathlib.Core.List.{List}
 use mathlib.Core.Option.{Option, none, some}
 use lib.ListN.{length}
@@ -15,21 +15,20 @@ use Rattle.document.specs.Documents.{Key, Doc, docValue}
 use Rattle.document.specs.Stored.{storedOf, isDocument, numbersOf, goneDoc}
 use Rattle.document.specs.declared.Stored.{Stored}
 use Rattle.rows.specs.Row.{Row}
-use Rattle.rows.specs.Table.{Table, headOf, tableOf, tableAt, clockAt, tableBytes}
+use Rattle.rows.specs.Table.{headOf, tableOf, tableAt, clockAt, tableBytes}
 use Rattle.rows.specs.Find.{findRow, valuePlace}
-use Rattle.plain.specs.Damage.{sound}
-use Rattle.plain.specs.Plain.{plain}
-use Rattle.plain.specs.Purge.{goneCount}
-use Rattle.plain_writer.specs.Change.{purgedRows, freedRows}
-use Rattle.plain.proofs.TableLaws.{sound-good}
+use Rattle.engine.specs.declared.Config.{Config}
+use Rattle.plain_writer.specs.Change.{freedRows}
+use Rattle.engines.specs.Damage.{soundBy}
+use Rattle.engines.proofs.Tables.{sound-good-by, clock-good-by, clock-put}
 use Rattle.table.specs.declared.Lookup.{Lookup}
-use Rattle.table.specs.Calls.{lookupOf}
+use Rattle.table.specs.Calls.{lookupOf, purgedBy}
 use Rattle.table.proofs.Looking.{finds-sound}
-use Rattle.table.proofs.Keeping.{clock-put, clock-good, purges-good}
-use Rattle.owner.specs.declared.Document.{Document}
-use Rattle.owner.specs.declared.Document.the-variants.{Damaged, Missing, Expired, Live}
-use Rattle.owner.specs.declared.Purged.the-variants.{Damaged as NotPurged, Freed}
-use Rattle.owner.specs.Owner.{shown, readOf, purgeOf, purgedBytes}
+use Rattle.table.proofs.Keeping.{purges-good}
+use Rattle.owning.specs.declared.Document.{Document}
+use Rattle.owning.specs.declared.Document.the-variants.{Damaged, Missing, Expired, Live}
+use Rattle.owning.specs.declared.Purged.the-variants.{Damaged as NotPurged, Freed}
+use Rattle.owning.specs.Owner.{shown, readOf, purgeOf, purgedBytes}
 use Rattle.owner.specs.Shown.{shownBy}
 
 -- a lookup, by whether its row is a document, and by the time that is left to it
@@ -65,42 +64,42 @@ pub later-at : (b : List ℕ) (clock : ℕ) (h : Head) (now : ℕ) → h ≡ hea
 unfolding tableOf
 later-at b clock h now e n = n ∙ ap (λ (x : Head). later (x .clock) clock) e
 
-module _ (b : List ℕ) (clock : ℕ) where
+module _ (config : Config) (b : List ℕ) (clock : ℕ) where
   module _ (key : Key) where
-    pub read-damaged : sound b ≡ false → readOf b clock key ≡ Damaged
+    pub read-damaged : soundBy config b ≡ false → readOf config b clock key ≡ Damaged
     unfolding readOf
     read-damaged e = rw e
 
-    pub read-sound : sound b ≡ true → readOf b clock key ≡ shown (tableOf b .rows) (clockAt (tableOf b) clock) key (findRow (tableOf b .rows) key)
+    pub read-sound : soundBy config b ≡ true → readOf config b clock key ≡ shown (tableOf b .rows) (clockAt (tableOf b) clock) key (findRow (tableOf b .rows) key)
     unfolding readOf
     read-sound e = rw e
 
-    pub read-found : (now : ℕ) (l : Lookup) (d : Document) → Bytes b → sound b ≡ true → now ≡ clockAt (tableOf b) clock → l ≡ lookupOf false b key → d ≡ shownBy now l
-        → d ≡ readOf b clock key
+    pub read-found : (now : ℕ) (l : Lookup) (d : Document) → Bytes b → soundBy config b ≡ true → now ≡ clockAt (tableOf b) clock → l ≡ lookupOf config false b key
+        → d ≡ shownBy now l → d ≡ readOf config b clock key
     unfolding shownBy
     read-found now l d y s n e f =
         let at = clockAt (tableOf b) clock in
-        let g = finds-sound b key false y s in
+        let g = finds-sound config b key false y s in
         let o = findRow (tableOf b .rows) key in
         f ∙ (λ i. shownBy (n i) (e i))
         ∙ (λ i. told at (g .stored i) (g .stands i) (g .size i))
         ∙ by-doc (tableOf b .rows) at key o ∙ sym (read-sound s)
 
   module _ (bound : ℕ) where
-    pub purge-refused : sound b ≡ false → (NotPurged ≡ purgeOf b clock bound) × (b ≡ purgedBytes b clock bound)
+    pub purge-refused : soundBy config b ≡ false → (NotPurged ≡ purgeOf config b clock bound) × (b ≡ purgedBytes config b clock bound)
     unfolding purgeOf purgedBytes
     purge-refused e = (rw e, rw e)
 
     -- the kept clock is written first, and the rows are purged by it
-    pub purge-done : (now n : ℕ) (a s : List ℕ) → Bytes b → clock < 2 ^ 32 → sound b ≡ true → now ≡ clockAt (tableOf b) clock → a ≡ written b 4 (bytesOf 4 now)
-        → n ≡ freedRows (goneDoc now bound) a → s ≡ purgedRows (goneDoc now bound) a
-        → (Freed n ≡ purgeOf b clock bound) × (s ≡ purgedBytes b clock bound)
+    pub purge-done : (now n : ℕ) (a s : List ℕ) → Bytes b → clock < 2 ^ 32 → soundBy config b ≡ true → now ≡ clockAt (tableOf b) clock
+        → a ≡ written b 4 (bytesOf 4 now) → n ≡ freedRows (goneDoc now bound) a → s ≡ purgedBy config (goneDoc now bound) a
+        → (Freed n ≡ purgeOf config b clock bound) × (s ≡ purgedBytes config b clock bound)
     unfolding purgeOf purgedBytes
     purge-done now n a s y l e m f c w =
         let t = tableOf b in
-        let g = sound-good b y e in
+        let g = sound-good-by config b y e in
         let k : a ≡ tableBytes (tableAt t clock) = f ∙ (λ i. written (sym (g .0) i) 4 (bytesOf 4 (m i))) ∙ clock-put t clock in
-        let q = purges-good (tableAt t clock) (clockAt t clock) bound (clock-good t clock (g .1) l) in (
+        let q = purges-good config (tableAt t clock) (clockAt t clock) bound (clock-good-by config t clock (g .1) l) in (
           ap Freed (c ∙ (λ i. freedRows (goneDoc (m i) bound) (k i)) ∙ q .count) ∙ rw e,
-          w ∙ (λ i. purgedRows (goneDoc (m i) bound) (k i)) ∙ q .bytes ∙ rw e,
+          w ∙ (λ i. purgedBy config (goneDoc (m i) bound) (k i)) ∙ q .bytes ∙ rw e,
         )

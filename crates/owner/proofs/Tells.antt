@@ -1,10 +1,10 @@
 -- The claims of specs/Claims.antt.
 use native.Mathlib.Omega.{arith}
 use mathlib.Core.Path.{_≡_, refl, sym, ap, _∙_}
-use mathlib.Core.Bool.{Bool, true, false, cond, not, false≢true, true≢false}
+use mathlib.Core.Bool.{Bool, true, false, cond, not, false≢true}
 use mathlib.Core.List.{List}
 use mathlib.Core.Option.{Option, none, some}
-use Prim.Native.Nat.{ℕ, _+_, _≤_}
+use Prim.Native.Nat.{ℕ}
 use lib.ListN.{length}
 use lib.Dec.{eqb}
 use lib.IntN.{pos, _-ℤ_}
@@ -22,14 +22,12 @@ use Rattle.document.specs.declared.Stored.the-variants.{Used}
 use Rattle.rows.specs.Row.{Row}
 use Rattle.rows.specs.Table.{tableOf, tableAt, clockAt, fresh}
 use Rattle.rows.specs.Find.{findRow, valuePlace}
-use Rattle.plain.specs.Damage.{sound}
-use Rattle.plain.proofs.TableLaws.{sound-good, good-sound, no-key}
-use Rattle.plain.proofs.ChangeLaws.{fresh-good}
+use Rattle.plain.proofs.TableLaws.{no-key}
+use Rattle.engines.specs.Damage.{soundBy}
+use Rattle.engines.proofs.Tables.{sound-good-by, good-sound-by, purge-good-by, fresh-good-by, clock-good-by}
 use Rattle.table.proofs.Looking.{finds-sound}
-use Rattle.table.proofs.Keeping.{clock-good, purges-good}
-use Rattle.owner.specs.declared.Document.{Document}
-use Rattle.owner.specs.declared.Document.the-variants.{Missing, Expired, Live}
-use Rattle.owner.specs.Owner.{shown, shownLeft, purgedBytes, makeOk}
+use Rattle.owning.specs.declared.Document.the-variants.{Missing, Live}
+use Rattle.owning.specs.Owner.{shown, shownLeft, purgedBytes, makeOk}
 use Rattle.owner.specs.Claims.{ReadShows, ReadMisses, ReadExpired, NoSuchKey, PurgeSound, MakeSound}
 use Rattle.owner.proofs.Making.{accepted, refused, in-range}
 use Rattle.owner.proofs.Reading.{read-sound}
@@ -70,10 +68,10 @@ past-least Never p = absurd (false≢true p)
 past-least (Seconds n) p = p
 
 pub read-shows : ReadShows
-read-shows b call key d y s e =
+read-shows config b call key d y s e =
     let clock = clockAt (tableOf b) call in
     let rows = tableOf b .rows in
-    let f = finds-sound b key false y s in
+    let f = finds-sound config b key false y s in
     options (findRow rows key)
     (λ n. none-some d (sym (ap (kept clock) n ∙ kept-none clock) ∙ e))
     (λ x o. cases (live (Used (metadataOf x)) clock)
@@ -87,7 +85,7 @@ read-shows b call key d y s e =
       at = l;
       len = length (x .value);
       answer =
-          read-sound b call key s ∙ ap (shown rows clock key) o ∙ shown-live rows clock key x t
+          read-sound config b call key s ∙ ap (shown rows clock key) o ∙ shown-live rows clock key x t
           ∙ ap (λ (w : Doc). Live (w .numbers) (secondsLeft (w .numbers .expiry) clock) l (length (x .value))) q;
       inside = omega (arith, f .inside, at, size);
       value = (λ i. part b (sym at i) (sym size i)) ∙ f .value ∙ ap docValue o ∙ ap (λ (w : Doc). w .value) q;
@@ -95,10 +93,10 @@ read-shows b call key d y s e =
     (λ t. none-some d (sym (ap (kept clock) o ∙ kept-over clock x t) ∙ e)))
 
 pub read-misses : ReadMisses
-read-misses b call key y s e =
+read-misses config b call key y s e =
     let clock = clockAt (tableOf b) call in
     let rows = tableOf b .rows in
-    read-sound b call key s
+    read-sound config b call key s
     ∙ options (findRow rows key)
     (λ n. ap (shown rows clock key) n)
     (λ x o.
@@ -106,32 +104,35 @@ read-misses b call key y s e =
     ap (shown rows clock key) o ∙ ap (λ (c : Bool). cond c Missing (shownLeft rows key x (secondsLeft (x .numbers .expiry) clock))) tomb)
 
 pub read-expired : ReadExpired
-read-expired b call key d y s o document over =
+read-expired config b call key d y s o document over =
     let clock = clockAt (tableOf b) call in
     let rows = tableOf b .rows in
     let left = secondsLeft (d .numbers .expiry) clock in
     let past = past-over clock d document over in
     record {
       seconds = secondsIn left;
-      answer = read-sound b call key s ∙ ap (shown rows clock key) o ∙ rw (document, past);
+      answer = read-sound config b call key s ∙ ap (shown rows clock key) o ∙ rw (document, past);
       difference = past-difference (d .numbers .expiry) clock past;
       past = past-least left past;
     }
 
 pub no-such-key : NoSuchKey
-no-such-key b clock key y s h =
-    read-misses b clock key y s (ap (λ (o : Option Doc). isDocument (storedOf o)) (no-key (tableOf b .head .mark .0) (tableOf b .rows) key (sound-good b y s .1 .rows) h))
+no-such-key config b clock key y s h =
+    let g = sound-good-by config b y s .1 in
+    read-misses config b clock key y s (ap (λ (o : Option Doc). isDocument (storedOf o)) (no-key (tableOf b .head .mark .0) (tableOf b .rows) key (g .good .rows) h))
 
 pub purge-sound : PurgeSound
 unfolding purgedBytes
-purge-sound b clock bound y l s =
-    rw s (good-sound _ (purges-good (tableAt (tableOf b) clock) (clockAt (tableOf b) clock) bound (clock-good (tableOf b) clock (sound-good b y s .1) l) .good) .0)
+purge-sound config b clock bound y l s =
+    let t = tableOf b in
+    let g = clock-good-by config t clock (sound-good-by config b y s .1) l in
+    rw s (good-sound-by config _ (purge-good-by config (tableAt t clock) (goneDoc (clockAt t clock) bound) g) .0)
 
 pub make-sound : MakeSound
-make-sound b n state mode vbucket v e =
+make-sound config b n state mode vbucket v e =
     cases (makeOk (length b) n state mode)
     (λ t.
     let r = in-range (length b) n state mode t in
-    ap sound (sym (accepted b n state mode vbucket t .1))
-    ∙ good-sound (fresh n state mode vbucket) (fresh-good n state mode vbucket (r .least) (r .most) (r .state) (r .mode) v) .0)
+    ap (soundBy config) (sym (accepted b n state mode vbucket t .1))
+    ∙ good-sound-by config (fresh n state mode vbucket) (fresh-good-by config n state mode vbucket (r .least) (r .most) (r .state) (r .mode) v) .0)
     (λ f. absurd (omega (arith, refused b n state mode vbucket f .0)))

@@ -1,3 +1,2 @@
-pub mod Owner
 pub mod Shown
 pub mod Claims

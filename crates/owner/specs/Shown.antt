@@ -5,8 +5,8 @@ use Rattle.numbers.specs.declared.Left.{Left}
 use Rattle.numbers.specs.Expiry.{secondsLeft, isPast, secondsIn}
 use Rattle.document.specs.Stored.{isDocument, numbersOf}
 use Rattle.table.specs.declared.Lookup.{Lookup}
-use Rattle.owner.specs.declared.Document.{Document}
-use Rattle.owner.specs.declared.Document.the-variants.{Missing, Expired, Live}
+use Rattle.owning.specs.declared.Document.{Document}
+use Rattle.owning.specs.declared.Document.the-variants.{Missing, Expired, Live}
 
 abbrev pub leftBy : Lookup → Left → Document
 leftBy l left = cond (isPast left) (Expired (secondsIn left)) (Live (numbersOf (l .stored)) left (l .at) (l .len))

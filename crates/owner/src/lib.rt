@@ -3,31 +3,17 @@ ghost use mathlib.Core.Path.{_≡_};
 ghost use Prim.Native.Nat.{_+_, _*_, _≤_};
 ghost use lib.ListN.{length};
 ghost use Rattle.rows.specs.Table.{tableBytes, fresh};
-ghost use Rattle.owner.specs.Owner.{sizeOf, makeOk, makeOutcome, made, readOf, purgeOf, purgedBytes};
+ghost use Rattle.owning.specs.Owner.{sizeOf, makeOk, makeOutcome, made, readOf, purgeOf, purgedBytes};
 ghost use Rattle.owner.specs.Shown.{shownBy};
 use document::Head;
 use engine::Checked;
+use engine::Config;
 use numbers::Cas;
-use numbers::Left;
-use numbers::Numbers;
+use owning::Document;
+use owning::Purged;
 use rows::HEADER;
 use rows::ROW;
 use table::Lookup;
-
-// Outcome 5; status 0x01, for an expired document with the seconds that are left; or the live document's four numbers, the time that
-// is left, and where its value stands: a place and a length.
-pub enum Document {
-    Damaged,
-    Missing,
-    Expired(i64),
-    Live(Numbers, Left, usize, usize),
-}
-
-// Outcome 5, or how many rows were freed.
-pub enum Purged {
-    Damaged,
-    Freed(usize),
-}
 
 // The bytes that a table of so many rows needs, 0 where no table has so many.
 pub fn size(rows: usize) -> usize
@@ -91,13 +77,13 @@ fn shown(l: Lookup, clock: u32) -> Document
 }
 
 // Reads a key's live document, at the later of the kept clock and this one. Nothing changes.
-pub fn read(s: &[u8], clock: u32, key: &[u8]) -> Document
-    ensures { λ r. ⌜ r ≡ readOf (now (s .entry)) clock (now (key .entry)) ⌝ }
+pub fn read(config: Config, s: &[u8], clock: u32, key: &[u8]) -> Document
+    ensures { λ r. ⌜ r ≡ readOf config (now (s .entry)) clock (now (key .entry)) ⌝ }
 {
-    match table::checked(s) {
+    match table::checked(config, s) {
         Checked::Damaged => Document::Damaged,
         Checked::Sound(head) => shown(
-            table::find(s, key, false),
+            table::find(config, s, key, false),
             numbers::later(head.clock, clock),
         ),
     }
@@ -105,15 +91,15 @@ pub fn read(s: &[u8], clock: u32, key: &[u8]) -> Document
 
 // Frees the tombstones and expired documents with CAS at or below the bound, and says how many. The later of the kept clock and
 // this one decides, and is kept.
-pub fn purge(s: &mut [u8], clock: u32, bound: Cas) -> Purged
-    ensures { λ r. ⌜ (r ≡ purgeOf (now (s .entry)) clock (bound .0)) × (now (s .exit) ≡ purgedBytes (now (s .entry)) clock (bound .0)) ⌝ }
+pub fn purge(config: Config, s: &mut [u8], clock: u32, bound: Cas) -> Purged
+    ensures { λ r. ⌜ (r ≡ purgeOf config (now (s .entry)) clock (bound .0)) × (now (s .exit) ≡ purgedBytes config (now (s .entry)) clock (bound .0)) ⌝ }
 {
-    match table::checked(s) {
+    match table::checked(config, s) {
         Checked::Damaged => Purged::Damaged,
         Checked::Sound(head) => {
             let now = numbers::later(head.clock, clock);
             row_writer::put_clock(s, now);
-            Purged::Freed(table::purge(s, now, bound))
+            Purged::Freed(table::purge(config, s, now, bound))
         }
     }
 }

@@ -87,6 +87,10 @@ pub length-rows : (n : ℕ) (b : List ℕ) → length (rowsOf n b) ≡ n
 length-rows zero b = refl
 length-rows (suc n) b = ap suc (length-rows n (drop 1312 b))
 
+pub count-rows : (b : List ℕ) → length (tableOf b .rows) ≡ rowCount b
+unfolding tableOf
+count-rows b = length-rows (rowCount b) (drop 16 b)
+
 -- no two used rows have one key, as the test and as the engine's rule
 none-found : (o : Option Doc) → not (isSome o) ≡ true → o ≡ none
 none-found none e = refl

@@ -1,7 +1,7 @@
 -- "Damaged: wrong size, a header field out of range, a row against these rules, a used row with CAS 0 or above the mark, or two used rows with one key." Sound is not damaged.
 use Prim.Native.Nat.{ℕ}
 use mathlib.Core.List.{List, [], _∷_}
-use mathlib.Core.Bool.{Bool, true, not, _&&_, cond}
+use mathlib.Core.Bool.{Bool, true, not, _&&_}
 use mathlib.Core.Option.{none, some}
 use lib.ListN.{length, drop}
 use Rattle.rows.specs.Row.{Row}
@@ -30,7 +30,3 @@ sound b =
 abbrev pub checkedOutcome : Checked → ℕ
 checkedOutcome Damaged = 5
 checkedOutcome (Sound h) = 0
-
--- the head of a table that is not damaged
-unfoldable pub checkedOf : List ℕ → Checked
-checkedOf b = cond (sound b) (Sound (headOf b)) Damaged

@@ -1,22 +1,23 @@
--- The damage test part by part: the first of a run of rows, compared with those after it, and the whole.
-use Prim.Native.Nat.{ℕ, zero, suc, _+_, _*_, _/_, _≤_}
+-- Keys compared: the first of a run of rows with those after it, and all.
+use Prim.Native.Nat.{ℕ, zero, suc, _+_, _-_, _*_, _/_, _≤_, _<_}
 use mathlib.Core.Path.{_≡_, refl, sym, ap, _∙_}
-use mathlib.Core.Bool.{Bool, _&&_}
+use mathlib.Core.Bool.{Bool, true, false, _&&_}
 use mathlib.Core.List.{List, _∷_, map}
 use native.Mathlib.Omega.{arith}
+use lib.Dec.{leb}
 use lib.ListN.{length, take, drop, length-take, length-drop}
 use lib.Seq.{take-add, take-at, drop-at}
+use borrow.Author.Tests.{lt-leb, le-leb}
 use Rattle.octets.specs.Parts.{part}
 use Rattle.octets.specs.BigEndian.{num}
 use Rattle.octets.proofs.Lists.{part-length}
-use Rattle.document.specs.declared.Head.{Head}
 use Rattle.rows.specs.Row.{slotOf, keyOf, rowOf}
-use Rattle.rows.specs.Table.{headOf, chunks, rowCount, rowsOf}
+use Rattle.rows.specs.Table.{chunks, rowCount, rowsOf}
 use Rattle.plain.specs.Lookup.{runRows, findIn, missing}
-use Rattle.plain.specs.Damage.{distinct, sound}
-use Rattle.rows.specs.RowRules.{sizeOk, headOk, allSound}
+use Rattle.plain.specs.Damage.{distinct}
 use Rattle.rows.proofs.OneRow.{row-free, row-used, first-row}
 use Rattle.plain.proofs.Rows.{missing-found}
+use Rattle.plain_damage.specs.Distinct.{keysDistinct}
 
 -- a run of rows cut from its place to its end
 chunks-cut : (n : ℕ) (b : List ℕ) → n * 1312 ≤ length b → chunks n (take (n * 1312) b) ≡ chunks n b
@@ -50,8 +51,16 @@ module _ (s : List ℕ) (at later : ℕ) where
       ap (λ (t : Bool). t && distinct rows) (missing-found (part (part s at 1312) 32 (num (part s at 1312) 2 2)) 0 rows)
       ∙ rw (first-row s at later, row-used (part s at 1312) e)
 
--- the damage test, part by part, with the row count and the header read before
-pub sound-is : (b : List ℕ) (n : ℕ) (h : Head) → n ≡ rowCount b → h ≡ headOf b
-    → sound b ≡ (sizeOk (length b) n && (headOk h && (allSound (h .mark .0) (chunks n (drop 16 b)) && distinct (rowsOf n (drop 16 b)))))
-unfolding sound
-sound-is b n h e f = sym (λ i. sizeOk (length b) (e i) && (headOk (f i) && (allSound (f i .mark .0) (chunks (e i) (drop 16 b)) && distinct (rowsOf (e i) (drop 16 b)))))
+-- whether all keys differ, in the order of the code's tests
+module _ (b : List ℕ) where
+  pub too-many : 256 < rowCount b → false ≡ keysDistinct b
+  unfolding keysDistinct
+  too-many h = rw (lt-leb (rowCount b) 256 h)
+
+  pub no-rows : length b < 16 → true ≡ keysDistinct b
+  unfolding keysDistinct
+  no-rows h = let n : rowCount b ≡ 0 = omega arith in rw n
+
+  pub all-distinct : (n : ℕ) → n ≡ rowCount b → n ≤ 256 → distinct (rowsOf n (drop 16 b)) ≡ keysDistinct b
+  unfolding keysDistinct
+  all-distinct n e h = rw (e, le-leb (rowCount b) 256 (omega arith))

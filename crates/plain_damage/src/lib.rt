@@ -1,39 +1,21 @@
-// The damage test. It reads each byte once, and keys once more for their fingerprints; its zero checks and the search for a
-// fingerprint vectorise.
+// Whether the keys of plain rows differ, by fingerprints: a key is compared with others only where theirs are the same, and the search for a
+// fingerprint vectorises.
 ghost use mathlib.Core.Path.{_≡_};
 ghost use mathlib.Core.Bool.{_&&_};
 ghost use mathlib.Core.List.{map};
 ghost use Prim.Native.Nat.{_+_, _*_, _≤_};
 ghost use lib.ListN.{length, drop};
 ghost use Rattle.octets.specs.Parts.{part};
-ghost use Rattle.rows.specs.Row.{slotOf, rowOf};
-ghost use Rattle.rows.specs.Table.{chunks, rowCount, rowsOf};
+ghost use Rattle.rows.specs.Row.{rowOf};
+ghost use Rattle.rows.specs.Table.{rowsOf};
 ghost use Rattle.plain_damage.specs.Print.{rowPrint};
 ghost use Rattle.plain.specs.Lookup.{missing};
-ghost use Rattle.plain.specs.Damage.{distinct, sound, checkedOf};
-ghost use Rattle.rows.specs.RowRules.{sizeOk, headOk, usedOk, rowSound, allSound};
-use engine::Checked;
+ghost use Rattle.plain.specs.Damage.{distinct};
+ghost use Rattle.plain_damage.specs.Distinct.{keysDistinct};
 use plain::Found;
 use rows::FIXED;
 use rows::HEADER;
 use rows::ROW;
-
-fn rows_sound(s: &[u8], n: usize, mark: u64) -> bool
-    requires { ⌜ 16 + n * 1312 ≤ length (now s) ⌝ }
-    ensures { λ r. ⌜ r ≡ allSound mark (chunks n (drop 16 (now (s .entry)))) ⌝ }
-{
-    let mut at: usize = HEADER;
-    let mut left = n;
-    while 0 < left {
-        let end = at + ROW;
-        if !rows::damage::row_sound(&s[at..end], mark) {
-            return false;
-        }
-        at += ROW;
-        left -= 1;
-    }
-    true
-}
 
 fn is_missing(f: Found) -> bool
     ensures { λ r. ⌜ r ≡ missing f ⌝ }
@@ -102,33 +84,16 @@ fn rows_distinct(s: &[u8], n: usize) -> bool
     apart
 }
 
-// The head where the memory is a table that is not damaged.
-pub fn checked(s: &[u8]) -> Checked
-    ensures { λ r. ⌜ r ≡ checkedOf (now (s .entry)) ⌝ }
+// Whether no two used rows have one key. No table has more than 256 rows.
+pub fn is_distinct(s: &[u8]) -> bool
+    ensures { λ r. ⌜ r ≡ keysDistinct (now (s .entry)) ⌝ }
 {
     let n = rows::rows_in(s.len());
-    if !rows::damage::size_ok(s.len(), n) {
-        return Checked::Damaged;
+    if 256 < n {
+        return false;
     }
-    let h = rows::head_of(&s[..HEADER]);
-    if !rows::damage::head_ok(h) {
-        return Checked::Damaged;
+    if s.len() < HEADER {
+        return true;
     }
-    if !rows_sound(s, n, h.mark.0) {
-        return Checked::Damaged;
-    }
-    if !rows_distinct(s, n) {
-        return Checked::Damaged;
-    }
-    Checked::Sound(h)
-}
-
-// Whether the memory is a table that is not damaged.
-pub fn is_sound(s: &[u8]) -> bool
-    ensures { λ r. ⌜ r ≡ sound (now (s .entry)) ⌝ }
-{
-    match checked(s) {
-        Checked::Damaged => false,
-        Checked::Sound(_) => true,
-    }
+    rows_distinct(s, n)
 }

@@ -1,4 +1,3 @@
 pub mod Listed
 pub mod Moves
 pub mod Placing
-pub mod Writing

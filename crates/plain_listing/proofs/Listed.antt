@@ -13,13 +13,12 @@ use Rattle.octets.specs.BigEndian.{num}
 use Rattle.octets.proofs.Choices.{cases}
 use Rattle.keys.specs.Keys.{keyBelow}
 use Rattle.document.specs.Documents.{Key}
-use Rattle.document.specs.declared.Stored.the-variants.{Used}
-use Rattle.document.specs.Stored.{metadataOf, storedOf, alive, live}
+use Rattle.document.specs.Stored.{storedOf, alive, live}
 use Rattle.listing.specs.Listing.{liveKeys, insertKey, sortKeys, fromKey, keysBytes, taken, keysFrom, listedKeys, listing}
 use Rattle.listing.proofs.Sorting.{from-insert}
-use Rattle.rows.specs.Row.{Row, slotOf, docOf, keyOf, rowOf}
+use Rattle.rows.specs.Row.{Row, slotOf, keyOf, rowOf}
 use Rattle.rows.specs.Table.{rowCount, rowAt, rowsOf, tableOf}
-use Rattle.rows.proofs.OneRow.{row-free, row-used, row-there, row-size, key-inside, first-row}
+use Rattle.rows.proofs.OneRow.{row-free, row-used, row-alive, row-there, row-size, key-inside, first-row}
 use Rattle.plain.specs.Plain.{usedRows}
 use Rattle.plain_listing.specs.Places.{keyAt, isListed, rowKey, withKey, keysListed, fittingKeys}
 
@@ -37,17 +36,13 @@ module _ (clock : ℕ) (start : Key) (r : List ℕ) where
   listed-free e = rw (row-free r e)
 
   module _ (u : num r 0 2 ≡ 0 → ⊥) where
-    row-alive : (kind expiry : ℕ) → kind ≡ num r 0 2 → expiry ≡ num r 12 4 → live (Used (metadataOf (docOf r))) clock ≡ alive (eqb kind 2) expiry clock
-    unfolding live docOf slotOf
-    row-alive kind expiry k e = rw (k, e)
-
     pub listed-dead : (kind expiry : ℕ) → kind ≡ num r 0 2 → expiry ≡ num r 12 4 → alive (eqb kind 2) expiry clock ≡ false → isListed clock start (rowOf r) ≡ false
-    listed-dead kind expiry k x e = rw (row-used r u, row-alive kind expiry k x, e)
+    listed-dead kind expiry k x e = rw (row-used r u, row-alive r clock kind expiry k x, e)
 
     pub listed-live : (kind expiry : ℕ) → kind ≡ num r 0 2 → expiry ≡ num r 12 4 → alive (eqb kind 2) expiry clock ≡ true
         → isListed clock start (rowOf r) ≡ not (keyBelow (part r 32 (num r 2 2)) start)
     unfolding keyOf slotOf
-    listed-live kind expiry k x e = rw (row-used r u, row-alive kind expiry k x, e)
+    listed-live kind expiry k x e = rw (row-used r u, row-alive r clock kind expiry k x, e)
 
     pub listed-key : rowKey (rowOf r) ≡ keyOf r
     listed-key = rw (row-used r u)

@@ -1,12 +1,13 @@
 -- Two rows that aren't live, with one revision and one CAS, are decided alike by every command but the with-meta ones, and what is done neither shows nor stores their values.
 use Prim.Native.Nat.{ℕ}
 use native.Mathlib.Omega.{arith}
-use mathlib.Core.Path.{_≡_, refl, sym, ap, subst, _∙_}
-use mathlib.Core.Bool.{Bool, true, false, cond, not, _&&_, true≢false}
-use mathlib.Core.List.{List, [], _∷_, _++_}
+use mathlib.Core.Path.{_≡_, refl, sym, ap, _∙_}
+use mathlib.Core.Bool.{Bool, true, false, cond, _&&_, true≢false}
+use mathlib.Core.List.{List, [], _∷_}
 use mathlib.Core.Option.{Option, none, some}
 use lib.Dec.{eqb}
 use borrow.Author.Tests.{ne-eqb}
+use Rattle.engine.specs.declared.Config.{Config}
 use Rattle.octets.specs.Compare.{same}
 use Rattle.octets.proofs.Choices.{cases}
 use Rattle.octets.proofs.Options.{none-some}
@@ -35,8 +36,10 @@ use Rattle.decision.specs.Decide.{Request, bytesFrom, docFrom, replyValue, effe
 use Rattle.listing.specs.Listing.{liveKeys, sortKeys, fromKey, taken, keysBytes, keysFrom, listedKeys, listing}
 use Rattle.rows.specs.Row.{Row}
 use Rattle.rows.specs.Find.{findRow}
-use Rattle.plain.specs.Plain.{plain, usedRows, replace, putRow}
-use Rattle.serving.specs.Reply.{replyShows, bodyOf, replyHeader, replyBytes}
+use Rattle.plain.specs.Plain.{usedRows, replace}
+use Rattle.engines.specs.Engines.{engineOf}
+use Rattle.engines.proofs.EngineLaws.{put-replaces}
+use Rattle.serving.specs.Reply.{replyShows, replyHeader, replyBytes}
 use Rattle.serving.proofs.Formed.{by-cond}
 use Rattle.promises.proofs.Asks.{IsPlain}
 
@@ -74,7 +77,7 @@ blind-effect a row row′ x p =
     λ j. record { status = x .status; store = docFrom (x .done .store) (bytes j); head = x .done .head }
 
 -- with the same live keys in both tables, a listing is the same too
-module _ (rows rows′ : List Row) (clock : ℕ) (key : Key) (keys : liveKeys clock (plain .docs rows) ≡ liveKeys clock (plain .docs rows′)) where
+module _ (rows rows′ : List Row) (clock : ℕ) (key : Key) (keys : liveKeys clock (usedRows rows) ≡ liveKeys clock (usedRows rows′)) where
   blind-value : (r : Reply) → Hides r → replyValue r (replyShows r rows clock key) ≡ replyValue r (replyShows r rows′ clock key)
   unfolding listing listedKeys keysFrom
   blind-value Bare p = refl
@@ -89,9 +92,11 @@ module _ (rows rows′ : List Row) (clock : ℕ) (key : Key) (keys : liveKeys cl
   blind-reply op opaque x p = rw (blind-value (x .done .reply) (p .0))
 
 -- a document that isn't live put in place of another that isn't changes no live key
-pub put-dead : (clock : ℕ) (rows : List Row) (k : Key) (d e : Doc) → findRow rows k ≡ some d → live (storedOf (some d)) clock ≡ false → live (storedOf (some e)) clock ≡ false
-    → liveKeys clock (plain .docs rows) ≡ liveKeys clock (plain .docs (putRow rows k e))
-put-dead clock rows k d e there dead dead′ = rw there (replaced rows there)
+pub put-dead : (config : Config) (clock : ℕ) (rows : List Row) (k : Key) (d e : Doc) → engineOf config .Good rows → findRow rows k ≡ some d → live (storedOf (some d)) clock ≡ false
+    → live (storedOf (some e)) clock ≡ false
+    → liveKeys clock (usedRows rows) ≡ liveKeys clock (usedRows (engineOf config .put rows k e))
+put-dead config clock rows k d e g there dead dead′ =
+    replaced rows there ∙ ap (λ (r : List Row). liveKeys clock (usedRows r)) (sym (put-replaces config rows k e d g there))
   where
     replaced : (ws : List Row) → findRow ws k ≡ some d → liveKeys clock (usedRows ws) ≡ liveKeys clock (usedRows (replace ws k e))
     replaced [] f = none-some d f

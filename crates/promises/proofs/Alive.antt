@@ -1,15 +1,15 @@
 -- All commands and the owner's read take the same documents for live, a with-meta write compares a row that isn't, and a Get changes nothing but the kept clock.
 use Prim.Native.Nat.{ℕ, _+_, _/_, _%_}
 use mathlib.Core.Path.{_≡_, refl, sym, ap, subst, _∙_}
-use mathlib.Core.Bool.{Bool, true, false, cond, not, _&&_, _||_}
+use mathlib.Core.Bool.{Bool, true, false, not, _&&_, _||_}
 use mathlib.Core.List.{List, _++_}
 use mathlib.Core.Option.{Option, none, some}
 use native.Mathlib.Omega.{arith}
 use lib.Dec.{eqb}
 use borrow.Author.Tests.{eq-eqb, ne-eqb, not-false, eqb-true}
+use Rattle.engine.specs.declared.Config.{Config}
 use Rattle.octets.specs.Parts.{Bytes}
 use Rattle.octets.proofs.Choices.{cases, neither}
-use Rattle.numbers.specs.declared.Numbers.{Numbers}
 use Rattle.numbers.specs.Order.{greater}
 use Rattle.numbers.specs.Expiry.{secondsLeft, isPast, expired}
 use Rattle.document.specs.Documents.{Key, Doc}
@@ -27,7 +27,7 @@ use Rattle.commands.specs.declared.Instruction.{Instruction}
 use Rattle.commands.specs.declared.MetaKind.{MetaKind}
 use Rattle.commands.specs.declared.Command.{Command}
 use Rattle.commands.specs.declared.Command.the-variants.{Get}
-use Rattle.commands.specs.Rules.{ruleOf, testsOf, guard, firstFailure, statusBy}
+use Rattle.commands.specs.Rules.{ruleOf, testsOf, guard, statusBy}
 use Rattle.effects.specs.declared.Done.{Done}
 use Rattle.effects.specs.Done.{doneOf}
 use Rattle.decision.specs.Decision.{decision}
@@ -36,17 +36,16 @@ use Rattle.decode.specs.Decode.{metaCommand, commandOf, requestOf}
 use Rattle.rows.specs.Row.{Row}
 use Rattle.rows.specs.Find.{findRow}
 use Rattle.rows.specs.Table.{Table, tableOf, tableAt, clockAt, tableBytes}
-use Rattle.plain.specs.Damage.{sound}
-use Rattle.owner.specs.Owner.{shown, readOf}
+use Rattle.engines.specs.Damage.{soundBy}
+use Rattle.owning.specs.Owner.{shown, readOf}
 use Rattle.serving.specs.Serve.{reachesDecision, contextOn, decisionOn, frameEffect, frameTable, gateAll, answerBy, tableBy, served, servedTable}
-use Rattle.serving.specs.Statuses.{statuses}
 use Rattle.serving.proofs.Change.{unchanged}
-use Rattle.serving.proofs.Formed.{no, by-cond}
+use Rattle.serving.proofs.Formed.{by-cond}
 use Rattle.serving.proofs.Gated.{was-open}
 use Rattle.promises.specs.Merge.{docAt, modeAt}
 use Rattle.promises.specs.Kept.{laterAt, keptBy}
 use Rattle.promises.specs.Expiry.{opcode, headerCas, extrasIn, keyIn, gets, adds, replaces, deletes, withMetas, touches, joins, keyed, needsLive, toldLive, tells, readLive}
-use Rattle.promises.specs.Expiry.{NotLive, Answers, Reaches, OneLiveness, LiveIsFound, DeadIsCompared, GetKeeps}
+use Rattle.promises.specs.Expiry.{NotLive, Reaches, OneLiveness, LiveIsFound, DeadIsCompared, GetKeeps}
 use Rattle.promises.specs.Clock.{readOnly}
 use Rattle.promises.proofs.Kept.{raised-bytes}
 use Rattle.promises.proofs.Asks.{Each, at-opcode, tested, ask, reads, carries, added}
@@ -69,16 +68,16 @@ read-row : (rows : List Row) (clock : ℕ) (k : Key) (o : Option Doc) → readLi
 read-row rows clock k none = sym (shown-none clock)
 read-row rows clock k (some d) = shown-live rows clock k d
 
-read-live : (b : List ℕ) (clock : ℕ) (k : Key) → sound b ≡ true → readLive (readOf b clock k) ≡ live (storedOf (docAt b k)) (clockAt (tableOf b) clock)
+read-live : (config : Config) (b : List ℕ) (clock : ℕ) (k : Key) → soundBy config b ≡ true → readLive (readOf config b clock k) ≡ live (storedOf (docAt b k)) (clockAt (tableOf b) clock)
 unfolding readOf
-read-live b clock k e = rw e (read-row (tableOf b .rows) (clockAt (tableOf b) clock) k (docAt b k))
+read-live config b clock k e = rw e (read-row (tableOf b .rows) (clockAt (tableOf b) clock) k (docAt b k))
 
 -- ---- what a frame's status tells
 add-keyed : (n : ℕ) → among n adds ≡ true → among n keyed ≡ true
 unfolding among
 add-keyed n e = tested (λ x. among x keyed) n adds refl e
 
-module _ (b : List ℕ) (clock : ℕ) (s : List ℕ) where
+module _ (config : Config) (b : List ℕ) (clock : ℕ) (s : List ℕ) where
   abbrev lives : Bool
   lives = live (storedOf (docAt b (keyIn s))) (clockAt (tableOf b) clock)
 
@@ -105,26 +104,26 @@ module _ (b : List ℕ) (clock : ℕ) (s : List ℕ) where
   contest u f z true t = rw (u, f, unguarded b clock s z, t)
   contest u f z false t = rw (u, f, unguarded b clock s z, t)
 
-  module _ (room : ℕ) (r : Reaches b clock s room) where
-    needed-told : needsLive s ≡ true → (n : ℕ) → status b clock s room ≡ n → not (eqb n 0x01) ≡ lives
+  module _ (room : ℕ) (r : Reaches config b clock s room) where
+    needed-told : needsLive s ≡ true → (n : ℕ) → status b clock s ≡ n → not (eqb n 0x01) ≡ lives
     needed-told e n z =
         cases lives
         (λ t. rw (t, ne-eqb n 0x01 (λ y. without 0x01 _ (without-missing b clock s (found t)) (z ∙ y))))
-        (λ t. rw (t, eq-eqb n 0x01 (sym z ∙ is-missing b clock s room r (not-unstored b clock s (needs-keyed s e)) (not-found e t))))
+        (λ t. rw (t, eq-eqb n 0x01 (sym z ∙ is-missing b clock s (r .earlier) (not-unstored b clock s (needs-keyed s e)) (not-found e t))))
 
-    joined-told : among (opcode s) joins ≡ true → (n : ℕ) → status b clock s room ≡ n → not (eqb n 0x05) ≡ lives
+    joined-told : among (opcode s) joins ≡ true → (n : ℕ) → status b clock s ≡ n → not (eqb n 0x05) ≡ lives
     joined-told e n z =
         cases lives
         (λ t. rw (t, ne-eqb n 0x05 (λ y. without 0x05 _ (without-unstored b clock s (stored t)) (z ∙ y))))
-        (λ t. rw (t, eq-eqb n 0x05 (sym z ∙ is-unstored b clock s room r (not-stored e t))))
+        (λ t. rw (t, eq-eqb n 0x05 (sym z ∙ is-unstored b clock s (r .earlier) (not-stored e t))))
 
-    added-told : among (opcode s) adds ≡ true → headerCas s ≡ 0 → (n : ℕ) → status b clock s room ≡ n → eqb n 0x02 ≡ lives
+    added-told : among (opcode s) adds ≡ true → headerCas s ≡ 0 → (n : ℕ) → status b clock s ≡ n → eqb n 0x02 ≡ lives
     unfolding requestOf
     added-told e c n z =
         let (needless, (unbeaten, fresh)) = added (seen b clock s) (extrasIn s) (opcode s) e in
         cases lives
         (λ t.
-        let first = is-conflict b clock s room r (not-unstored b clock s (add-keyed (opcode s) e)) (not-missing b clock s needless c) (contest unbeaten fresh c true t) in
+        let first = is-conflict b clock s (r .earlier) (not-unstored b clock s (add-keyed (opcode s) e)) (not-missing b clock s needless c) (contest unbeaten fresh c true t) in
         rw (t, eq-eqb n 0x02 (sym z ∙ first)))
         (λ t. rw (t, ne-eqb n 0x02 (λ y. without 0x02 _ (without-conflict b clock s (contest unbeaten fresh c false t)) (z ∙ y))))
 
@@ -135,27 +134,27 @@ add-bare s e f =
     let (h, _) = neither (among (opcode s) keyed && not (eqb (headerCas s) 0)) _ g in
     eqb-true (headerCas s) 0 (not-false (eqb (headerCas s) 0) (rw (add-keyed (opcode s) e) at h))
 
-told : (b : List ℕ) (clock : ℕ) (s : List ℕ) (room n : ℕ) → Reaches b clock s room → tells s ≡ true → status b clock s room ≡ n → toldLive s n ≡ lives b clock s
-told b clock s room n r e z =
+told : (config : Config) (b : List ℕ) (clock : ℕ) (s : List ℕ) (room n : ℕ) → Reaches config b clock s room → tells s ≡ true → status b clock s ≡ n → toldLive s n ≡ lives config b clock s
+told config b clock s room n r e z =
     cases (among (opcode s) joins)
-    (λ j. rw j (joined-told b clock s room r j n z))
+    (λ j. rw j (joined-told config b clock s room r j n z))
     (λ j. cases (needsLive s)
-    (λ t. rw (j, t) (needed-told b clock s room r t n z))
-    (λ t. let a : among (opcode s) adds ≡ true = rw (j, t) at e in rw (j, t) (added-told b clock s room r a (add-bare s a t) n z)))
+    (λ t. rw (j, t) (needed-told config b clock s room r t n z))
+    (λ t. let a : among (opcode s) adds ≡ true = rw (j, t) at e in rw (j, t) (added-told config b clock s room r a (add-bare s a t) n z)))
 
-pub one-liveness : OneLiveness
-one-liveness b clock s room n r e (len, a) =
-    told b clock s room n r e (answered b clock s room n _ len a) ∙ sym (read-live b clock (keyIn s) (r .undamaged))
+pub one-liveness : (config : Config) → OneLiveness config
+one-liveness config b clock s room n r e (len, a) =
+    told config b clock s room n r e (answered config b clock s room n _ len a) ∙ sym (read-live config b clock (keyIn s) (r .undamaged))
 
-pub live-is-found : LiveIsFound
-live-is-found b clock s room d r at l e =
-    let t : lives b clock s ≡ true = rw at (alive-at b clock d l) in
-    let missed = avoids b clock s room 0x01 (without-missing b clock s (found b clock s t)) in
-    let unstored = avoids b clock s room 0x05 (without-unstored b clock s (stored b clock s t)) in
-    ((missed, unstored), read-live b clock (keyIn s) (r .undamaged) ∙ t)
+pub live-is-found : (config : Config) → LiveIsFound config
+live-is-found config b clock s room d r at l e =
+    let t : lives config b clock s ≡ true = rw at (alive-at b clock d l) in
+    let missed = avoids config b clock s room 0x01 (without-missing b clock s (found config b clock s t)) in
+    let unstored = avoids config b clock s room 0x05 (without-unstored b clock s (stored config b clock s t)) in
+    ((missed, unstored), read-live config b clock (keyIn s) (r .undamaged) ∙ t)
 
 -- ---- with-meta
-module _ (b : List ℕ) (clock : ℕ) (s : List ℕ) (d : Doc) (at : docAt b (keyIn s) ≡ some d) (n : NotLive (laterAt b clock) (some d)) (c : headerCas s ≡ 0)
+module _ (config : Config) (b : List ℕ) (clock : ℕ) (s : List ℕ) (d : Doc) (at : docAt b (keyIn s) ≡ some d) (n : NotLive (laterAt b clock) (some d)) (c : headerCas s ≡ 0)
     (k : MetaKind) (asks : command b clock s ≡ metaCommand k (withMeta (extrasIn s)))
     (unforced : eqb (withMeta (extrasIn s) .options % 2) 1 ≡ false) (unskipped : eqb (withMeta (extrasIn s) .options / 8 % 2) 1 ≡ false) where
   abbrev wins : Bool
@@ -169,7 +168,7 @@ module _ (b : List ℕ) (clock : ℕ) (s : List ℕ) (d : Doc) (at : docAt b (ke
   unfolding ruleOf metaCommand accepted
   beaten = rw (asks, unforced, unskipped, at)
 
-  unfound : lives b clock s ≡ false
+  unfound : lives config b clock s ≡ false
   unfound = rw at (dead-at b clock (some d) n)
 
   compared : tests b clock s .conflict ≡ not wins
@@ -180,14 +179,14 @@ meta-keyed : (n : ℕ) → among n withMetas ≡ true → among n keyed ≡ true
 unfolding among
 meta-keyed n e = tested (λ x. among x keyed) n withMetas refl e
 
-pub dead-is-compared : DeadIsCompared
+pub dead-is-compared : (config : Config) → DeadIsCompared config
 unfolding requestOf
-dead-is-compared b clock s room d r at n e c unforced unskipped =
+dead-is-compared config b clock s room d r at n e c unforced unskipped =
     let (k, asks) = carries (seen b clock s) (extrasIn s) (opcode s) e in
-    let needs = not-missing b clock s (needless b clock s d at n c k asks unforced unskipped) c in
-    let x = compared b clock s d at n c k asks unforced unskipped in (
-      λ f. answers b clock s room r 0x02 (is-conflict b clock s room r (not-unstored b clock s (meta-keyed (opcode s) e)) needs (x ∙ ap not f)),
-      λ t. (avoids b clock s room 0x01 (without-missing b clock s needs), avoids b clock s room 0x02 (without-conflict b clock s (x ∙ ap not t))),
+    let needs = not-missing b clock s (needless config b clock s d at n c k asks unforced unskipped) c in
+    let x = compared config b clock s d at n c k asks unforced unskipped in (
+      λ f. answers config b clock s room r 0x02 (is-conflict b clock s (r .earlier) (not-unstored b clock s (meta-keyed (opcode s) e)) needs (x ∙ ap not f)),
+      λ t. (avoids config b clock s room 0x01 (without-missing b clock s needs), avoids config b clock s room 0x02 (without-conflict b clock s (x ∙ ap not t))),
     )
 
 -- ---- a command that stores nothing
@@ -224,32 +223,32 @@ module _ (t : Table) (clock : ℕ) (s : List ℕ) where
       ((refl, refl), ((refl, refl), ((refl, refl), ((refl, refl), ((refl, refl), ((refl, refl), ((refl, refl), tt))))))) in
       frame-kept (ask sees (extrasIn s) (opcode s)) refl (at-opcode Reads (opcode s) readOnly all e) .0
 
-module _ (b : List ℕ) (clock : ℕ) (s : List ℕ) (x : Command) (asks : command b clock s ≡ x) (k : Kept (seen b clock s) (doneOf (seen b clock s) x)) where
+module _ (config : Config) (b : List ℕ) (clock : ℕ) (s : List ℕ) (x : Command) (asks : command b clock s ≡ x) (k : Kept (seen b clock s) (doneOf (seen b clock s) x)) where
   abbrev t : Table
   t = tableAt (tableOf b) clock
 
   abbrev now : ℕ
   now = clockAt (tableOf b) clock
 
-  kept-by : (room : ℕ) → Bytes b → (g : Gate) → gateAll b room s ≡ g → tableBy b clock s g ≡ keptBy (answerBy b clock s g) b clock
+  kept-by : (room : ℕ) → Bytes b → (g : Gate) → gateAll config b room s ≡ g → tableBy config b clock s g ≡ keptBy (answerBy b clock s g) b clock
   unfolding frameTable
   kept-by room y (Stop n need) o = refl
   kept-by room y (Whole h) o =
-      let w = was-open b s room h o in
+      let w = was-open config b s room h o in
       let same = frame-kept t now s x asks k in
-      ap (λ (x : Header). frameTable b clock s x) (sym (w .frame .header))
-      ∙ ap tableBytes (unchanged t now s (headerOf s) (same .0) (same .1)) ∙ raised-bytes b clock y (w .undamaged)
+      ap (λ (x : Header). frameTable config b clock s x) (sym (w .frame .header))
+      ∙ ap tableBytes (unchanged config t now s (headerOf s) (same .0) (same .1)) ∙ raised-bytes config b clock y (w .undamaged)
 
-  pub keeps : (room : ℕ) → Bytes b → servedTable b clock s room ≡ keptBy (served b clock s room) b clock
+  pub keeps : (room : ℕ) → Bytes b → servedTable config b clock s room ≡ keptBy (served config b clock s room) b clock
   unfolding served servedTable
-  keeps room y = kept-by room y (gateAll b room s) refl
+  keeps room y = kept-by room y (gateAll config b room s) refl
 
 got : (c : Context) (k : Bool) → Kept c (doneOf c (Get k))
 unfolding doneOf
 got c k = (refl, refl)
 
-pub get-keeps : GetKeeps
+pub get-keeps : (config : Config) → GetKeeps config
 unfolding requestOf
-get-keeps b clock s room y e =
+get-keeps config b clock s room y e =
     let (k, asks) = reads (seen b clock s) (extrasIn s) (opcode s) e in
-    keeps b clock s (Get k) asks (got (seen b clock s) k) room y
+    keeps config b clock s (Get k) asks (got (seen b clock s) k) room y

@@ -1,13 +1,14 @@
 -- What frames with status 0 are answered: a Get, order 4's commands, and the CAS in the reply to every write. specs/Replies.antt.
 use native.Mathlib.Omega.{arith}
-use Prim.Native.Nat.{ℕ, _+_, _^_, _≤_, _<_}
+use Prim.Native.Nat.{ℕ, _+_, _≤_}
 use mathlib.Core.Path.{_≡_, refl, sym, ap, _∙_}
 use mathlib.Core.Bool.{Bool, true, false, cond, _&&_}
 use mathlib.Core.List.{List, [], _∷_, _++_, append-assoc}
-use mathlib.Core.Option.{Option, some}
+use mathlib.Core.Option.{some}
 use lib.ListN.{length, drop}
 use lib.Dec.{eqb}
 use borrow.Author.Tests.{eq-eqb}
+use Rattle.engine.specs.declared.Config.{Config}
 use Rattle.octets.specs.Parts.{Bytes, part, written}
 use Rattle.octets.specs.BigEndian.{num, bytesOf}
 use Rattle.octets.proofs.Choices.{cases}
@@ -84,7 +85,7 @@ unfolding replyBytes
 by-silence s done key true shown y l = refl
 by-silence s done key false shown y l = good-bytes s done key shown y l
 
-module _ (b : List ℕ) (clock : ℕ) (s : List ℕ) where
+module _ (config : Config) (b : List ℕ) (clock : ℕ) (s : List ℕ) where
   -- what its command does
   abbrev done : Effects
   done = doneOf (seen b clock s) (command b clock s)
@@ -109,15 +110,15 @@ module _ (b : List ℕ) (clock : ℕ) (s : List ℕ) where
       ∙ by-silence s done (keyIn s) silent (shows (record { status = 0; silent = silent; done = done })) z l
 
   -- at the start of the reply area
-  sent : (out : List ℕ) (len : ℕ) (reply : List ℕ) → Bytes b → Bytes s → served b clock s (length out) ≡ Done 0 (24 + headerOf s .body) len → cond silent [] (said done) ≡ reply
-      → (len ≡ length reply) × (servedReply b clock s out ≡ reply ++ drop len out)
+  sent : (out : List ℕ) (len : ℕ) (reply : List ℕ) → Bytes b → Bytes s → served config b clock s (length out) ≡ Done 0 (24 + headerOf s .body) len → cond silent [] (said done) ≡ reply
+      → (len ≡ length reply) × (servedReply config b clock s out ≡ reply ++ drop len out)
   unfolding served servedReply
   sent out len reply y z r e =
-      let o = was-whole b clock s (length out) 0 _ len r in
-      let zero = listed b clock s (length out) ∙ answered b clock s (length out) 0 _ len r in
-      let f = replied z (was-open b s (length out) (headerOf s) o .frame .long) zero ∙ e in
+      let o = was-whole config b clock s (length out) 0 _ len r in
+      let zero = listed b clock s ∙ answered config b clock s (length out) 0 _ len r in
+      let f = replied z (was-open config b s (length out) (headerOf s) o .frame .long) zero ∙ e in
       let size : len ≡ length reply = sym (ap servedLength (ap (answerBy b clock s) (sym o) ∙ r)) ∙ ap length f in
-      let inside = reply-fits b clock s out 0 _ len y r .inside in (
+      let inside = reply-fits config b clock s out 0 _ len y r .inside in (
         size,
         ap (replyBy b clock s out) o ∙ ap (written out 0) f ∙ put out reply (omega (arith, size, inside)) ∙ ap (λ (k : ℕ). reply ++ drop k out) (sym size),
       )
@@ -158,19 +159,19 @@ sent-cas op opaque x key shown rest sent =
     (λ t. absurd (sent (rw t)))
     (λ t. rw t (ap (λ (l : List ℕ). part l 16 8) (append-assoc (headerBytes h) body rest) ∙ cas-at h (body ++ rest)))
 
-module _ (b : List ℕ) (clock : ℕ) (s : List ℕ) (e : among (opcode s) writers ≡ true) where
+module _ (config : Config) (b : List ℕ) (clock : ℕ) (s : List ℕ) (e : among (opcode s) writers ≡ true) where
   mutates : isMutation (command b clock s) ≡ true
   unfolding shapeOf commandOf plainOf counterOf touchOf metaCommand
   mutates = ap isMutation (command-asked b clock s) ∙ tested (λ n. isMutation (ask (seen b clock s) (extrasIn s) n)) (opcode s) writers refl e
 
-  stores : Stores (done b clock s)
+  stores : Stores (done config b clock s)
   stores = done-stores (seen b clock s) (command b clock s) mutates
 
   -- what the key has then
   abbrev document : Doc
   document = record {
     tomb = stores .row .tomb;
-    value = bytesFrom (done b clock s .source) (requestOf s (headerOf s) .value) (docValue (docAt b (keyIn s)));
+    value = bytesFrom (done config b clock s .source) (requestOf s (headerOf s) .value) (docValue (docAt b (keyIn s)));
     numbers = stores .row .numbers;
   }
 
@@ -183,30 +184,30 @@ module _ (b : List ℕ) (clock : ℕ) (s : List ℕ) (e : among (opcode s) write
       let decided = r ∙ zero-decision (seen b clock s) (instruction b clock s) (ap (λ (x : Decision). x .status) (sym r) ∙ zero) in
       ap (λ (x : Decision). x .done .cas .0) decided ∙ stores .cas
 
-pub write-replies : WriteReplies
+pub write-replies : (config : Config) → WriteReplies config
 unfolding served servedReply frameReply
-write-replies b clock s out len y z small e r sent =
-    let a : Answers b clock s (length out) 0 = (len, r) in
+write-replies config b clock s out len y z small e r sent =
+    let a : Answers config b clock s (length out) 0 = (len, r) in
     let h = headerOf s in
     let x = decisionAt b clock s h in
     let shown = replyShows (x .done .reply) (tableOf b .rows) (clockAt (tableOf b) clock) (keyIn s) in
     let reply = replyBytes (h .opcode) (h .opaque) x (keyIn s) shown in
-    let o = was-whole b clock s (length out) 0 _ len r in
-    let zero = listed b clock s (length out) ∙ answered b clock s (length out) 0 _ len r in
+    let o = was-whole config b clock s (length out) 0 _ len r in
+    let zero = listed b clock s ∙ answered config b clock s (length out) 0 _ len r in
     let size : len ≡ length reply = sym (ap servedLength (ap (answerBy b clock s) (sym o) ∙ r)) in
-    let inside = reply-fits b clock s out 0 _ len y r .inside in
+    let inside = reply-fits config b clock s out 0 _ len y r .inside in
     let whole = ap (replyBy b clock s out) o ∙ put out reply (omega (arith, size, inside)) in (
-      document b clock s e,
+      document config b clock s e,
       (
-        done-at b clock s (length out) (document b clock s e) (stored b clock s e) y z small a,
+        done-at config b clock s (length out) (document config b clock s e) (stored config b clock s e) y z small a,
         ap (λ (l : List ℕ). part l 16 8) whole
             ∙ sent-cas (h .opcode) (h .opaque) x (keyIn s) shown (drop (length reply) out) (λ q. sent (size ∙ q))
-            ∙ ap (bytesOf 8) (cas-is b clock s e zero),
+            ∙ ap (bytesOf 8) (cas-is config b clock s e zero),
       ),
     )
 
 -- ---- Get
-module _ (b : List ℕ) (clock : ℕ) (s : List ℕ) (e : among (opcode s) gets ≡ true) where
+module _ (config : Config) (b : List ℕ) (clock : ℕ) (s : List ℕ) (e : among (opcode s) gets ≡ true) where
   abbrev keyed : Bool
   keyed = among (opcode s) (0x0c ∷ 0x0d ∷ [])
 
@@ -216,12 +217,12 @@ module _ (b : List ℕ) (clock : ℕ) (s : List ℕ) (e : among (opcode s) gets 
       command-asked b clock s
       ∙ at-opcode (λ n. ask (seen b clock s) (extrasIn s) n ≡ Get (among n (0x0c ∷ 0x0d ∷ []))) (opcode s) gets (refl, (refl, (refl, (refl, tt)))) e
 
-  shows-it : (d : Doc) → docAt b (keyIn s) ≡ some d → cond (silent b clock s) [] (said b clock s (done b clock s)) ≡ getReply s d
+  shows-it : (d : Doc) → docAt b (keyIn s) ≡ some d → cond (silent config b clock s) [] (said config b clock s (done config b clock s)) ≡ getReply s d
   unfolding doneOf ruleOf
   shows-it d there = rw (gets-it, and-false (instruction b clock s .quiet), there)
 
-pub get-replies : GetReplies
-get-replies b clock s out d len y z there e r = sent b clock s out len (getReply s d) y z r (shows-it b clock s e d there)
+pub get-replies : (config : Config) → GetReplies config
+get-replies config b clock s out d len y z there e r = sent config b clock s out len (getReply s d) y z r (shows-it config b clock s e d there)
 
 -- ---- order 4
 and-true : (a : Bool) → (a && true) ≡ a
@@ -247,7 +248,7 @@ by-shown : (s : List ℕ) (shown : Bool) (flags : ℕ) (key : Key) (rows : List 
 by-shown s true flags key rows now cas = refl
 by-shown s false flags key rows now cas = refl
 
-module _ (b : List ℕ) (clock : ℕ) (s : List ℕ) (e : among (opcode s) touches ≡ true) where
+module _ (config : Config) (b : List ℕ) (clock : ℕ) (s : List ℕ) (e : among (opcode s) touches ≡ true) where
   asks-touch : command b clock s ≡ Touch (record { expiry = num (extrasIn s) 0 4; shown = eqb (opcode s) 0x1d })
   asks-touch = command-asked b clock s ∙ showing (seen b clock s) (extrasIn s) (opcode s) e
 
@@ -256,7 +257,7 @@ module _ (b : List ℕ) (clock : ℕ) (s : List ℕ) (e : among (opcode s) touch
   touch-loud = at-opcode (λ n. shapeOf n .quiet ≡ false) (opcode s) touches (refl, (refl, tt)) e
 
   touch-said : (d : Doc) → docAt b (keyIn s) ≡ some d
-      → cond (silent b clock s) [] (said b clock s (done b clock s)) ≡ touchReply s (eqb (opcode s) 0x1d) (d .numbers .flags) (d .value) (done b clock s .cas .0)
+      → cond (silent config b clock s) [] (said config b clock s (done config b clock s)) ≡ touchReply s (eqb (opcode s) 0x1d) (d .numbers .flags) (d .value) (done config b clock s .cas .0)
   unfolding doneOf
   touch-said d there =
       let shown = eqb (opcode s) 0x1d in
@@ -265,36 +266,36 @@ module _ (b : List ℕ) (clock : ℕ) (s : List ℕ) (e : among (opcode s) touch
       (by-shown s shown (numbersOf (seen b clock s .row) .flags) (keyIn s) (tableOf b .rows) (clockAt (tableOf b) clock) cas
       ∙ (λ i. touchReply s shown (numbersOf (storedOf (there i)) .flags) (docValue (there i)) cas))
 
-pub touch-replies : TouchReplies
-touch-replies b clock s out d len y z small there e r =
+pub touch-replies : (config : Config) → TouchReplies config
+touch-replies config b clock s out d len y z small there e r =
     let w = tested (λ n. among n writers) (opcode s) touches touches-write e in
     let reply : ℕ → List ℕ = touchReply s (eqb (opcode s) 0x1d) (d .numbers .flags) (d .value) in (
-      document b clock s w,
+      document config b clock s w,
       (
-        done-at b clock s (length out) (document b clock s w) (stored b clock s w) y z small (len, r),
-        sent b clock s out len _ y z r (touch-said b clock s e d there ∙ ap reply (stores b clock s w .cas)),
+        done-at config b clock s (length out) (document config b clock s w) (stored config b clock s w) y z small (len, r),
+        sent config b clock s out len _ y z r (touch-said config b clock s e d there ∙ ap reply (stores config b clock s w .cas)),
       ),
     )
 
-module _ (b : List ℕ) (clock : ℕ) (s : List ℕ) (e : among (opcode s) joins ≡ true) where
+module _ (config : Config) (b : List ℕ) (clock : ℕ) (s : List ℕ) (e : among (opcode s) joins ≡ true) where
   join-quiet : instruction b clock s .quiet ≡ among (opcode s) (0x19 ∷ 0x1a ∷ [])
   unfolding requestOf shapeOf among
   join-quiet = at-opcode (λ n. shapeOf n .quiet ≡ among n (0x19 ∷ 0x1a ∷ [])) (opcode s) joins (refl, (refl, (refl, (refl, tt)))) e
 
-  join-said : (side : Side) → command b clock s ≡ Join side → cond (silent b clock s) [] (said b clock s (done b clock s)) ≡ joinReply s (done b clock s .cas .0)
+  join-said : (side : Side) → command b clock s ≡ Join side → cond (silent config b clock s) [] (said config b clock s (done config b clock s)) ≡ joinReply s (done config b clock s .cas .0)
   unfolding doneOf ruleOf
   join-said side asks =
       let q = instruction b clock s .quiet in
       rw asks (ap (λ (x : Bool). cond x [] (goodReply s [] [] [] (joinDone (seen b clock s) side .cas .0))) (and-true q ∙ join-quiet))
 
-pub join-replies : JoinReplies
+pub join-replies : (config : Config) → JoinReplies config
 unfolding requestOf
-join-replies b clock s out d len y z small there e r =
+join-replies config b clock s out d len y z small there e r =
     let w = tested (λ n. among n writers) (opcode s) joins joins-write e in
     let (side, asks) = joining (seen b clock s) (extrasIn s) (opcode s) e in (
-      document b clock s w,
+      document config b clock s w,
       (
-        done-at b clock s (length out) (document b clock s w) (stored b clock s w) y z small (len, r),
-        sent b clock s out len _ y z r (join-said b clock s e side asks ∙ ap (joinReply s) (stores b clock s w .cas)),
+        done-at config b clock s (length out) (document config b clock s w) (stored config b clock s w) y z small (len, r),
+        sent config b clock s out len _ y z r (join-said config b clock s e side asks ∙ ap (joinReply s) (stores config b clock s w .cas)),
       ),
     )

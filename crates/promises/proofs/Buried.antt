@@ -2,19 +2,20 @@
 use Prim.Native.Nat.{ℕ, _+_, _^_, _≤_, _<_}
 use native.Mathlib.Omega.{arith}
 use mathlib.Core.Path.{_≡_, refl, sym, ap, subst, _∙_}
-use mathlib.Core.Bool.{Bool, true, false, cond, not}
+use mathlib.Core.Bool.{true, false}
 use mathlib.Core.List.{List, [], _∷_}
 use mathlib.Core.Logic.{_⊎_, inl, inr, ⊎-elim}
 use mathlib.Core.Option.{Option, none, some}
 use lib.ListN.{length}
 use lib.Dec.{ltb}
+use Rattle.engine.specs.declared.Config.{Config}
 use Rattle.octets.specs.Parts.{Bytes, written}
 use Rattle.octets.specs.Compare.{same}
 use Rattle.octets.proofs.Choices.{cases}
 use Rattle.octets.proofs.Options.{options, none-some}
 use Rattle.octets.proofs.Tests.{same-true, same-refl}
 use Rattle.digits.specs.Decimal.{numberOf}
-use Rattle.document.specs.Documents.{Key, Doc, Entry}
+use Rattle.document.specs.Documents.{Key, Doc}
 use Rattle.document.specs.Stored.{storedOf, metadataOf, live}
 use Rattle.header.specs.declared.Header.{Header}
 use Rattle.header.specs.Header.{headerOf}
@@ -26,17 +27,17 @@ use Rattle.decision.specs.declared.Decision.{Decision}
 use Rattle.decision.specs.Decision.{decision}
 use Rattle.decision.specs.Decide.{Effect, effectOf, contextOf, instructionOf}
 use Rattle.decode.specs.Decode.{requestOf}
-use Rattle.engine.specs.Engine.{Room, isSome, storeRow}
+use Rattle.engine.specs.Engine.{Room, storeRow}
 use Rattle.rows.specs.Row.{Row}
 use Rattle.rows.specs.Table.{Table, tableOf, tableAt, clockAt, tableBytes}
 use Rattle.rows.specs.Find.{findRow, freeRows}
 use Rattle.rows.specs.Good.{EntryGood, AllGood}
-use Rattle.plain.specs.Plain.{plain, replace, putRow}
-use Rattle.plain.specs.Damage.{sound}
-use Rattle.plain.specs.Claims.{Good}
-use Rattle.plain.proofs.PlainLaws.{plain-laws}
-use Rattle.plain.proofs.ChangeLaws.{put-good}
-use Rattle.plain.proofs.TableLaws.{sound-good, good-sound}
+use Rattle.plain.specs.Plain.{replace}
+use Rattle.engines.specs.Engines.{engineOf}
+use Rattle.engines.specs.Damage.{soundBy}
+use Rattle.engines.specs.Claims.{GoodBy}
+use Rattle.engines.proofs.EngineLaws.{engines-laws, put-replaces}
+use Rattle.engines.proofs.Tables.{sound-good-by, good-sound-by, put-good-by}
 use Rattle.serving.specs.declared.Served.{Served}
 use Rattle.serving.specs.declared.Served.the-variants.{Done}
 use Rattle.serving.specs.Reply.{replyShows, replyBytes}
@@ -74,10 +75,18 @@ replaced-twice (some x ∷ ws) k a d =
     (λ t. rw t (rw t (ap (λ (r : List Row). some x ∷ r) (replaced-twice ws k a d))))
 
 -- putting over what was put
-put-twice : (ws : List Row) (k : Key) (a d e : Doc) → findRow ws k ≡ some e → findRow (putRow ws k a) k ≡ some a → putRow (putRow ws k a) k d ≡ putRow ws k d
-put-twice ws k a d e f g = rw (g, f) (replaced-twice ws k a d)
+put-twice : (config : Config) (ws : List Row) (k : Key) (a d e : Doc) → engineOf config .Good ws → findRow ws k ≡ some e
+    → engineOf config .put (engineOf config .put ws k a) k d ≡ engineOf config .put ws k d
+put-twice config ws k a d e g f =
+    let room : Room (engineOf config) ws k = λ n. none-some e (sym n ∙ f) in
+    let there : findRow (engineOf config .put ws k a) k ≡ some a = engines-laws config .find-put ws k a g room k ∙ rw (same-refl k) in
+    put-replaces config (engineOf config .put ws k a) k d a (engines-laws config .good-put ws k a g room) there
+    ∙ ap (λ (r : List Row). replace r k d) (put-replaces config ws k a e g f)
+    ∙ replaced-twice ws k a d
+    ∙ sym (put-replaces config ws k d e g f)
 
-module _ (b : List ℕ) (clock : ℕ) (s : List ℕ) (d : Doc) (y : Bytes b) (z : Bytes s) (small : clock < 2 ^ 32) (undamaged : sound b ≡ true) (there : docAt b (keyIn s) ≡ some d)
+module _ (config : Config) (b : List ℕ) (clock : ℕ) (s : List ℕ) (d : Doc) (y : Bytes b) (z : Bytes s) (small : clock < 2 ^ 32) (undamaged : soundBy config b ≡ true)
+    (there : docAt b (keyIn s) ≡ some d)
     (past : Expired (laterAt b clock) d) (plain-op : among (opcode s) withMetas ≡ false) where
   abbrev h : Header
   h = headerOf s
@@ -98,26 +107,26 @@ module _ (b : List ℕ) (clock : ℕ) (s : List ℕ) (d : Doc) (y : Bytes b) (z 
 
   -- the table with the tombstone, at the call's clock, and its memory
   abbrev u₀ : Table
-  u₀ = record { head = t₀ .head; rows = putRow (t₀ .rows) k (tombstoneOf d) }
+  u₀ = record { head = t₀ .head; rows = engineOf config .put (t₀ .rows) k (tombstoneOf d) }
 
   abbrev u : Table
   u = tableAt u₀ clock
 
   abbrev grave : List ℕ
-  grave = buried b k d
+  grave = buried config b k d
 
-  good₀ : Good t₀
-  good₀ = sound-good b y undamaged .1
+  good₀ : GoodBy config t₀
+  good₀ = sound-good-by config b y undamaged .1
 
-  good : Good t
-  good = good-later b clock y undamaged small
+  good : GoodBy config t
+  good = good-later config b clock y undamaged small
 
-  room : Room plain (t .rows) k
+  room : Room (engineOf config) (t .rows) k
   room e = none-some d (sym e ∙ there)
 
   entry : EntryGood (t .head .mark .0) (record { key = k; doc = tombstoneOf d })
   entry =
-      let g = found-good (t .head .mark .0) (t .rows) k d (good .rows) there in
+      let g = found-good (t .head .mark .0) (t .rows) k d (good .good .rows) there in
       record {
         key-least = g .key-least;
         key-most = g .key-most;
@@ -130,20 +139,20 @@ module _ (b : List ℕ) (clock : ℕ) (s : List ℕ) (d : Doc) (y : Bytes b) (z 
         cas-most = g .cas-most;
       }
 
-  good-grave : Good u₀
-  good-grave = put-good t₀ k (tombstoneOf d) good₀ entry room
+  good-grave : GoodBy config u₀
+  good-grave = put-good-by config t₀ k (tombstoneOf d) good₀ entry room
 
-  grave-sound : sound grave ≡ true
-  grave-sound = good-sound u₀ good-grave .0
+  grave-sound : soundBy config grave ≡ true
+  grave-sound = good-sound-by config u₀ good-grave .0
 
   grave-table : tableOf grave ≡ u₀
-  grave-table = good-sound u₀ good-grave .1
+  grave-table = good-sound-by config u₀ good-grave .1
 
   grave-found : findRow (u .rows) k ≡ some (tombstoneOf d)
-  grave-found = plain-laws .find-put (t .rows) k (tombstoneOf d) (good .keys) room k ∙ rw (same-refl k)
+  grave-found = engines-laws config .find-put (t .rows) k (tombstoneOf d) (good .kept) room k ∙ rw (same-refl k)
 
   grave-free : freeRows (u .rows) ≡ freeRows (t .rows)
-  grave-free = plain-laws .free-old (t .rows) k (tombstoneOf d) d (good .keys) there
+  grave-free = engines-laws config .free-old (t .rows) k (tombstoneOf d) d (good .kept) there
 
   -- ---- the decision
   abbrev Same : Decision → Decision → Type 0
@@ -185,7 +194,7 @@ module _ (b : List ℕ) (clock : ℕ) (s : List ℕ) (d : Doc) (y : Bytes b) (z 
   replies : frameReply b clock s h ≡ frameReply grave clock s h
   unfolding frameReply
   replies =
-      let keys = put-dead c (t .rows) k d (tombstoneOf d) there dead-row dead-grave in
+      let keys = put-dead config c (t .rows) k d (tombstoneOf d) (good .kept) there dead-row dead-grave in
       let shown : Table → Decision → List ℕ = λ v x. replyBytes (h .opcode) (h .opaque) x k (replyShows (x .done .reply) (v .rows) (clockAt v clock) k) in
       blind-reply (t .rows) (u .rows) c k keys (h .opcode) (h .opaque) (decisionOn t c s h) (decided .1)
       ∙ ap (shown u₀) (decided .0)
@@ -193,12 +202,12 @@ module _ (b : List ℕ) (clock : ℕ) (s : List ℕ) (d : Doc) (y : Bytes b) (z 
 
   module _ (inside : 24 + h .body ≤ length s) where
     abbrev Ends : Type 0
-    Ends = (frameTable b clock s h ≡ frameTable grave clock s h)
-        ⊎ ((frameTable b clock s h ≡ clockRaised b clock) × (frameTable grave clock s h ≡ clockRaised grave clock))
+    Ends = (frameTable config b clock s h ≡ frameTable config grave clock s h)
+        ⊎ ((frameTable config b clock s h ≡ clockRaised b clock) × (frameTable config grave clock s h ≡ clockRaised grave clock))
 
     -- a frame on the table with the tombstone
     abbrev changed : Table → Table
-    changed v = frameChange (tableAt v clock) (clockAt v clock) s h
+    changed v = frameChange config (tableAt v clock) (clockAt v clock) s h
 
     abbrev effect : Effect
     effect = frameEffect t c s h
@@ -207,11 +216,11 @@ module _ (b : List ℕ) (clock : ℕ) (s : List ℕ) (d : Doc) (y : Bytes b) (z 
     stay : effect .store ≡ none → Ends
     unfolding frameTable
     stay e =
-        let head = changing t c s h good z inside .keeps e in
-        let kept = ap tableBytes (unchanged t c s h e head) ∙ raised-bytes b clock y undamaged in
+        let head = changing t c s h (good .good) z inside .keeps e in
+        let kept = ap tableBytes (unchanged config t c s h e head) ∙ raised-bytes config b clock y undamaged in
         let at = ap (λ (x : Effect). x .store) (sym effects) ∙ e in
         let top = ap (λ (x : Effect). x .head) (sym effects) ∙ head in
-        inr (kept, ap (λ (v : Table). tableBytes (changed v)) grave-table ∙ ap tableBytes (unchanged u c s h at top) ∙ raised-good u₀ good-grave clock)
+        inr (kept, ap (λ (v : Table). tableBytes (changed v)) grave-table ∙ ap tableBytes (unchanged config u c s h at top) ∙ raised-good config u₀ good-grave clock)
 
     -- the table with these rows and the new head
     abbrev withRows : List Row → Table
@@ -221,16 +230,16 @@ module _ (b : List ℕ) (clock : ℕ) (s : List ℕ) (d : Doc) (y : Bytes b) (z 
     written-over : (e : Doc) → effect .store ≡ some e → Ends
     unfolding frameTable
     written-over e stores =
-        let rows = put-twice (t .rows) k (tombstoneOf d) e d there grave-found in
-        let mine = ap (λ (o : Option Doc). withRows (storeRow plain (t .rows) k o)) stores in
-        let its = ap (λ (x : Effect). tableChanged u k x) (sym effects) ∙ ap (λ (o : Option Doc). withRows (storeRow plain (u .rows) k o)) stores in
+        let rows = put-twice config (t .rows) k (tombstoneOf d) e d (good .kept) there in
+        let mine = ap (λ (o : Option Doc). withRows (storeRow (engineOf config) (t .rows) k o)) stores in
+        let its = ap (λ (x : Effect). tableChanged config u k x) (sym effects) ∙ ap (λ (o : Option Doc). withRows (storeRow (engineOf config) (u .rows) k o)) stores in
         inl (ap tableBytes (mine ∙ ap withRows (sym rows) ∙ sym its) ∙ ap (λ (v : Table). tableBytes (changed v)) (sym grave-table))
 
     ends : Ends
     ends = options (effect .store) stay written-over
 
   -- ---- a call
-  gates : (n : ℕ) → gateAll b n s ≡ gateAll grave n s
+  gates : (n : ℕ) → gateAll config b n s ≡ gateAll config grave n s
   unfolding gateAll
   gates n = rw (undamaged, grave-sound)
 
@@ -240,12 +249,12 @@ module _ (b : List ℕ) (clock : ℕ) (s : List ℕ) (d : Doc) (y : Bytes b) (z 
   module _ (out : List ℕ) where
     -- what an answer leaves where nothing is stored
     abbrev Keeps : List ℕ → Gate → Type 0
-    Keeps m g = tableBy m clock s g ≡ keptBy (answerBy m clock s g) m clock
+    Keeps m g = tableBy config m clock s g ≡ keptBy (answerBy m clock s g) m clock
 
     abbrev By : Gate → Type 0
     By g = (answerBy b clock s g ≡ answerBy grave clock s g)
         × ((replyBy b clock s out g ≡ replyBy grave clock s out g)
-        × ((tableBy b clock s g ≡ tableBy grave clock s g) ⊎ (Keeps b g × Keeps grave g)))
+        × ((tableBy config b clock s g ≡ tableBy config grave clock s g) ⊎ (Keeps b g × Keeps grave g)))
 
     whole : 24 + h .body ≤ length s → By (Whole h)
     whole inside = (
@@ -253,46 +262,46 @@ module _ (b : List ℕ) (clock : ℕ) (s : List ℕ) (d : Doc) (y : Bytes b) (z 
       (ap (λ (r : List ℕ). written out 0 r) replies, ends inside),
     )
 
-    by-gate : (g : Gate) → gateAll b (length out) s ≡ g → By g
+    by-gate : (g : Gate) → gateAll config b (length out) s ≡ g → By g
     by-gate (Stop n need) o = (refl, (refl, inr (refl, refl)))
     by-gate (Whole f) o =
-        let w = was-open b s (length out) f o .frame in
+        let w = was-open config b s (length out) f o .frame in
         subst (λ (x : Header). By (Whole x)) (w .header) (whole (subst (λ (x : Header). 24 + x .body ≤ length s) (sym (w .header)) (w .inside)))
 
-    abbrev now : By (gateAll b (length out) s)
-    now = by-gate (gateAll b (length out) s) refl
+    abbrev now : By (gateAll config b (length out) s)
+    now = by-gate (gateAll config b (length out) s) refl
 
     abbrev n : ℕ
     n = length out
 
     abbrev EndsServed : Type 0
-    EndsServed = (servedTable b clock s n ≡ servedTable grave clock s n)
-        ⊎ ((servedTable b clock s n ≡ keptBy (served b clock s n) b clock) × (servedTable grave clock s n ≡ keptBy (served grave clock s n) grave clock))
+    EndsServed = (servedTable config b clock s n ≡ servedTable config grave clock s n)
+        ⊎ ((servedTable config b clock s n ≡ keptBy (served config b clock s n) b clock) × (servedTable config grave clock s n ≡ keptBy (served config grave clock s n) grave clock))
 
     tables : EndsServed
     unfolding served servedTable
     tables =
-        let gate = ap (tableBy grave clock s) (gates n) in
+        let gate = ap (tableBy config grave clock s) (gates n) in
         ⊎-elim (λ e. inl (e ∙ gate)) (λ e. inr (e .0, subst (Keeps grave) (gates n) (e .1))) (now .1 .1)
 
     -- another key has in both tables what it had
     apart : (j : Key) → same k j ≡ false → docAt b j ≡ docAt grave j
     apart j f =
-        sym (ap (λ (x : Table). findRow (x .rows) j) grave-table ∙ plain-laws .find-put (t .rows) k (tombstoneOf d) (good .keys) room j ∙ rw f)
+        sym (ap (λ (x : Table). findRow (x .rows) j) grave-table ∙ engines-laws config .find-put (t .rows) k (tombstoneOf d) (good .kept) room j ∙ rw f)
 
     -- and the kept clock's bytes show none of it
     kept-here : (a : Served) (j : Key) → docAt (keptBy a b clock) j ≡ docAt b j
     kept-here a j =
-        let back = sound-good b y undamaged .0 in
-        subst (λ (m : List ℕ). docAt (keptBy a m clock) j ≡ docAt m j) back (kept-docs t₀ good₀ clock a small j)
+        let back = sound-good-by config b y undamaged .0 in
+        subst (λ (m : List ℕ). docAt (keptBy a m clock) j ≡ docAt m j) back (kept-docs config t₀ good₀ clock a small j)
 
-    others-by : EndsServed → (j : Key) → same k j ≡ false → docAt (servedTable b clock s n) j ≡ docAt (servedTable grave clock s n) j
+    others-by : EndsServed → (j : Key) → same k j ≡ false → docAt (servedTable config b clock s n) j ≡ docAt (servedTable config grave clock s n) j
     others-by (inl e) j f = ap (λ (m : List ℕ). docAt m j) e
     others-by (inr e) j f =
-        ap (λ (m : List ℕ). docAt m j) (e .0) ∙ kept-here (served b clock s n) j ∙ apart j f
-        ∙ sym (kept-docs u₀ good-grave clock (served grave clock s n) small j) ∙ ap (λ (m : List ℕ). docAt m j) (sym (e .1))
+        ap (λ (m : List ℕ). docAt m j) (e .0) ∙ kept-here (served config b clock s n) j ∙ apart j f
+        ∙ sym (kept-docs config u₀ good-grave clock (served config grave clock s n) small j) ∙ ap (λ (m : List ℕ). docAt m j) (sym (e .1))
 
-    as-buried : AsBuried b grave clock s out
+    as-buried : AsBuried config b grave clock s out
     unfolding served servedReply
     as-buried = record {
       undamaged = grave-sound;
@@ -302,5 +311,5 @@ module _ (b : List ℕ) (clock : ℕ) (s : List ℕ) (d : Doc) (y : Bytes b) (z 
       others = others-by tables;
     }
 
-pub expired-is-dead : ExpiredIsDead
-expired-is-dead b clock s out d y z small undamaged there past plain-op = as-buried b clock s d y z small undamaged there past plain-op out
+pub expired-is-dead : (config : Config) → ExpiredIsDead config
+expired-is-dead config b clock s out d y z small undamaged there past plain-op = as-buried config b clock s d y z small undamaged there past plain-op out

@@ -1,12 +1,12 @@
 -- A counter for a key without a live document begins at its initial number, and goes on with a live one; what a plain write stores expires by the plain rule.
 use Prim.Native.Nat.{ℕ, _+_, _^_, _≤_, _<_}
 use mathlib.Core.Path.{_≡_, refl, sym, ap, subst, _∙_}
-use mathlib.Core.Bool.{Bool, true, false, cond}
+use mathlib.Core.Bool.{Bool, true, false}
 use mathlib.Core.List.{List}
-use mathlib.Core.Option.{Option, none, some}
+use mathlib.Core.Option.{Option, some}
 use native.Mathlib.Omega.{arith}
-use lib.Dec.{eqb}
 use borrow.Author.Tests.{eq-eqb, ne-eqb, le-leb, ltb-false, le-ltb, lt-ltb}
+use Rattle.engine.specs.declared.Config.{Config}
 use Rattle.octets.specs.Parts.{Bytes}
 use Rattle.octets.specs.BigEndian.{num}
 use Rattle.octets.proofs.Choices.{cases}
@@ -30,9 +30,9 @@ use Rattle.decode.specs.Decode.{requestOf}
 use Rattle.engine.specs.Engine.{storeRow}
 use Rattle.rows.specs.Table.{Table, tableOf, tableAt, clockAt}
 use Rattle.rows.specs.Find.{findRow}
-use Rattle.plain.specs.Plain.{plain}
-use Rattle.plain.proofs.PlainLaws.{plain-laws}
-use Rattle.plain.proofs.TableLaws.{good-sound}
+use Rattle.engines.specs.Engines.{engineOf}
+use Rattle.engines.proofs.EngineLaws.{engines-laws}
+use Rattle.engines.proofs.Tables.{good-sound-by}
 use Rattle.serving.specs.Serve.{reachesDecision, decisionOn, decisionAt, frameEffect, effectAt, frameChange, frameTable, gateAll, tableBy, servedTable}
 use Rattle.serving.proofs.Change.{changing, change-good}
 use Rattle.serving.proofs.Formed.{no}
@@ -66,34 +66,34 @@ until-later b clock given e =
     subst (λ (c : ℕ). PlainExpiry given c (absolute given (clockAt (tableOf b) clock))) (later-clock b clock) (plain-expiry given (clockAt (tableOf b) clock) e)
 
 -- a frame with status 0 fails no test
-pub unfailing : (b : List ℕ) (clock : ℕ) (s : List ℕ) (room : ℕ) → Answers b clock s room 0 → Passed (tests b clock s)
+pub unfailing : (config : Config) (b : List ℕ) (clock : ℕ) (s : List ℕ) (room : ℕ) → Answers config b clock s room 0 → Passed (tests b clock s)
 unfolding firstStatus
-unfailing b clock s room (len, e) =
-    let zero = answered b clock s room 0 _ len e in
+unfailing config b clock s room (len, e) =
+    let zero = answered config b clock s room 0 _ len e in
     let p = all-pass (list b clock s) (refl, (refl, (refl, (refl, (refl, (refl, (refl, (refl, (refl, (refl, (refl, (refl, (refl, (refl, tt)))))))))))))) zero in
     passed (tests b clock s) (sym (later 4 (list b clock s) (p .0, (p .1 .0, (p .1 .1 .0, (p .1 .1 .1 .0, tt))))) ∙ zero)
 
 -- so it breaks no rule that needs mode or clock
-pub faultless : (b : List ℕ) (clock : ℕ) (s : List ℕ) (room : ℕ) → Answers b clock s room 0 → rule b clock s .fault ≡ false
+pub faultless : (config : Config) (b : List ℕ) (clock : ℕ) (s : List ℕ) (room : ℕ) → Answers config b clock s room 0 → rule b clock s .fault ≡ false
 unfolding testsOf
-faultless b clock s room a = unfailing b clock s room a .fault
+faultless config b clock s room a = unfailing config b clock s room a .fault
 
 -- what a served frame stores is what its key has then
-pub stored-at : (b : List ℕ) (clock : ℕ) (s : List ℕ) (room : ℕ) (d : Doc) → Bytes b → Bytes s → clock < 2 ^ 32 → gateAll b room s ≡ Whole (headerOf s)
-    → effectAt b clock s (headerOf s) .store ≡ some d → docAt (servedTable b clock s room) (keyIn s) ≡ some d
+pub stored-at : (config : Config) (b : List ℕ) (clock : ℕ) (s : List ℕ) (room : ℕ) (d : Doc) → Bytes b → Bytes s → clock < 2 ^ 32 → gateAll config b room s ≡ Whole (headerOf s)
+    → effectAt b clock s (headerOf s) .store ≡ some d → docAt (servedTable config b clock s room) (keyIn s) ≡ some d
 unfolding servedTable frameTable
-stored-at b clock s room d y z c o e =
+stored-at config b clock s room d y z c o e =
     let t = tableAt (tableOf b) clock in
     let now = clockAt (tableOf b) clock in
     let h = headerOf s in
-    let w = was-open b s room h o in
-    let g = good-later b clock y (w .undamaged) c in
-    let after = good-sound (frameChange t now s h) (change-good t now s h g z (w .frame .inside)) .1 in
-    let storing = changing t now s h g z (w .frame .inside) .stores d e in
-    ap (λ (m : List ℕ). docAt m (keyIn s)) (ap (tableBy b clock s) o)
+    let w = was-open config b s room h o in
+    let g = good-later config b clock y (w .undamaged) c in
+    let after = good-sound-by config (frameChange config t now s h) (change-good config t now s h g z (w .frame .inside)) .1 in
+    let storing = changing t now s h (g .good) z (w .frame .inside) .stores d e in
+    ap (λ (m : List ℕ). docAt m (keyIn s)) (ap (tableBy config b clock s) o)
     ∙ ap (λ (x : Table). findRow (x .rows) (keyIn s)) after
-    ∙ ap (λ (x : Option Doc). findRow (storeRow plain (t .rows) (keyIn s) x) (keyIn s)) e
-    ∙ plain-laws .find-put (t .rows) (keyIn s) d (g .keys) (storing .room) (keyIn s)
+    ∙ ap (λ (x : Option Doc). findRow (storeRow (engineOf config) (t .rows) (keyIn s) x) (keyIn s)) e
+    ∙ engines-laws config .find-put (t .rows) (keyIn s) d (g .kept) (storing .room) (keyIn s)
     ∙ rw (same-refl (keyIn s))
 
 -- what a frame's command stores where no test fails
@@ -103,7 +103,7 @@ does b clock s =
     docFrom (done .store) (bytesFrom (done .source) (requestOf s (headerOf s) .value) (docValue (docAt b (keyIn s))))
 
 -- a frame with status 0 stores it
-module _ (b : List ℕ) (clock : ℕ) (s : List ℕ) (room : ℕ) (d : Doc) (stores : does b clock s ≡ some d) where
+module _ (config : Config) (b : List ℕ) (clock : ℕ) (s : List ℕ) (room : ℕ) (d : Doc) (stores : does b clock s ≡ some d) where
   reached : reachesDecision (frameStatus s (headerOf s)) ≡ true → decisionAt b clock s (headerOf s) .status ≡ 0
       → effectAt b clock s (headerOf s) .store ≡ some d
   unfolding frameEffect decisionOn decision
@@ -113,13 +113,13 @@ module _ (b : List ℕ) (clock : ℕ) (s : List ℕ) (room : ℕ) (d : Doc) (sto
   unfolding decisionOn
   unreached r e = no (sym r ∙ ap reachesDecision (rw r at e))
 
-  pub done-at : Bytes b → Bytes s → clock < 2 ^ 32 → Answers b clock s room 0 → docAt (servedTable b clock s room) (keyIn s) ≡ some d
+  pub done-at : Bytes b → Bytes s → clock < 2 ^ 32 → Answers config b clock s room 0 → docAt (servedTable config b clock s room) (keyIn s) ≡ some d
   done-at y z c (len, e) =
-      let zero = sym (statuses-in-order (tableAt (tableOf b) clock) (clockAt (tableOf b) clock) s (headerOf s)) ∙ answered b clock s room 0 _ len e in
+      let zero = sym (statuses-in-order (tableAt (tableOf b) clock) (clockAt (tableOf b) clock) s (headerOf s)) ∙ answered config b clock s room 0 _ len e in
       let stored = cases (reachesDecision (frameStatus s (headerOf s))) (λ r. reached r zero) (λ r. absurd (unreached r zero)) in
-      stored-at b clock s room d y z c (was-whole b clock s room 0 _ len e) stored
+      stored-at config b clock s room d y z c (was-whole config b clock s room 0 _ len e) stored
 
-module _ (b : List ℕ) (clock : ℕ) (s : List ℕ) (room : ℕ) (up : Bool)
+module _ (config : Config) (b : List ℕ) (clock : ℕ) (s : List ℕ) (room : ℕ) (up : Bool)
     (asks : command b clock s ≡ Count (record { up = up; delta = num (extrasIn s) 0 8; initial = initialIn s; expiry = counterExpiry s })) where
   abbrev counter : Counter
   counter = record { up = up; delta = num (extrasIn s) 0 8; initial = initialIn s; expiry = counterExpiry s }
@@ -137,33 +137,33 @@ module _ (b : List ℕ) (clock : ℕ) (s : List ℕ) (room : ℕ) (up : Bool)
   unfolding doneOf
   goes-on d at l = let t : live (seen b clock s .row) (clockAt (tableOf b) clock) ≡ true = rw at (alive-at b clock d l) in rw (asks, t)
 
-  anew : NotLive (laterAt b clock) (docAt b (keyIn s)) → Bytes b → Bytes s → clock < 2 ^ 32 → Answers b clock s room 0
-      → (d : Doc) × ((docAt (servedTable b clock s room) (keyIn s) ≡ some d) × BeginsAt (initialIn s) (counterExpiry s) (laterAt b clock) d)
+  anew : NotLive (laterAt b clock) (docAt b (keyIn s)) → Bytes b → Bytes s → clock < 2 ^ 32 → Answers config b clock s room 0
+      → (d : Doc) × ((docAt (servedTable config b clock s room) (keyIn s) ≡ some d) × BeginsAt (initialIn s) (counterExpiry s) (laterAt b clock) d)
   unfolding ruleOf
   anew n y z c a =
-      let until = until-later b clock (counterExpiry s) (rw asks at (faultless b clock s room a)) in
-      (_, (done-at b clock s room _ (begins n) y z c a, record { document = refl; value = refl; flags = refl; expiry = until }))
+      let until = until-later b clock (counterExpiry s) (rw asks at (faultless config b clock s room a)) in
+      (_, (done-at config b clock s room _ (begins n) y z c a, record { document = refl; value = refl; flags = refl; expiry = until }))
 
-pub live-counts : LiveCounts
+pub live-counts : (config : Config) → LiveCounts config
 unfolding requestOf
-live-counts b clock s room d y z c at l e a =
+live-counts config b clock s room d y z c at l e a =
     let (up, asks) = counts (seen b clock s) (extrasIn s) (opcode s) e in
-    (_, (done-at b clock s room _ (goes-on b clock s room up asks d at l) y z c a, (rw at, rw at)))
+    (_, (done-at config b clock s room _ (goes-on config b clock s room up asks d at l) y z c a, (rw at, rw at)))
 
-pub dead-counts : DeadCounts
+pub dead-counts : (config : Config) → DeadCounts config
 unfolding requestOf ruleOf
-dead-counts b clock s room y z small n e c x =
+dead-counts config b clock s room y z small n e c x =
     let (up, asks) = counts (seen b clock s) (extrasIn s) (opcode s) e in
     let needless = count-needs b clock s e ∙ ne-eqb (counterExpiry s) 0xffffffff x in
     record {
-      found = avoids b clock s room 0x01 (without-missing b clock s (not-missing b clock s needless c));
-      free = avoids b clock s room 0x02 (without-conflict b clock s (no-conflict b clock s n (rw asks) c));
-      number = avoids b clock s room 0x06 (without-number b clock s (no-number b clock s n));
-      stored = anew b clock s room up asks n y z small;
+      found = avoids config b clock s room 0x01 (without-missing b clock s (not-missing b clock s needless c));
+      free = avoids config b clock s room 0x02 (without-conflict b clock s (no-conflict b clock s n (rw asks) c));
+      number = avoids config b clock s room 0x06 (without-number b clock s (no-number b clock s n));
+      stored = anew config b clock s room up asks n y z small;
     }
 
 -- ---- a Set, an Add or a Replace
-module _ (b : List ℕ) (clock : ℕ) (s : List ℕ) (room : ℕ) (kind : Kind)
+module _ (config : Config) (b : List ℕ) (clock : ℕ) (s : List ℕ) (room : ℕ) (kind : Kind)
     (asks : command b clock s ≡ Write (record { kind = kind; flags = num (extrasIn s) 0 4; expiry = writtenExpiry s })) where
   abbrev document : Doc
   document = record {
@@ -176,12 +176,12 @@ module _ (b : List ℕ) (clock : ℕ) (s : List ℕ) (room : ℕ) (kind : Kind)
   unfolding doneOf
   writes = rw asks
 
-  until : Answers b clock s room 0 → PlainExpiry (writtenExpiry s) (laterAt b clock) (document .numbers .expiry)
+  until : Answers config b clock s room 0 → PlainExpiry (writtenExpiry s) (laterAt b clock) (document .numbers .expiry)
   unfolding ruleOf
-  until a = until-later b clock (writtenExpiry s) (rw asks at (faultless b clock s room a))
+  until a = until-later b clock (writtenExpiry s) (rw asks at (faultless config b clock s room a))
 
-pub writes-until : WritesUntil
+pub writes-until : (config : Config) → WritesUntil config
 unfolding requestOf
-writes-until b clock s room y z small e a =
+writes-until config b clock s room y z small e a =
     let (kind, asks) = stores (seen b clock s) (extrasIn s) (opcode s) e in
-    (_, (done-at b clock s room _ (writes b clock s room kind asks) y z small a, until b clock s room kind asks a))
+    (_, (done-at config b clock s room _ (writes config b clock s room kind asks) y z small a, until config b clock s room kind asks a))

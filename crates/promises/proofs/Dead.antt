@@ -1,12 +1,14 @@
 -- A key without a live document: what needs one is answered 0x01, an Append or a Prepend 0x05, and a Set or an Add is not refused for it.
 use Prim.Native.Nat.{ℕ, _+_}
 use native.Mathlib.Omega.{arith}
-use mathlib.Core.Path.{_≡_, refl, sym, ap, _∙_}
-use mathlib.Core.Bool.{Bool, true, false, cond, not, _&&_, _||_}
+use mathlib.Core.Path.{_≡_, refl, ap, _∙_}
+use mathlib.Core.Bool.{Bool, true, false, not, _&&_, _||_}
 use mathlib.Core.List.{List, _++_}
 use mathlib.Core.Logic.{⊎-elim}
+use lib.ListN.{take}
 use lib.Dec.{eqb}
 use borrow.Author.Tests.{not-true}
+use Rattle.engine.specs.declared.Config.{Config}
 use Rattle.octets.proofs.Choices.{both, either}
 use Rattle.header.specs.Header.{headerOf}
 use Rattle.shape.specs.Shapes.{among}
@@ -23,7 +25,7 @@ use Rattle.serving.specs.Statuses.{testsOn, statuses}
 use Rattle.promises.specs.Merge.{docAt}
 use Rattle.promises.specs.Kept.{laterAt}
 use Rattle.promises.specs.Expiry.{opcode, headerCas, extrasIn, keyIn, gets, replaces, deletes, touches, joins, keyed, counters, counterExpiry, needsLive}
-use Rattle.promises.specs.Expiry.{NotLive, Reaches, DeadIsMissing, DeadIsUnstored, DeadIsWritten}
+use Rattle.promises.specs.Expiry.{NotLive, Passes, DeadIsMissing, DeadIsUnstored, DeadIsWritten}
 use Rattle.promises.proofs.Asks.{tested, ask, needs, guarded, joinless, writes, counts, joining}
 use Rattle.promises.proofs.Liveness.{and-false, or-true, dead-at, later, Without, status, answers, avoids}
 use Rattle.promises.proofs.Keeps.{status-keeps}
@@ -125,18 +127,18 @@ module _ (b : List ℕ) (clock : ℕ) (s : List ℕ) where
   without-number v = (refl, (refl, (refl, (refl, (refl, (refl, (refl, (refl, (refl, (refl, (refl, (v, (refl, (refl, refl))))))))))))))
 
   -- where it is the first that fails, its status is
-  pub is-unstored : (room : ℕ) → Reaches b clock s room → tests .unstored ≡ true → status b clock s room ≡ 0x05
+  pub is-unstored : Passes (take 7 list) → tests .unstored ≡ true → status b clock s ≡ 0x05
   unfolding firstFailure
-  is-unstored room r u = later 7 list (r .earlier) ∙ rw u
+  is-unstored r u = later 7 list r ∙ rw u
 
-  pub is-missing : (room : ℕ) → Reaches b clock s room → tests .unstored ≡ false → tests .missing ≡ true → status b clock s room ≡ 0x01
+  pub is-missing : Passes (take 7 list) → tests .unstored ≡ false → tests .missing ≡ true → status b clock s ≡ 0x01
   unfolding firstFailure
-  is-missing room r u m = later 7 list (r .earlier) ∙ rw (u, m)
+  is-missing r u m = later 7 list r ∙ rw (u, m)
 
-  pub is-conflict : (room : ℕ) → Reaches b clock s room → tests .unstored ≡ false → tests .missing ≡ false → tests .conflict ≡ true
-      → status b clock s room ≡ 0x02
+  pub is-conflict : Passes (take 7 list) → tests .unstored ≡ false → tests .missing ≡ false → tests .conflict ≡ true
+      → status b clock s ≡ 0x02
   unfolding firstFailure
-  is-conflict room r u m k = later 7 list (r .earlier) ∙ rw (u, m, k)
+  is-conflict r u m k = later 7 list r ∙ rw (u, m, k)
 
   -- the tests of 0x05, 0x01, 0x02 and 0x06, where the row isn't live
   module _ (n : NotLive (laterAt b clock) (docAt b (keyIn s))) where
@@ -156,21 +158,21 @@ module _ (b : List ℕ) (clock : ℕ) (s : List ℕ) where
     unfolding testsOf
     no-number = rw (dead-at b clock (docAt b (keyIn s)) n) (and-false (rule .counts))
 
-pub dead-is-missing : DeadIsMissing
-dead-is-missing b clock s room r n e =
-    let first = is-missing b clock s room r (not-unstored b clock s (needs-keyed s e)) (missing b clock s n e) in
-    let (len, a) = answers b clock s room r 0x01 first in
-    ((len, a), status-keeps b clock s room 0x01 (24 + headerOf s .body) len (r .bytes) a (λ y. absurd (omega arith)))
+pub dead-is-missing : (config : Config) → DeadIsMissing config
+dead-is-missing config b clock s room r n e =
+    let first = is-missing b clock s (r .earlier) (not-unstored b clock s (needs-keyed s e)) (missing b clock s n e) in
+    let (len, a) = answers config b clock s room r 0x01 first in
+    ((len, a), status-keeps config b clock s room 0x01 (24 + headerOf s .body) len (r .bytes) a (λ y. absurd (omega arith)))
 
-pub dead-is-unstored : DeadIsUnstored
-dead-is-unstored b clock s room r n e =
-    let (len, a) = answers b clock s room r 0x05 (is-unstored b clock s room r (unstored b clock s n e)) in
-    ((len, a), status-keeps b clock s room 0x05 (24 + headerOf s .body) len (r .bytes) a (λ y. absurd (omega arith)))
+pub dead-is-unstored : (config : Config) → DeadIsUnstored config
+dead-is-unstored config b clock s room r n e =
+    let (len, a) = answers config b clock s room r 0x05 (is-unstored b clock s (r .earlier) (unstored b clock s n e)) in
+    ((len, a), status-keeps config b clock s room 0x05 (24 + headerOf s .body) len (r .bytes) a (λ y. absurd (omega arith)))
 
-pub dead-is-written : DeadIsWritten
+pub dead-is-written : (config : Config) → DeadIsWritten config
 unfolding requestOf
-dead-is-written b clock s room n e z =
+dead-is-written config b clock s room n e z =
     let (needs, beaten) = writes (seen b clock s) (extrasIn s) (opcode s) e in (
-      avoids b clock s room 0x01 (without-missing b clock s (not-missing b clock s needs z)),
-      avoids b clock s room 0x02 (without-conflict b clock s (no-conflict b clock s n beaten z)),
+      avoids config b clock s room 0x01 (without-missing b clock s (not-missing b clock s needs z)),
+      avoids config b clock s room 0x02 (without-conflict b clock s (no-conflict b clock s n beaten z)),
     )

@@ -7,6 +7,7 @@ use mathlib.Core.List.{List}
 use mathlib.Core.Option.{some}
 use lib.Dec.{eqb}
 use borrow.Author.Tests.{eqb-false}
+use Rattle.engine.specs.declared.Config.{Config}
 use Rattle.octets.specs.Parts.{Bytes, part}
 use Rattle.octets.specs.BigEndian.{num}
 use Rattle.octets.proofs.Choices.{neither}
@@ -25,8 +26,8 @@ use Rattle.commands.specs.Rules.{ruleOf, testsOf}
 use Rattle.effects.specs.Done.{doneOf, plainNumbers}
 use Rattle.decode.specs.Decode.{bareValue, requestOf}
 use Rattle.rows.specs.Table.{headOf, tableOf, clockAt}
-use Rattle.plain.specs.Claims.{Good}
-use Rattle.plain.proofs.TableLaws.{sound-good}
+use Rattle.engines.specs.Claims.{GoodBy}
+use Rattle.engines.proofs.Tables.{sound-good-by}
 use Rattle.serving.proofs.Gated.{was-open}
 use Rattle.promises.specs.Merge.{docAt}
 use Rattle.promises.specs.Kept.{laterAt}
@@ -52,23 +53,23 @@ marked b = refl
 one-more : (n : ℕ) → n < 2 ^ 64 → eqb n 0xffffffffffffffff ≡ false → next n ≡ n + 1
 one-more n l e = let low : n ≡ 0xffffffffffffffff → ⊥ = eqb-false n 0xffffffffffffffff e in omega arith
 
-module _ (b : List ℕ) (clock : ℕ) (s : List ℕ) (room : ℕ) (d : Doc) (y : Bytes b) (there : docAt b (keyIn s) ≡ some d) (a : Answers b clock s room 0)
+module _ (config : Config) (b : List ℕ) (clock : ℕ) (s : List ℕ) (room : ℕ) (d : Doc) (y : Bytes b) (there : docAt b (keyIn s) ≡ some d) (a : Answers config b clock s room 0)
     (revises : rule b clock s .revises ≡ true) (marks : rule b clock s .marks ≡ true) where
-  good : Good (tableOf b)
-  good = let (len, e) = a in sound-good b y (was-open b s room (headerOf s) (was-whole b clock s room 0 _ len e) .undamaged) .1
+  good : GoodBy config (tableOf b)
+  good = let (len, e) = a in sound-good-by config b y (was-open config b s room (headerOf s) (was-whole config b clock s room 0 _ len e) .undamaged) .1
 
   unspent : (eqb (d .numbers .revision .0) 0xffffffffffffffff ≡ false) × (eqb (tableOf b .head .mark .0) 0xffffffffffffffff ≡ false)
   unfolding testsOf
-  unspent = neither _ _ (rw (revises, marks, there) at (unfailing b clock s room a .spent))
+  unspent = neither _ _ (rw (revises, marks, there) at (unfailing config b clock s room a .spent))
 
   plainly-written : (expiry : ℕ) (value : List ℕ) → PlainlyWritten (markIn b) d (over b clock s expiry value)
   plainly-written expiry value =
-      let entry = found-good (tableOf b .head .mark .0) (tableOf b .rows) (keyIn s) d (good .rows) there in
+      let entry = found-good (tableOf b .head .mark .0) (tableOf b .rows) (keyIn s) d (good .good .rows) there in
       record {
         document = refl;
         flags = rw there;
         revision = rw there (one-more (d .numbers .revision .0) (entry .revision) (unspent .0));
-        cas = one-more (tableOf b .head .mark .0) (good .mark) (unspent .1) ∙ ap (λ (n : ℕ). n + 1) (marked b);
+        cas = one-more (tableOf b .head .mark .0) (good .good .mark) (unspent .1) ∙ ap (λ (n : ℕ). n + 1) (marked b);
       }
 
 -- ---- Append and Prepend
@@ -83,7 +84,7 @@ value-asked s e =
     let all : valueSpan (headerOf s) .len - 0 ≡ valueSpan (headerOf s) .len = omega arith in
     rw (no-meta s e) (ap (part s (valueSpan (headerOf s) .at)) all)
 
-module _ (b : List ℕ) (clock : ℕ) (s : List ℕ) (room : ℕ) (d : Doc) (y : Bytes b) (there : docAt b (keyIn s) ≡ some d) (a : Answers b clock s room 0)
+module _ (config : Config) (b : List ℕ) (clock : ℕ) (s : List ℕ) (room : ℕ) (d : Doc) (y : Bytes b) (there : docAt b (keyIn s) ≡ some d) (a : Answers config b clock s room 0)
     (side : Side) (asks : command b clock s ≡ Join side) where
   abbrev joint : Doc
   joint = over b clock s (numbersOf (seen b clock s .row) .expiry) (joined side (docValue (docAt b (keyIn s))) (requestOf s (headerOf s) .value))
@@ -95,19 +96,19 @@ module _ (b : List ℕ) (clock : ℕ) (s : List ℕ) (room : ℕ) (d : Doc) (y :
   joins-at : among (opcode s) joins ≡ true → (at : Side) → Join side ≡ Join at → Joins (markIn b) (joined at (d .value) (valueIn s)) d joint
   unfolding ruleOf
   joins-at e at z = record {
-    written = plainly-written b clock s room d y there a (rw asks) (rw asks) _ _;
+    written = plainly-written config b clock s room d y there a (rw asks) (rw asks) _ _;
     expiry = rw there;
     value = let same : side ≡ at = cc in λ i. joined (same i) (docValue (there i)) (value-asked s e i);
   }
 
-pub live-joins : LiveJoins
+pub live-joins : (config : Config) → LiveJoins config
 unfolding requestOf
-live-joins b clock s room d y z small there e a =
+live-joins config b clock s room d y z small there e a =
     let (side, asks) = joining (seen b clock s) (extrasIn s) (opcode s) e in
-    let at = joins-at b clock s room d y there a side asks e in (
-      joint b clock s room d y there a side asks,
+    let at = joins-at config b clock s room d y there a side asks e in (
+      joint config b clock s room d y there a side asks,
       (
-        done-at b clock s room _ (joins-it b clock s room d y there a side asks) y z small a,
+        done-at config b clock s room _ (joins-it config b clock s room d y there a side asks) y z small a,
         (
           λ back. at Back (sym asks ∙ appending (seen b clock s) (extrasIn s) (opcode s) back),
           λ front. at Front (sym asks ∙ prepending (seen b clock s) (extrasIn s) (opcode s) front),
@@ -116,7 +117,7 @@ live-joins b clock s room d y z small there e a =
     )
 
 -- ---- Touch and Get-and-touch
-module _ (b : List ℕ) (clock : ℕ) (s : List ℕ) (room : ℕ) (d : Doc) (y : Bytes b) (there : docAt b (keyIn s) ≡ some d) (a : Answers b clock s room 0)
+module _ (config : Config) (b : List ℕ) (clock : ℕ) (s : List ℕ) (room : ℕ) (d : Doc) (y : Bytes b) (there : docAt b (keyIn s) ≡ some d) (a : Answers config b clock s room 0)
     (shown : Bool) (asks : command b clock s ≡ Touch (record { expiry = num (extrasIn s) 0 4; shown = shown })) where
   abbrev touched : Doc
   touched = over b clock s (absolute (num (extrasIn s) 0 4) (clockAt (tableOf b) clock)) (docValue (docAt b (keyIn s)))
@@ -128,13 +129,13 @@ module _ (b : List ℕ) (clock : ℕ) (s : List ℕ) (room : ℕ) (d : Doc) (y :
   touches-at : Touches (markIn b) (num (extrasIn s) 0 4) (laterAt b clock) d touched
   unfolding ruleOf
   touches-at = record {
-    written = plainly-written b clock s room d y there a (rw asks) (rw asks) _ _;
-    expiry = until-later b clock (num (extrasIn s) 0 4) (rw asks at (faultless b clock s room a));
+    written = plainly-written config b clock s room d y there a (rw asks) (rw asks) _ _;
+    expiry = until-later b clock (num (extrasIn s) 0 4) (rw asks at (faultless config b clock s room a));
     value = ap docValue there;
   }
 
-pub live-touches : LiveTouches
+pub live-touches : (config : Config) → LiveTouches config
 unfolding requestOf
-live-touches b clock s room d y z small there e a =
+live-touches config b clock s room d y z small there e a =
     let (shown, asks) = touching (seen b clock s) (extrasIn s) (opcode s) e in
-    (_, (done-at b clock s room _ (touches-it b clock s room d y there a shown asks) y z small a, touches-at b clock s room d y there a shown asks))
+    (_, (done-at config b clock s room _ (touches-it config b clock s room d y there a shown asks) y z small a, touches-at config b clock s room d y there a shown asks))

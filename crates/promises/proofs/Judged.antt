@@ -1,5 +1,9 @@
 -- The judged examples, computed from bytes to bytes.
 use mathlib.Core.Path.{refl}
+use Rattle.keys.specs.Keys.{sideOf}
+use Rattle.engine.specs.declared.Config.{Config}
+use Rattle.engine.specs.declared.EngineKind.{EngineKind}
+use Rattle.engine.specs.declared.EngineKind.the-variants.{Plain, Ordered}
 use Rattle.octets.specs.Parts.{pasted, written}
 use Rattle.octets.specs.BigEndian.{beFrom, be, bytesOf}
 use Rattle.octets.specs.Compare.{zeros, same}
@@ -21,17 +25,36 @@ use Rattle.decode.specs.Decode.{plainOf, counterOf, metaCommand, commandOf, bar
 use Rattle.rows.specs.Row.{slotOf, sizeBytes, shortBytes, longBytes, slotBytes, docOf, keyOf, rowOf, slotFor, usedBytes, rowBytes}
 use Rattle.rows.specs.Table.{headOf, tableOf, headBytes, tableBytes}
 use Rattle.plain.specs.Damage.{sound}
+use Rattle.ordered.specs.Damage.{soundOrdered}
+use Rattle.engines.specs.Damage.{soundBy}
 use Rattle.rows.specs.RowRules.{sizeOk, headOk, usedOk, rowSound}
 use Rattle.serving.specs.Reply.{replyHeader, replyBytes}
 use Rattle.serving.specs.Serve.{gateAll, decisionOn, frameEffect, frameTable, frameReply, served, servedTable, servedReply}
 use Rattle.promises.specs.Judged.{Judged}
 
-pub judged-examples : Judged
+plain-judged : Judged (record { engine = Plain })
 unfolding pasted written beFrom be bytesOf zeros same digits digitsIn numberOf numberFrom allDigits isDigit valueFrom greater above lead second
     secondsLeft expired passes absolute accepted live commands unbuilt lookUp among shapeOf headerOf frontBytes middleBytes backBytes headerBytes carriedNumbers
     optionsOf sectionOf withMeta fieldOk fieldSize walk fieldsOk sectionOk formOk numbersOk bodyOk withMetaOk metaSize fieldRulesOk judged status
     gateOf extrasSpan keySpan valueSpan frameStatus ruleOf testsOf firstStatus firstFailure decision doneOf plainOf counterOf metaCommand commandOf
     bareValue requestOf slotOf sizeBytes shortBytes longBytes slotBytes docOf keyOf rowOf slotFor usedBytes rowBytes headOf tableOf headBytes
-    tableBytes sizeOk headOk usedOk rowSound sound replyHeader replyBytes gateAll decisionOn frameEffect frameTable frameReply served servedTable
+    tableBytes sizeOk headOk usedOk rowSound sound soundOrdered soundBy sideOf replyHeader replyBytes gateAll decisionOn frameEffect frameTable frameReply served servedTable
     servedReply
-judged-examples = refl
+plain-judged = refl
+
+ordered-judged : Judged (record { engine = Ordered })
+unfolding pasted written beFrom be bytesOf zeros same digits digitsIn numberOf numberFrom allDigits isDigit valueFrom greater above lead second
+    secondsLeft expired passes absolute accepted live commands unbuilt lookUp among shapeOf headerOf frontBytes middleBytes backBytes headerBytes carriedNumbers
+    optionsOf sectionOf withMeta fieldOk fieldSize walk fieldsOk sectionOk formOk numbersOk bodyOk withMetaOk metaSize fieldRulesOk judged status
+    gateOf extrasSpan keySpan valueSpan frameStatus ruleOf testsOf firstStatus firstFailure decision doneOf plainOf counterOf metaCommand commandOf
+    bareValue requestOf slotOf sizeBytes shortBytes longBytes slotBytes docOf keyOf rowOf slotFor usedBytes rowBytes headOf tableOf headBytes
+    tableBytes sizeOk headOk usedOk rowSound sound soundOrdered soundBy sideOf replyHeader replyBytes gateAll decisionOn frameEffect frameTable frameReply served servedTable
+    servedReply
+ordered-judged = refl
+
+judged-in : (engine : EngineKind) → Judged (record { engine = engine })
+judged-in Plain = plain-judged
+judged-in Ordered = ordered-judged
+
+pub judged-examples : (config : Config) → Judged config
+judged-examples config = judged-in (config .engine)

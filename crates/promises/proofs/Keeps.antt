@@ -5,6 +5,7 @@ use mathlib.Core.Path.{_≡_, refl, sym, ap, _∙_}
 use mathlib.Core.List.{List}
 use mathlib.Core.Option.{none}
 use lib.Dec.{ltb}
+use Rattle.engine.specs.declared.Config.{Config}
 use Rattle.octets.specs.Parts.{Bytes}
 use Rattle.octets.proofs.Choices.{cases}
 use Rattle.header.specs.declared.Header.{Header}
@@ -24,8 +25,8 @@ use Rattle.promises.specs.Kept.{clockRaised}
 use Rattle.promises.specs.Table.{RefusedKeeps, StatusKeeps}
 use Rattle.promises.proofs.Kept.{raised-bytes}
 
-pub refused-keeps : RefusedKeeps
-refused-keeps = call-keeps
+pub refused-keeps : (config : Config) → RefusedKeeps config
+refused-keeps config = call-keeps config
 
 -- ---- another status than 0: nothing is stored, and the head stays
 pub nothing-stored : (t : Table) (clock : ℕ) (s : List ℕ) (h : Header) → (frameEffect t clock s h .status ≡ 0 → ⊥)
@@ -36,17 +37,17 @@ nothing-stored t clock s h n =
     (λ y. rw y (decided-keeps (t .head) (findRow (t .rows) (bytesIn s (keySpan h))) (ltb 0 (freeRows (t .rows))) clock (requestOf s h) (rw y at n)))
     (λ y. rw y (refl, refl))
 
-kept : (b : List ℕ) (clock : ℕ) (s : List ℕ) (room status used len : ℕ) (g : Gate) → Bytes b → gateAll b room s ≡ g → answerBy b clock s g ≡ Done status used len
-    → (status ≡ 0 → ⊥) → tableBy b clock s g ≡ clockRaised b clock
+kept : (config : Config) (b : List ℕ) (clock : ℕ) (s : List ℕ) (room status used len : ℕ) (g : Gate) → Bytes b → gateAll config b room s ≡ g → answerBy b clock s g ≡ Done status used len
+    → (status ≡ 0 → ⊥) → tableBy config b clock s g ≡ clockRaised b clock
 unfolding frameTable
-kept b clock s room status used len (Stop m more) y o e n = absurd (let z : _≡_ {A = ℕ} 0 1 = cc in omega arith)
-kept b clock s room status used len (Whole h) y o e n =
+kept config b clock s room status used len (Stop m more) y o e n = absurd (let z : _≡_ {A = ℕ} 0 1 = cc in omega arith)
+kept config b clock s room status used len (Whole h) y o e n =
     let t = tableAt (tableOf b) clock in
     let now = clockAt (tableOf b) clock in
     let z : frameEffect t now s h .status ≡ status = cc in
     let p = nothing-stored t now s h (λ y. n (sym z ∙ y)) in
-    ap tableBytes (unchanged t now s h (p .0) (p .1)) ∙ raised-bytes b clock y (was-open b s room h o .undamaged)
+    ap tableBytes (unchanged config t now s h (p .0) (p .1)) ∙ raised-bytes config b clock y (was-open config b s room h o .undamaged)
 
-pub status-keeps : StatusKeeps
+pub status-keeps : (config : Config) → StatusKeeps config
 unfolding served servedTable
-status-keeps b clock s room status used len y e n = kept b clock s room status used len (gateAll b room s) y refl e n
+status-keeps config b clock s room status used len y e n = kept config b clock s room status used len (gateAll config b room s) y refl e n

@@ -7,6 +7,7 @@ use mathlib.Core.List.{List, [], _∷_, _++_}
 use mathlib.Core.Option.{some}
 use lib.ListN.{length, drop, length-append}
 use borrow.Author.Tests.{eq-eqb, ne-eqb}
+use Rattle.engine.specs.declared.Config.{Config}
 use Rattle.octets.specs.Parts.{Bytes, written}
 use Rattle.octets.proofs.Choices.{cases}
 use Rattle.document.specs.declared.Head.{Head}
@@ -34,10 +35,10 @@ use Rattle.decision.specs.declared.Decision.{Decision}
 use Rattle.decision.specs.Decision.{decision}
 use Rattle.decode.specs.Decode.{commandOf, requestOf}
 use Rattle.rows.specs.Table.{Table, tableOf, tableAt, clockAt}
-use Rattle.plain.specs.Damage.{sound}
-use Rattle.plain.specs.Claims.{Good}
-use Rattle.plain.proofs.PlainLaws.{plain-laws}
-use Rattle.plain.proofs.TableLaws.{sound-good}
+use Rattle.engines.specs.Damage.{soundBy}
+use Rattle.engines.specs.Claims.{GoodBy}
+use Rattle.engines.proofs.EngineLaws.{engines-laws}
+use Rattle.engines.proofs.Tables.{sound-good-by}
 use Rattle.serving.specs.declared.Served.{Served}
 use Rattle.serving.specs.declared.Served.the-variants.{Done}
 use Rattle.serving.specs.Reply.{replyShows, replyHeader, replyBytes}
@@ -96,7 +97,7 @@ reached b clock s z =
     (λ t. rw t)
     (λ f. let e : frameStatus s (headerOf s) ≡ 0 = rw f at z in no (sym f ∙ ap reachesDecision e))
 
-module _ (b : List ℕ) (clock : ℕ) (s : List ℕ) (o : opcode s ≡ 0xb8) where
+module _ (config : Config) (b : List ℕ) (clock : ℕ) (s : List ℕ) (o : opcode s ≡ 0xb8) where
   abbrev t : Table
   t = tableAt (tableOf b) clock
 
@@ -111,13 +112,13 @@ module _ (b : List ℕ) (clock : ℕ) (s : List ℕ) (o : opcode s ≡ 0xb8) whe
   loud = ap (λ (n : ℕ). shapeOf n .quiet) o
 
   -- the statuses after 0x07 never apply
-  no-status : (room : ℕ) → Reaches b clock s room → status b clock s room ≡ 0
+  no-status : (room : ℕ) → Reaches config b clock s room → status b clock s ≡ 0
   unfolding firstFailure testsOf ruleOf
   no-status room r = later 7 (list b clock s) (r .earlier) ∙ rw asks
 
-  module _ (room : ℕ) (r : Reaches b clock s room) where
+  module _ (room : ℕ) (r : Reaches config b clock s room) where
     zero-status : decisionOn t now s (headerOf s) .status ≡ 0
-    zero-status = listed b clock s room ∙ no-status room r
+    zero-status = listed b clock s ∙ no-status room r
 
     decides : decisionOn t now s (headerOf s) ≡ listDecision (t .head) (countIn s)
     decides =
@@ -134,49 +135,49 @@ module _ (b : List ℕ) (clock : ℕ) (s : List ℕ) (o : opcode s ≡ 0xb8) whe
         ∙ ap (λ (n : ℕ). replyBytes n (h .opaque) (listDecision (t .head) (countIn s)) (keyIn s) (listing (docsIn b) now (keyIn s) (countIn s))) o
         ∙ ap (λ (c : ℕ). replied (listing (docsIn b) c (keyIn s) (countIn s))) (later-clock b clock)
 
-pub listing-keeps : ListingKeeps
+pub listing-keeps : (config : Config) → ListingKeeps config
 unfolding doneOf
-listing-keeps b clock s room y o = keeps b clock s (GetKeys (countIn s)) (asks b clock s o) (refl, refl) room y
+listing-keeps config b clock s room y o = keeps config b clock s (GetKeys (countIn s)) (asks config b clock s o) (refl, refl) room y
 
 reply-length : (b : List ℕ) (clock : ℕ) (s : List ℕ) → length (listingReply b clock s) ≡ 24 + length (listingIn b clock s)
 reply-length b clock s =
     let h = listingHeader (headerOf s .opaque) (length (listingIn b clock s)) in
     omega (arith, length-append (headerBytes h) (listingIn b clock s), length-header h)
 
-pub listing-served : ListingServed
+pub listing-served : (config : Config) → ListingServed config
 unfolding served servedReply frameEffect
-listing-served b clock s out r o =
+listing-served config b clock s out r o =
     let n = reply-length b clock s in
-    let e = replies b clock s o (length out) r in
-    let z = zero-status b clock s o (length out) r in
+    let e = replies config b clock s o (length out) r in
+    let z = zero-status config b clock s o (length out) r in
     let size = ap length e ∙ n in
     let fits : length (listingReply b clock s) ≤ length out = omega (arith, n, listing-short (docsIn b) (laterAt b clock) (keyIn s) (countIn s), r .roomy) in
-    let answer : served b clock s (length out) ≡ Done 0 (24 + headerOf s .body) (24 + length (listingIn b clock s)) =
-    ap (answerBy b clock s) (opened b clock s (length out) r) ∙ (λ i. Done (z i) (24 + headerOf s .body) (size i)) in
+    let answer : served config b clock s (length out) ≡ Done 0 (24 + headerOf s .body) (24 + length (listingIn b clock s)) =
+    ap (answerBy b clock s) (opened config b clock s (length out) r) ∙ (λ i. Done (z i) (24 + headerOf s .body) (size i)) in
     record {
       answer = answer;
-      table = listing-keeps b clock s (length out) (r .bytes) o ∙ ap (λ (x : Served). keptBy x b clock) answer;
+      table = listing-keeps config b clock s (length out) (r .bytes) o ∙ ap (λ (x : Served). keptBy x b clock) answer;
       reply =
-          ap (replyBy b clock s out) (opened b clock s (length out) r) ∙ ap (written out 0) e ∙ put out (listingReply b clock s) fits
+          ap (replyBy b clock s out) (opened config b clock s (length out) r) ∙ ap (written out 0) e ∙ put out (listingReply b clock s) fits
           ∙ ap (λ (k : ℕ). listingReply b clock s ++ drop k out) n;
     }
 
 -- ---- an undamaged table's documents
-module _ (b : List ℕ) (y : Bytes b) (undamaged : sound b ≡ true) where
-  good : Good (tableOf b)
-  good = sound-good b y undamaged .1
+module _ (config : Config) (b : List ℕ) (y : Bytes b) (undamaged : soundBy config b ≡ true) where
+  good : GoodBy config (tableOf b)
+  good = sound-good-by config b y undamaged .1
 
   distinct : DistinctKeys (docsIn b)
-  distinct = plain-laws .distinct-docs (tableOf b .rows) (good .keys)
+  distinct = engines-laws config .distinct-docs (tableOf b .rows) (good .kept)
 
   found : (k : Key) → docAt b k ≡ findEntry (docsIn b) k
-  found k = plain-laws .find-docs (tableOf b .rows) (good .keys) k
+  found k = engines-laws config .find-docs (tableOf b .rows) (good .kept) k
 
   few-docs : length (docsIn b) ≤ 256
-  few-docs = omega (arith, plain-laws .count (tableOf b .rows) (good .keys), good .most)
+  few-docs = omega (arith, engines-laws config .count (tableOf b .rows) (good .kept), good .good .most)
 
   short-key : (k : Key) (d : Doc) → findEntry (docsIn b) k ≡ some d → length k ≤ 250
-  short-key k d e = found-good (tableOf b .head .mark .0) (tableOf b .rows) k d (good .rows) (found k ∙ e) .key-most
+  short-key k d e = found-good (tableOf b .head .mark .0) (tableOf b .rows) k d (good .good .rows) (found k ∙ e) .key-most
 
   -- what is listed by the tests, and by 01's words
   said : (clock : ℕ) (start k : Key) → Lists (docsIn b) clock start k → LiveFrom b clock start k
@@ -185,25 +186,25 @@ module _ (b : List ℕ) (y : Bytes b) (undamaged : sound b ≡ true) where
   tested : (clock : ℕ) (start k : Key) → LiveFrom b clock start k → Lists (docsIn b) clock start k
   tested clock start k l = record { doc = l .doc; found = sym (found k) ∙ l .there; live = alive clock (l .doc) (l .live); after = l .after }
 
-pub listing-live : ListingLive
-listing-live b clock start count y u =
-    let x = lists-exactly (docsIn b) clock start count (distinct b y u) in
+pub listing-live : (config : Config) → ListingLive config
+listing-live config b clock start count y u =
+    let x = lists-exactly (docsIn b) clock start count (distinct config b y u) in
     record {
-      only = λ k m. said b y u clock start k (x .only k m);
+      only = λ k m. said config b y u clock start k (x .only k m);
       rest = λ k l n.
-          let out = x .rest k (tested b y u clock start k l) n in
-          record { left = out; first = said b y u clock start (out .first) (out .first-lists) };
+          let out = x .rest k (tested config b y u clock start k l) n in
+          record { left = out; first = said config b y u clock start (out .first) (out .first-lists) };
       rising = x .rising;
       few = x .few;
       short = x .short;
     }
 
-pub listing-by-documents : ListingByDocuments
-listing-by-documents b c y u z v q =
-    by-documents (docsIn b) (docsIn c) (distinct b y u) (distinct c z v) (λ k. sym (found b y u k) ∙ q k ∙ found c z v k)
+pub listing-by-documents : (config : Config) → ListingByDocuments config
+listing-by-documents config b c y u z v q =
+    by-documents (docsIn b) (docsIn c) (distinct config b y u) (distinct config c z v) (λ k. sym (found config b y u k) ∙ q k ∙ found config c z v k)
 
-pub listing-pages : ListingPages
-listing-pages b clock start count y u h = (
-  few-docs b y u,
-  λ n l. pages-all (docsIn b) clock start count n (distinct b y u) (short-key b y u) h l,
+pub listing-pages : (config : Config) → ListingPages config
+listing-pages config b clock start count y u h = (
+  few-docs config b y u,
+  λ n l. pages-all (docsIn b) clock start count n (distinct config b y u) (short-key config b y u) h l,
 )

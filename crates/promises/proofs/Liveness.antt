@@ -1,14 +1,15 @@
 -- What the tests make of a document that is live by 01's words, or isn't, and the status that a frame is then served with.
 use Prim.Native.Nat.{ℕ, _+_, _≤_, _<_}
 use mathlib.Core.Path.{_≡_, refl, sym, ap, _∙_}
-use mathlib.Core.Bool.{Bool, true, false, cond, not, _&&_, _||_}
+use mathlib.Core.Bool.{Bool, true, false, not, _&&_, _||_}
 use mathlib.Core.List.{List, [], _∷_, _++_}
 use mathlib.Core.Logic.{_⊎_, inl, inr}
 use mathlib.Core.Option.{Option, none, some}
 use native.Mathlib.Omega.{arith}
 use lib.ListN.{length, take, drop, take-append-drop}
-use lib.Dec.{eqb, ltb, leb}
+use lib.Dec.{eqb}
 use borrow.Author.Tests.{eqb-true, eq-eqb, ne-eqb, le-leb, lt-leb, le-ltb, leb-false, not-true}
+use Rattle.engine.specs.declared.Config.{Config}
 use Rattle.octets.proofs.Choices.{cases, both}
 use Rattle.numbers.specs.Expiry.{expired}
 use Rattle.numbers.proofs.LeftLaws.{expired-said}
@@ -18,11 +19,9 @@ use Rattle.header.specs.declared.Header.{Header}
 use Rattle.header.specs.Header.{headerOf}
 use Rattle.request.specs.declared.Gate.{Gate}
 use Rattle.request.specs.declared.Gate.the-variants.{Stop, Whole}
-use Rattle.request.specs.Reading.{gateOf}
 use Rattle.commands.specs.Rules.{Check, firstFailure}
 use Rattle.rows.specs.Table.{Table, tableOf, tableAt, clockAt}
-use Rattle.plain.specs.Damage.{sound}
-use Rattle.serving.specs.declared.Served.the-variants.{Refused, Done}
+use Rattle.serving.specs.declared.Served.the-variants.{Done}
 use Rattle.serving.specs.Serve.{decisionOn, frameEffect, answerBy, tableBy, frameTable, frameReply, gateAll, served, servedTable}
 use Rattle.serving.specs.Statuses.{statuses}
 use Rattle.serving.proofs.Formed.{no}
@@ -122,7 +121,7 @@ all-pass (c ∷ cs) r e =
     (λ t. (t, all-pass cs (r .1) (rw t at e)))
 
 -- ---- a frame that is served
-module _ (b : List ℕ) (clock : ℕ) (s : List ℕ) (room : ℕ) where
+module _ (b : List ℕ) (clock : ℕ) (s : List ℕ) where
   -- the table at the call's clock, and the later clock
   abbrev t : Table
   t = tableAt (tableOf b) clock
@@ -139,40 +138,41 @@ module _ (b : List ℕ) (clock : ℕ) (s : List ℕ) (room : ℕ) where
   pub listed : decided ≡ status
   listed = sym (statuses-in-order t now s (headerOf s))
 
-  pub opened : Reaches b clock s room → gateAll b room s ≡ Whole (headerOf s)
+module _ (config : Config) (b : List ℕ) (clock : ℕ) (s : List ℕ) (room : ℕ) where
+  pub opened : Reaches config b clock s room → gateAll config b room s ≡ Whole (headerOf s)
   unfolding gateAll
   opened r = rw (r .undamaged, le-ltb room 1302 (r .roomy)) (r .whole)
 
-  pub table-open : Reaches b clock s room → servedTable b clock s room ≡ frameTable b clock s (headerOf s)
+  pub table-open : Reaches config b clock s room → servedTable config b clock s room ≡ frameTable config b clock s (headerOf s)
   unfolding servedTable
-  table-open r = ap (tableBy b clock s) (opened r)
+  table-open r = ap (tableBy config b clock s) (opened r)
 
-  pub answers : Reaches b clock s room → (n : ℕ) → status ≡ n → Answers b clock s room n
+  pub answers : Reaches config b clock s room → (n : ℕ) → status b clock s ≡ n → Answers config b clock s room n
   unfolding served frameEffect
   answers r n e =
       let len = length (frameReply b clock s (headerOf s)) in
-      (len, ap (answerBy b clock s) (opened r) ∙ ap (λ (x : ℕ). Done x (24 + headerOf s .body) len) (listed ∙ e))
+      (len, ap (answerBy b clock s) (opened r) ∙ ap (λ (x : ℕ). Done x (24 + headerOf s .body) len) (listed b clock s ∙ e))
 
-  answered-by : (n used len : ℕ) (g : Gate) → gateAll b room s ≡ g → answerBy b clock s g ≡ Done n used len → decided ≡ n
+  answered-by : (n used len : ℕ) (g : Gate) → gateAll config b room s ≡ g → answerBy b clock s g ≡ Done n used len → decided b clock s ≡ n
   unfolding frameEffect
   answered-by n used len (Stop m more) o e = absurd (let z : _≡_ {A = ℕ} 0 1 = cc in omega arith)
   answered-by n used len (Whole h) o e =
-      let same = was-open b s room h o .frame .header in
-      let z : decisionOn t now s h .status ≡ n = cc in
-      ap (λ (x : Header). decisionOn t now s x .status) same ∙ z
+      let same = was-open config b s room h o .frame .header in
+      let z : decisionOn (t b clock s) (now b clock s) s h .status ≡ n = cc in
+      ap (λ (x : Header). decisionOn (t b clock s) (now b clock s) s x .status) same ∙ z
 
-  pub answered : (n used len : ℕ) → served b clock s room ≡ Done n used len → status ≡ n
+  pub answered : (n used len : ℕ) → served config b clock s room ≡ Done n used len → status b clock s ≡ n
   unfolding served
-  answered n used len e = sym listed ∙ answered-by n used len (gateAll b room s) refl e
+  answered n used len e = sym (listed b clock s) ∙ answered-by n used len (gateAll config b room s) refl e
 
-  pub avoids : (n : ℕ) → Without n (statuses t now s (headerOf s)) → Avoids b clock s room n
-  avoids n w used len e = without n (statuses t now s (headerOf s)) w (answered n used len e)
+  pub avoids : (n : ℕ) → Without n (statuses (t b clock s) (now b clock s) s (headerOf s)) → Avoids config b clock s room n
+  avoids n w used len e = without n (statuses (t b clock s) (now b clock s) s (headerOf s)) w (answered n used len e)
 
-  opened-by : (n used len : ℕ) (g : Gate) → gateAll b room s ≡ g → answerBy b clock s g ≡ Done n used len → gateAll b room s ≡ Whole (headerOf s)
+  opened-by : (n used len : ℕ) (g : Gate) → gateAll config b room s ≡ g → answerBy b clock s g ≡ Done n used len → gateAll config b room s ≡ Whole (headerOf s)
   opened-by n used len (Stop m more) o e = absurd (let z : _≡_ {A = ℕ} 0 1 = cc in omega arith)
-  opened-by n used len (Whole h) o e = o ∙ ap Whole (sym (was-open b s room h o .frame .header))
+  opened-by n used len (Whole h) o e = o ∙ ap Whole (sym (was-open config b s room h o .frame .header))
 
   -- a frame that is served is whole
-  pub was-whole : (n used len : ℕ) → served b clock s room ≡ Done n used len → gateAll b room s ≡ Whole (headerOf s)
+  pub was-whole : (n used len : ℕ) → served config b clock s room ≡ Done n used len → gateAll config b room s ≡ Whole (headerOf s)
   unfolding served
-  was-whole n used len e = opened-by n used len (gateAll b room s) refl e
+  was-whole n used len e = opened-by n used len (gateAll config b room s) refl e

@@ -4,12 +4,13 @@ use Prim.Native.Nat.{ℕ, _+_, _-_, _≤_}
 use mathlib.Core.Path.{_≡_, refl, sym, ap, _∙_, subst}
 use mathlib.Core.Bool.{Bool, true, false, cond, not, _&&_}
 use mathlib.Core.List.{List, [], _∷_, _++_, append-nil}
-use lib.ListN.{length, take, drop, replicate}
+use lib.ListN.{length, drop}
 use lib.Seq.{drop-append-seam}
 use lib.Dec.{ltb, eqb}
 use borrow.Author.Tests.{eqb-true, ne-eqb}
-use Rattle.octets.specs.Parts.{Bytes, part, pasted, written}
-use Rattle.octets.specs.BigEndian.{be, beFrom, num, bytesOf}
+use Rattle.engine.specs.declared.Config.{Config}
+use Rattle.octets.specs.Parts.{Bytes, pasted, written}
+use Rattle.octets.specs.BigEndian.{num, bytesOf}
 use Rattle.octets.proofs.Choices.{cases}
 use Rattle.octets.proofs.Lists.{written-fits, length-written}
 use Rattle.octets.proofs.Numbers.{num-back}
@@ -18,7 +19,7 @@ use Rattle.shape.specs.Shapes.{commands, unbuilt, shapeBy, among, lookUp, shape
 use Rattle.shape.proofs.ShapeLaws.{Each, looked-up, any-shape}
 use Rattle.header.specs.declared.Header.{Header}
 use Rattle.header.specs.Header.{headerOf, frontBytes, middleBytes, backBytes, headerBytes}
-use Rattle.header.proofs.HeaderLaws.{length-header, after-header}
+use Rattle.header.proofs.HeaderLaws.{length-header}
 use Rattle.rules.specs.Rules.{formOk, fieldRulesOk, metaSize, judged, status}
 use Rattle.request.specs.declared.Gate.{Gate}
 use Rattle.request.specs.declared.Gate.the-variants.{Stop, Whole}
@@ -38,9 +39,10 @@ use Rattle.rows.specs.Find.{findRow}
 use Rattle.serving.specs.declared.Served.the-variants.{Done}
 use Rattle.serving.specs.Reply.{replyShows, replyHeader, replyBytes}
 use Rattle.serving.specs.Serve.{reachesDecision, contextOn, decisionOn, frameEffect, frameReply, answerBy, replyBy, gateAll, served, servedReply}
-use Rattle.serving.proofs.Formed.{by-cond, no}
+use Rattle.serving.proofs.Formed.{by-cond}
 use Rattle.serving.proofs.Gated.{was-open}
 use Rattle.reply.specs.Fitting.{bareHeader}
+use Rattle.engines.proofs.Tables.{sound-plain}
 use Rattle.reply.proofs.Frames.{reply-most}
 use Rattle.promises.specs.Replies.{Fits, ReplyFits, bareReply, silentMiss, statusReply, StatusReply}
 
@@ -50,14 +52,14 @@ module _ (out xs : List ℕ) (h : length xs ≤ length out) where
   unfolding pasted
   put = written-fits out 0 xs (omega arith) ∙ ap (λ (n : ℕ). xs ++ drop n out) (let e : 0 + length xs ≡ length xs = omega arith in e)
 
-fits-by : (b : List ℕ) (clock : ℕ) (s out : List ℕ) (st used len : ℕ) (g : Gate) → gateAll b (length out) s ≡ g → Bytes b → answerBy b clock s g ≡ Done st used len
+fits-by : (config : Config) (b : List ℕ) (clock : ℕ) (s out : List ℕ) (st used len : ℕ) (g : Gate) → gateAll config b (length out) s ≡ g → Bytes b → answerBy b clock s g ≡ Done st used len
     → Fits out len (replyBy b clock s out g)
-fits-by b clock s out st used len (Stop n need) q y e = absurd (let z : _≡_ {A = ℕ} 0 1 = cc in omega arith)
-fits-by b clock s out st used len (Whole h) q y e =
+fits-by config b clock s out st used len (Stop n need) q y e = absurd (let z : _≡_ {A = ℕ} 0 1 = cc in omega arith)
+fits-by config b clock s out st used len (Whole h) q y e =
     let xs = frameReply b clock s h in
     let l : length xs ≡ len = cc in
-    let w = was-open b s (length out) h q in
-    let m = reply-most b clock s h y (w .undamaged) in
+    let w = was-open config b s (length out) h q in
+    let m = reply-most b clock s h y (sound-plain config b (w .undamaged)) in
     rw (← l) (record {
       most = m;
       inside = omega (arith, m, w .roomy);
@@ -65,9 +67,9 @@ fits-by b clock s out st used len (Whole h) q y e =
       past = ap (drop (length xs)) (put out xs (omega (arith, m, w .roomy))) ∙ drop-append-seam xs (drop (length xs) out);
     })
 
-pub reply-fits : ReplyFits
+pub reply-fits : (config : Config) → ReplyFits config
 unfolding served servedReply
-reply-fits b clock s out st used len y e = fits-by b clock s out st used len (gateAll b (length out) s) refl y e
+reply-fits config b clock s out st used len y e = fits-by config b clock s out st used len (gateAll config b (length out) s) refl y e
 
 -- ---- who is silent on another status than 0
 and-no : (a b : Bool) → b ≡ false → (a && b) ≡ false
@@ -179,11 +181,12 @@ module _ (b : List ℕ) (clock : ℕ) (s : List ℕ) where
       ap (λ (d : Decision). replyBytes (h .opcode) (h .opaque) d key (shown d)) (decides-alone t now s h n)
       ∙ alone-reply s (t .head) (decisionOn t now s h .status) key (docValue (findRow (t .rows) key)) y l
 
-status-by : (b : List ℕ) (clock : ℕ) (s out : List ℕ) (st used len : ℕ) (g : Gate) → gateAll b (length out) s ≡ g → Bytes s → answerBy b clock s g ≡ Done st used len → (st ≡ 0 → ⊥)
+status-by : (config : Config) (b : List ℕ) (clock : ℕ) (s out : List ℕ) (st used len : ℕ) (g : Gate) → gateAll config b (length out) s ≡ g → Bytes s
+    → answerBy b clock s g ≡ Done st used len → (st ≡ 0 → ⊥)
     → (len ≡ length (statusReply st s)) × (replyBy b clock s out g ≡ statusReply st s ++ drop len out)
-status-by b clock s out st used len (Stop n need) q y e z = absurd (let z : _≡_ {A = ℕ} 0 1 = cc in omega arith)
-status-by b clock s out st used len (Whole h) q y e z =
-    let w = was-open b s (length out) h q in
+status-by config b clock s out st used len (Stop n need) q y e z = absurd (let z : _≡_ {A = ℕ} 0 1 = cc in omega arith)
+status-by config b clock s out st used len (Whole h) q y e z =
+    let w = was-open config b s (length out) h q in
     let p : frameEffect (tableAt (tableOf b) clock) (clockAt (tableOf b) clock) s h .status ≡ st = cc in
     let l : length (frameReply b clock s h) ≡ len = cc in
     let f = subst (StatusAlone b clock s) (w .frame .header) (frame-status b clock s y (w .frame .long)) (λ v. z (sym p ∙ v)) ∙ ap (λ (k : ℕ). statusReply k s) p in
@@ -193,6 +196,6 @@ status-by b clock s out st used len (Whole h) q y e z =
       ap (written out 0) f ∙ (put out (statusReply st s) (omega (arith, m, w .roomy)) ∙ ap (λ (k : ℕ). statusReply st s ++ drop k out) (sym e′)),
     )
 
-pub status-reply : StatusReply
+pub status-reply : (config : Config) → StatusReply config
 unfolding served servedReply
-status-reply b clock s out st used len y e z = status-by b clock s out st used len (gateAll b (length out) s) refl y e z
+status-reply config b clock s out st used len y e z = status-by config b clock s out st used len (gateAll config b (length out) s) refl y e z

@@ -8,6 +8,7 @@ use mathlib.Core.Option.{Option, none, some}
 use lib.ListN.{length}
 use lib.Dec.{eqb, ltb}
 use borrow.Author.Tests.{eq-eqb}
+use Rattle.engine.specs.declared.Config.{Config}
 use Rattle.octets.specs.Parts.{Bytes}
 use Rattle.octets.specs.Compare.{same}
 use Rattle.octets.proofs.Choices.{cases}
@@ -24,14 +25,12 @@ use Rattle.decision.specs.Decide.{Effect}
 use Rattle.engine.specs.Engine.{storeRow, afterPurge}
 use Rattle.rows.specs.Table.{Table, tableOf, tableAt, clockAt, tableBytes}
 use Rattle.rows.specs.Find.{findRow}
-use Rattle.plain.specs.Plain.{plain}
-use Rattle.plain.specs.Damage.{sound}
-use Rattle.plain.specs.Claims.{Good}
-use Rattle.plain.proofs.PlainLaws.{plain-laws}
-use Rattle.plain.proofs.ChangeLaws.{purge-good}
-use Rattle.plain.proofs.TableLaws.{good-sound}
-use Rattle.table.proofs.Keeping.{clock-good}
-use Rattle.owner.specs.Owner.{purgeOf, purgedTable, purgedBytes}
+use Rattle.engines.specs.Engines.{engineOf}
+use Rattle.engines.specs.Damage.{soundBy}
+use Rattle.engines.specs.Claims.{GoodBy}
+use Rattle.engines.proofs.EngineLaws.{engines-laws}
+use Rattle.engines.proofs.Tables.{purge-good-by, good-sound-by, clock-good-by}
+use Rattle.owning.specs.Owner.{purgeOf, purgedTable, purgedBytes}
 use Rattle.serving.specs.Serve.{servedOutcome, servedStatus, gateAll, frameEffect, frameChange, frameTable, answerBy, tableBy, served, servedTable}
 use Rattle.serving.proofs.Formed.{no, by-cond}
 use Rattle.serving.proofs.Gated.{was-open}
@@ -47,37 +46,37 @@ abbrev pub Left : Option Doc → Option Doc → Type 0
 Left o p = (p ≡ o) ⊎ (p ≡ none)
 
 -- after a call at a clock that raises the kept clock or doesn't, and writes some keys
-pub record Stepped (t : Table) (after : List ℕ) (raised : Bool) (clock : ℕ) (writes : Key → Bool) : Type 0 where
+pub record Stepped (config : Config) (t : Table) (after : List ℕ) (raised : Bool) (clock : ℕ) (writes : Key → Bool) : Type 0 where
   pub table : Table
-  pub good : Good table
+  pub good : GoodBy config table
   pub bytes : after ≡ tableBytes table
   pub kept : table .head .clock ≡ cond raised (max (t .head .clock) clock) (t .head .clock)
   pub docs : (k : Key) → writes k ≡ false → Left (findRow (t .rows) k) (findRow (table .rows) k)
 
-abbrev pub Steps : Table → TableCall → Type 0
-Steps t x = Stepped t (tableCalled (tableBytes t) x) (raises (tableBytes t) x) (clockOf x) (λ k. writesKey (tableBytes t) x k)
+abbrev pub Steps : Config → Table → TableCall → Type 0
+Steps config t x = Stepped config t (tableCalled config (tableBytes t) x) (raises config (tableBytes t) x) (clockOf x) (λ k. writesKey config (tableBytes t) x k)
 
 -- ---- an outcome other than 0 where a call is refused
 abbrev Stops : Gate → Type 0
 Stops (Stop n need) = eqb n 0 ≡ false
 Stops (Whole h) = Unit {0}
 
-stops : (b : List ℕ) (room : ℕ) (s : List ℕ) → Stops (gateAll b room s)
+stops : (config : Config) (b : List ℕ) (room : ℕ) (s : List ℕ) → Stops (gateAll config b room s)
 unfolding gateAll gateOf
-stops b room s =
-    by-cond Stops (not (sound b)) _ _ (λ t. refl)
+stops config b room s =
+    by-cond Stops (not (soundBy config b)) _ _ (λ t. refl)
     (λ t. by-cond Stops (ltb room 1302) _ _ (λ u. refl)
     (λ u. by-cond Stops (ltb (length s) 24) _ _ (λ v. refl)
     (λ v. by-cond Stops (not (eqb (headerOf s .magic) 0x80)) _ _ (λ w. refl)
     (λ w. by-cond Stops (ltb 1400 (headerOf s .body)) _ _ (λ x. refl)
     (λ x. by-cond Stops (ltb (length s) (24 + headerOf s .body)) _ _ (λ y. refl) (λ y. tt))))))
 
-module _ (t : Table) (g : Good t) where
+module _ (config : Config) (t : Table) (g : GoodBy config t) where
   abbrev b : List ℕ
   b = tableBytes t
 
   back : tableOf b ≡ t
-  back = good-sound t g .1
+  back = good-sound-by config t g .1
 
   -- ---- serving
   module _ (clock : ℕ) (s : List ℕ) (z : Bytes s) (c : clock < 2 ^ 32) where
@@ -93,8 +92,8 @@ module _ (t : Table) (g : Good t) where
     abbrev effect : Effect
     effect = frameEffect u now s h
 
-    good-now : Good u
-    good-now = clock-good t clock g c
+    good-now : GoodBy config u
+    good-now = clock-good-by config t clock g c
 
     -- by the gate
     abbrev writesBy : Gate → Key → Bool
@@ -103,7 +102,7 @@ module _ (t : Table) (g : Good t) where
         && (eqb (servedStatus (answerBy b clock s gate)) 0 && (not (among (opcode s) readOnly) && same (keyIn s) k))
 
     abbrev By : Gate → Type 0
-    By gate = Stepped t (tableBy b clock s gate) (eqb (servedOutcome (answerBy b clock s gate)) 0) clock (writesBy gate)
+    By gate = Stepped config t (tableBy config b clock s gate) (eqb (servedOutcome (answerBy b clock s gate)) 0) clock (writesBy gate)
 
     -- what is stored is for a key that is written
     apart : (d : Doc) (k : Key) → effect .store ≡ some d → (eqb (effect .status) 0 && (not (among (opcode s) readOnly) && same (keyIn s) k)) ≡ false
@@ -115,36 +114,36 @@ module _ (t : Table) (g : Good t) where
 
     module _ (inside : 24 + h .body ≤ length s) where
       clock-kept : effect .head .clock ≡ max (t .head .clock) clock
-      clock-kept = clock-stays u now s h good-now z inside
+      clock-kept = clock-stays u now s h (good-now .good) z inside
 
       unwritten : (k : Key) → (eqb (effect .status) 0 && (not (among (opcode s) readOnly) && same (keyIn s) k)) ≡ false
-          → findRow (storeRow plain (t .rows) (keyIn s) (effect .store)) k ≡ findRow (t .rows) k
+          → findRow (storeRow (engineOf config) (t .rows) (keyIn s) (effect .store)) k ≡ findRow (t .rows) k
       unwritten k f =
-          let stored : Option Doc → Option Doc = λ o. findRow (storeRow plain (t .rows) (keyIn s) o) k in
+          let stored : Option Doc → Option Doc = λ o. findRow (storeRow (engineOf config) (t .rows) (keyIn s) o) k in
           options (effect .store)
           (λ e. ap stored e)
           (λ d e.
-          let room = changing u now s h good-now z inside .stores d e .room in
-          ap stored e ∙ plain-laws .find-put (t .rows) (keyIn s) d (g .keys) room k ∙ rw (apart d k e f))
+          let room = changing u now s h (good-now .good) z inside .stores d e .room in
+          ap stored e ∙ engines-laws config .find-put (t .rows) (keyIn s) d (g .kept) room k ∙ rw (apart d k e f))
 
       whole : By (Whole h)
       unfolding frameTable
       whole = record {
-        table = frameChange u now s h;
-        good = change-good u now s h good-now z inside;
-        bytes = ap (λ (x : Table). tableBytes (frameChange (tableAt x clock) (clockAt x clock) s h)) back;
+        table = frameChange config u now s h;
+        good = change-good config u now s h good-now z inside;
+        bytes = ap (λ (x : Table). tableBytes (frameChange config (tableAt x clock) (clockAt x clock) s h)) back;
         kept = clock-kept;
         docs = λ k f.
             let status = ap (λ (x : Table). frameEffect (tableAt x clock) (clockAt x clock) s h .status) back in
             inl (unwritten k (ap (λ (n : ℕ). eqb n 0 && (not (among (opcode s) readOnly) && same (keyIn s) k)) (sym status) ∙ f));
       }
 
-    by-gate : (room : ℕ) (gate : Gate) → gateAll b room s ≡ gate → By gate
+    by-gate : (room : ℕ) (gate : Gate) → gateAll config b room s ≡ gate → By gate
     by-gate room (Stop n need) o =
-        let f : eqb n 0 ≡ false = subst Stops o (stops b room s) in
+        let f : eqb n 0 ≡ false = subst Stops o (stops config b room s) in
         record { table = t; good = g; bytes = refl; kept = rw f; docs = λ k _. inl refl }
     by-gate room (Whole f) o =
-        let w = was-open b s room f o .frame in
+        let w = was-open config b s room f o .frame in
         subst (λ (x : Header). By (Whole x)) (w .header) (whole (subst (λ (x : Header). 24 + x .body ≤ length s) (sym (w .header)) (w .inside)))
 
   -- ---- a purge
@@ -156,31 +155,31 @@ module _ (t : Table) (g : Good t) where
     left-by none = inl refl
     left-by (some d) = cases (goes d) (λ p. rw p (inr refl)) (λ p. rw p (inl refl))
 
-    pub purged-doc : (k : Key) → findRow (plain .purge (t .rows) goes) k ≡ afterPurge goes (findRow (t .rows) k)
-    purged-doc k = plain-laws .find-purge (t .rows) goes (g .keys) k
+    pub purged-doc : (k : Key) → findRow (engineOf config .purge (t .rows) goes) k ≡ afterPurge goes (findRow (t .rows) k)
+    purged-doc k = engines-laws config .find-purge (t .rows) goes (g .kept) k
 
-    pub purged-bytes : purgedBytes b clock bound ≡ tableBytes (purgedTable (tableAt t clock) goes)
+    pub purged-bytes : purgedBytes config b clock bound ≡ tableBytes (purgedTable config (tableAt t clock) goes)
     unfolding purgedBytes
     purged-bytes =
-        rw (good-sound t g .0)
-        (ap (λ (x : Table). tableBytes (purgedTable (tableAt x clock) (goneDoc (clockAt x clock) bound))) back)
+        rw (good-sound-by config t g .0)
+        (ap (λ (x : Table). tableBytes (purgedTable config (tableAt x clock) (goneDoc (clockAt x clock) bound))) back)
 
-    pub purged-good : Good (purgedTable (tableAt t clock) goes)
-    purged-good = purge-good (tableAt t clock) goes (clock-good t clock g c)
+    pub purged-good : GoodBy config (purgedTable config (tableAt t clock) goes)
+    purged-good = purge-good-by config (tableAt t clock) goes (clock-good-by config t clock g c)
 
-    purges : Steps t (Purge clock bound)
+    purges : Steps config t (Purge clock bound)
     unfolding purgeOf
     purges = record {
-      table = purgedTable (tableAt t clock) goes;
+      table = purgedTable config (tableAt t clock) goes;
       good = purged-good;
       bytes = purged-bytes;
-      kept = rw (good-sound t g .0);
+      kept = rw (good-sound-by config t g .0);
       docs = λ k _. subst (Left (findRow (t .rows) k)) (sym (purged-doc k)) (left-by (findRow (t .rows) k));
     }
 
   -- ---- any call
-  pub step : (x : TableCall) → Given x → Steps t x
+  pub step : (x : TableCall) → Given x → Steps config t x
   unfolding served servedTable
-  step (Serve c) p = by-gate (c .clock) (c .received) (p .0) (p .1) (length (c .reply)) (gateAll b (length (c .reply)) (c .received)) refl
+  step (Serve c) p = by-gate (c .clock) (c .received) (p .0) (p .1) (length (c .reply)) (gateAll config b (length (c .reply)) (c .received)) refl
   step (Purge clock bound) p = purges clock bound p
   step (Read clock k) p = record { table = t; good = g; bytes = refl; kept = refl; docs = λ j _. inl refl }

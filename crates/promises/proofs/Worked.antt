@@ -7,6 +7,10 @@ use lib.ListN.{length}
 use lib.Dec.{eqb, leb, ltb}
 use native.Mathlib.Omega.{arith}
 use borrow.Author.Tests.{leb-true, ltb-true}
+use Rattle.keys.specs.Keys.{sideOf}
+use Rattle.engine.specs.declared.Config.{Config}
+use Rattle.engine.specs.declared.EngineKind.{EngineKind}
+use Rattle.engine.specs.declared.EngineKind.the-variants.{Plain, Ordered}
 use Rattle.octets.specs.Parts.{Bytes, written}
 use Rattle.octets.specs.BigEndian.{be, bytesOf}
 use Rattle.octets.specs.Compare.{zeros, same}
@@ -34,6 +38,8 @@ use Rattle.rows.specs.Row.{slotOf, rowOf, rowBytes}
 use Rattle.rows.specs.Table.{tableOf, tableBytes}
 use Rattle.rows.specs.Find.{freeRows}
 use Rattle.plain.specs.Damage.{sound}
+use Rattle.ordered.specs.Damage.{soundOrdered}
+use Rattle.engines.specs.Damage.{soundBy}
 use Rattle.rows.specs.RowRules.{sizeOk, headOk, usedOk, rowSound}
 use Rattle.serving.specs.Serve.{gateAll, decisionOn, frameEffect, frameTable, served, servedTable}
 use Rattle.promises.proofs.Candidates.{Holds, found-all, for-all, candidates-all}
@@ -45,11 +51,11 @@ use Rattle.promises.specs.Worked.{table, calls, Worked}
 use Rattle.promises.proofs.Demand3.{merge-on-bytes}
 
 -- ---- what is computed of a call, and what a merging one says
-abbrev below : List ℕ → Bool
+abbrev pub below : List ℕ → Bool
 below [] = true
 below (x ∷ xs) = ltb x 256 && below xs
 
-below-bytes : (xs : List ℕ) → below xs ≡ true → Bytes xs
+pub below-bytes : (xs : List ℕ) → below xs ≡ true → Bytes xs
 below-bytes [] e = λ k. omega arith
 below-bytes (x ∷ xs) e = let p = both (ltb x 256) (below xs) e in bytes-cons x xs (ltb-true x 256 (p .0)) (below-bytes xs (p .1))
 
@@ -112,11 +118,11 @@ told n = record { tomb = buried (n .cas .0); value = cond (buried (n .cas .0)) [
 abbrev Told : Doc → Type 0
 Told d = d ≡ told (d .numbers)
 
-module _ (b : List ℕ) (cs : List Call) where
+module _ (config : Config) (b : List ℕ) (cs : List Call) where
   -- the premises, as far as they are computed
   record Computed : Type 0 where
     bytes : below b ≡ true
-    undamaged : sound b ≡ true
+    undamaged : soundBy config b ≡ true
     active : tableOf b .head .state ≡ 1
     merging : map facts cs ≡ map (right (modeAt b) (tableOf b .head .vbucket)) cs
     room : leb (newKeys (λ k. isSome (docAt b k)) (writes cs)) (freeRows (tableOf b .rows)) ≡ true
@@ -131,7 +137,7 @@ module _ (b : List ℕ) (cs : List Call) where
         (λ r. for-all Told (writes cs) k d (c .sent) r)
         h
 
-    premises : Premises b cs
+    premises : Premises config b cs
     premises = record {
       bytes = below-bytes b (c .bytes);
       undamaged = c .undamaged;
@@ -141,39 +147,59 @@ module _ (b : List ℕ) (cs : List Call) where
       unique = λ k x y p q e. all-told k x p ∙ ap told e ∙ sym (all-told k y q);
     }
 
--- ---- computed from bytes to bytes
-worked-computed : Computed (table 1) (calls 1) × Computed (table 2) (calls 2)
-unfolding be bytesOf zeros same among shapeOf headerOf withMeta sectionOk status gateOf keySpan frameStatus requestOf slotOf rowOf rowBytes tableOf tableBytes sizeOk headOk usedOk rowSound sound
-worked-computed = (
+-- ---- computed from bytes to bytes, on both engines
+computed : (engine : EngineKind) → Computed (record { engine = engine }) (table 1) (calls 1) × Computed (record { engine = engine }) (table 2) (calls 2)
+unfolding be bytesOf zeros same among shapeOf headerOf withMeta sectionOk status gateOf keySpan frameStatus requestOf slotOf rowOf rowBytes tableOf tableBytes sizeOk
+    headOk usedOk rowSound sound soundOrdered soundBy sideOf
+computed Plain = (
+  record { bytes = refl; undamaged = refl; active = refl; merging = refl; room = refl; rows = search; sent = search },
+  record { bytes = refl; undamaged = refl; active = refl; merging = refl; room = refl; rows = search; sent = search },
+)
+computed Ordered = (
   record { bytes = refl; undamaged = refl; active = refl; merging = refl; room = refl; rows = search; sent = search },
   record { bytes = refl; undamaged = refl; active = refl; merging = refl; room = refl; rows = search; sent = search },
 )
 
-pub by-revision-premises : Premises (table 1) (calls 1)
-by-revision-premises = premises (table 1) (calls 1) (worked-computed .0)
-
-pub last-write-premises : Premises (table 2) (calls 2)
-last-write-premises = premises (table 2) (calls 2) (worked-computed .1)
-
-pub worked : Worked
+worked-in : (engine : EngineKind) → Worked (record { engine = engine })
 unfolding written be bytesOf zeros same greater accepted shapeOf headerOf withMeta sectionOk status gateOf keySpan frameStatus ruleOf testsOf
-    firstStatus firstFailure decision doneOf requestOf slotOf rowOf rowBytes tableOf tableBytes sizeOk headOk usedOk rowSound sound gateAll decisionOn
+    firstStatus firstFailure decision doneOf requestOf slotOf rowOf rowBytes tableOf tableBytes sizeOk headOk usedOk rowSound sound soundOrdered soundBy sideOf gateAll decisionOn
     frameEffect frameTable served servedTable
-worked = record {
+worked-in Plain = record {
   by-revision = record {
-    premises = by-revision-premises;
-    merged = merge-on-bytes (table 1) (calls 1) by-revision-premises;
+    premises = premises (record { engine = Plain }) (table 1) (calls 1) (computed Plain .0);
+    merged = merge-on-bytes (record { engine = Plain }) (table 1) (calls 1) (premises (record { engine = Plain }) (table 1) (calls 1) (computed Plain .0));
     statuses = refl;
     after = refl;
     hello-ends = refl;
     mykey-ends = refl;
   };
   last-write = record {
-    premises = last-write-premises;
-    merged = merge-on-bytes (table 2) (calls 2) last-write-premises;
+    premises = premises (record { engine = Plain }) (table 2) (calls 2) (computed Plain .1);
+    merged = merge-on-bytes (record { engine = Plain }) (table 2) (calls 2) (premises (record { engine = Plain }) (table 2) (calls 2) (computed Plain .1));
     statuses = refl;
     after = refl;
     hello-ends = refl;
     mykey-ends = refl;
   };
 }
+worked-in Ordered = record {
+  by-revision = record {
+    premises = premises (record { engine = Ordered }) (table 1) (calls 1) (computed Ordered .0);
+    merged = merge-on-bytes (record { engine = Ordered }) (table 1) (calls 1) (premises (record { engine = Ordered }) (table 1) (calls 1) (computed Ordered .0));
+    statuses = refl;
+    after = refl;
+    hello-ends = refl;
+    mykey-ends = refl;
+  };
+  last-write = record {
+    premises = premises (record { engine = Ordered }) (table 2) (calls 2) (computed Ordered .1);
+    merged = merge-on-bytes (record { engine = Ordered }) (table 2) (calls 2) (premises (record { engine = Ordered }) (table 2) (calls 2) (computed Ordered .1));
+    statuses = refl;
+    after = refl;
+    hello-ends = refl;
+    mykey-ends = refl;
+  };
+}
+
+pub worked : (config : Config) → Worked config
+worked config = worked-in (config .engine)

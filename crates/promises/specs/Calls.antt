@@ -2,6 +2,7 @@
 use Prim.Native.Nat.{ℕ}
 use mathlib.Core.List.{List, [], _∷_, map}
 use lib.ListN.{length}
+use Rattle.engine.specs.declared.Config.{Config}
 use Rattle.serving.specs.declared.Served.{Served}
 use Rattle.serving.specs.Serve.{servedOutcome, servedStatus, served, servedTable}
 
@@ -11,22 +12,22 @@ pub record Call : Type 0 where
   pub received : List ℕ
   pub reply : List ℕ
 
-abbrev pub servedBy : List ℕ → Call → Served
-servedBy b c = served b (c .clock) (c .received) (length (c .reply))
+abbrev pub servedBy : Config → List ℕ → Call → Served
+servedBy config b c = served config b (c .clock) (c .received) (length (c .reply))
 
-abbrev pub tableServed : List ℕ → Call → List ℕ
-tableServed b c = servedTable b (c .clock) (c .received) (length (c .reply))
+abbrev pub tableServed : Config → List ℕ → Call → List ℕ
+tableServed config b c = servedTable config b (c .clock) (c .received) (length (c .reply))
 
-abbrev pub bytesAfter : List ℕ → List Call → List ℕ
-bytesAfter b [] = b
-bytesAfter b (c ∷ cs) = bytesAfter (tableServed b c) cs
+abbrev pub bytesAfter : Config → List ℕ → List Call → List ℕ
+bytesAfter config b [] = b
+bytesAfter config b (c ∷ cs) = bytesAfter config (tableServed config b c) cs
 
-abbrev pub answers : List ℕ → List Call → List Served
-answers b [] = []
-answers b (c ∷ cs) = servedBy b c ∷ answers (tableServed b c) cs
+abbrev pub answers : Config → List ℕ → List Call → List Served
+answers config b [] = []
+answers config b (c ∷ cs) = servedBy config b c ∷ answers config (tableServed config b c) cs
 
-abbrev pub callOutcomes : List ℕ → List Call → List ℕ
-callOutcomes b cs = map servedOutcome (answers b cs)
+abbrev pub callOutcomes : Config → List ℕ → List Call → List ℕ
+callOutcomes config b cs = map servedOutcome (answers config b cs)
 
-abbrev pub callStatuses : List ℕ → List Call → List ℕ
-callStatuses b cs = map servedStatus (answers b cs)
+abbrev pub callStatuses : Config → List ℕ → List Call → List ℕ
+callStatuses config b cs = map servedStatus (answers config b cs)

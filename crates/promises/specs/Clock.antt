@@ -8,6 +8,7 @@ use mathlib.Core.Option.{none, some}
 use lib.Dec.{eqb}
 use lib.ListN.{replicate}
 use lib.IntN.{pos, _-ℤ_}
+use Rattle.engine.specs.declared.Config.{Config}
 use Rattle.octets.specs.Parts.{Bytes}
 use Rattle.octets.specs.Compare.{same}
 use Rattle.numbers.specs.declared.Numbers.{Numbers}
@@ -17,8 +18,8 @@ use Rattle.listing.specs.Claims.{OneOf}
 use Rattle.shape.specs.Shapes.{among}
 use Rattle.rows.specs.Table.{tableBytes}
 use Rattle.numbers.specs.declared.Left.the-variants.{Seconds}
-use Rattle.owner.specs.declared.Document.the-variants.{Missing, Expired as ExpiredBy, Live}
-use Rattle.owner.specs.Owner.{readOf, readOutcome, readStatus, purgeOf, purgeOutcome, purgedBytes}
+use Rattle.owning.specs.declared.Document.the-variants.{Missing, Expired as ExpiredBy, Live}
+use Rattle.owning.specs.Owner.{readOf, readOutcome, readStatus, purgeOf, purgeOutcome, purgedBytes}
 use Rattle.serving.specs.Serve.{servedOutcome, servedStatus}
 use Rattle.promises.specs.Calls.{Call, servedBy, tableServed}
 use Rattle.promises.specs.Merge.{docAt}
@@ -39,26 +40,26 @@ clockOf (Purge clock bound) = clock
 clockOf (Read clock k) = clock
 
 -- 01's outcome of it
-abbrev pub outcomeOf : List ℕ → TableCall → ℕ
-outcomeOf b (Serve c) = servedOutcome (servedBy b c)
-outcomeOf b (Purge clock bound) = purgeOutcome (purgeOf b clock bound)
-outcomeOf b (Read clock k) = readOutcome (readOf b clock k)
+abbrev pub outcomeOf : Config → List ℕ → TableCall → ℕ
+outcomeOf config b (Serve c) = servedOutcome (servedBy config b c)
+outcomeOf config b (Purge clock bound) = purgeOutcome (purgeOf config b clock bound)
+outcomeOf config b (Read clock k) = readOutcome (readOf config b clock k)
 
 -- the table's memory after it; a read is lent what it can't change
-abbrev pub tableCalled : List ℕ → TableCall → List ℕ
-tableCalled b (Serve c) = tableServed b c
-tableCalled b (Purge clock bound) = purgedBytes b clock bound
-tableCalled b (Read clock k) = b
+abbrev pub tableCalled : Config → List ℕ → TableCall → List ℕ
+tableCalled config b (Serve c) = tableServed config b c
+tableCalled config b (Purge clock bound) = purgedBytes config b clock bound
+tableCalled config b (Read clock k) = b
 
-abbrev pub memoryAfter : List ℕ → List TableCall → List ℕ
-memoryAfter b [] = b
-memoryAfter b (x ∷ xs) = memoryAfter (tableCalled b x) xs
+abbrev pub memoryAfter : Config → List ℕ → List TableCall → List ℕ
+memoryAfter config b [] = b
+memoryAfter config b (x ∷ xs) = memoryAfter config (tableCalled config b x) xs
 
 -- the calls that "raise it": "A purge, and serving a frame with any status"; "outcomes 1 to 5 and document reads don't"
-abbrev pub raises : List ℕ → TableCall → Bool
-raises b (Serve c) = eqb (outcomeOf b (Serve c)) 0
-raises b (Purge clock bound) = eqb (outcomeOf b (Purge clock bound)) 0
-raises b (Read clock k) = false
+abbrev pub raises : Config → List ℕ → TableCall → Bool
+raises config b (Serve c) = eqb (outcomeOf config b (Serve c)) 0
+raises config b (Purge clock bound) = eqb (outcomeOf config b (Purge clock bound)) 0
+raises config b (Read clock k) = false
 
 -- bytes and a clock of 32 bits, as every call has them
 abbrev pub Given : TableCall → Type 0
@@ -72,13 +73,13 @@ AllGiven (x ∷ xs) = Given x × AllGiven xs
 
 -- ---- the kept clock
 -- the greatest of itself and those that raise it
-abbrev pub clockAfter : ℕ → List ℕ → List TableCall → ℕ
-clockAfter n b [] = n
-clockAfter n b (x ∷ xs) = clockAfter (cond (raises b x) (max n (clockOf x)) n) (tableCalled b x) xs
+abbrev pub clockAfter : Config → ℕ → List ℕ → List TableCall → ℕ
+clockAfter config n b [] = n
+clockAfter config n b (x ∷ xs) = clockAfter config (cond (raises config b x) (max n (clockOf x)) n) (tableCalled config b x) xs
 
 -- "Nothing lowers it", and nothing else raises it: on any memory
-abbrev pub KeepsLatest : Type 0
-KeepsLatest = (b : List ℕ) (xs : List TableCall) → Bytes b → AllGiven xs → keptAt (memoryAfter b xs) ≡ clockAfter (keptAt b) b xs
+abbrev pub KeepsLatest : Config → Type 0
+KeepsLatest config = (b : List ℕ) (xs : List TableCall) → Bytes b → AllGiven xs → keptAt (memoryAfter config b xs) ≡ clockAfter config (keptAt b) b xs
 
 -- ---- an expired document stays expired
 -- the opcodes that store nothing: any Get, Noop, Version, Get Keys
@@ -86,46 +87,46 @@ abbrev pub readOnly : List ℕ
 readOnly = gets ++ (0x0a ∷ 0x0b ∷ 0xb8 ∷ [])
 
 -- the key is written: a frame for it that isn't one of those is served with status 0
-abbrev pub writesKey : List ℕ → TableCall → Key → Bool
-writesKey b (Serve c) k =
-    eqb (servedOutcome (servedBy b c)) 0 && (eqb (servedStatus (servedBy b c)) 0 && (not (among (opcode (c .received)) readOnly) && same (keyIn (c .received)) k))
-writesKey b (Purge clock bound) k = false
-writesKey b (Read clock j) k = false
+abbrev pub writesKey : Config → List ℕ → TableCall → Key → Bool
+writesKey config b (Serve c) k =
+    eqb (servedOutcome (servedBy config b c)) 0 && (eqb (servedStatus (servedBy config b c)) 0 && (not (among (opcode (c .received)) readOnly) && same (keyIn (c .received)) k))
+writesKey config b (Purge clock bound) k = false
+writesKey config b (Read clock j) k = false
 
-abbrev pub Unwritten : List ℕ → List TableCall → Key → Type 0
-Unwritten b [] k = Unit {0}
-Unwritten b (x ∷ xs) k = (writesKey b x k ≡ false) × Unwritten (tableCalled b x) xs k
+abbrev pub Unwritten : Config → List ℕ → List TableCall → Key → Type 0
+Unwritten config b [] k = Unit {0}
+Unwritten config b (x ∷ xs) k = (writesKey config b x k ≡ false) × Unwritten config (tableCalled config b x) xs k
 
 -- "a document that was expired to a served frame or to a purge"
-pub record ExpiredTo (b : List ℕ) (x : TableCall) (k : Key) (d : Doc) : Type 0 where
+pub record ExpiredTo (config : Config) (b : List ℕ) (x : TableCall) (k : Key) (d : Doc) : Type 0 where
   pub bytes : Bytes b
-  pub raised : raises b x ≡ true
+  pub raised : raises config b x ≡ true
   pub there : docAt b k ≡ some d
   pub expired : Expired (laterAt b (clockOf x)) d
 
 -- a document that is expired to every call on a table, whatever its clock: "no clock brings it back"
-pub record ExpiredForGood (b : List ℕ) (k : Key) (d : Doc) : Type 0 where
+pub record ExpiredForGood (config : Config) (b : List ℕ) (k : Key) (d : Doc) : Type 0 where
   -- its row is as it was, or a purge freed it
   pub left : (docAt b k ≡ some d) ⊎ (docAt b k ≡ none)
   pub expired : (clock : ℕ) → Expired (laterAt b clock) d
   -- a read doesn't show it; order 5: where its row is left, it tells the seconds, and nothing where that was freed
-  pub read : (clock : ℕ) → readStatus (readOf b clock k) ≡ 0x01
-  pub freed : (clock : ℕ) → docAt b k ≡ none → readOf b clock k ≡ Missing
-  pub told : (clock : ℕ) → docAt b k ≡ some d → readOf b clock k ≡ ExpiredBy (pos (d .numbers .expiry) -ℤ pos (laterAt b clock))
+  pub read : (clock : ℕ) → readStatus (readOf config b clock k) ≡ 0x01
+  pub freed : (clock : ℕ) → docAt b k ≡ none → readOf config b clock k ≡ Missing
+  pub told : (clock : ℕ) → docAt b k ≡ some d → readOf config b clock k ≡ ExpiredBy (pos (d .numbers .expiry) -ℤ pos (laterAt b clock))
   -- a listing doesn't show its key
   pub listed : (clock : ℕ) (start : Key) (count : ℕ) → OneOf k (listedKeys (docsIn b) (laterAt b clock) start count) → ⊥
   -- a frame that needs a live document doesn't find it
-  pub frame : (clock : ℕ) (s : List ℕ) (room : ℕ) → Reaches b clock s room → keyIn s ≡ k → needsLive s ≡ true → Answers b clock s room 0x01
+  pub frame : (clock : ℕ) (s : List ℕ) (room : ℕ) → Reaches config b clock s room → keyIn s ≡ k → needsLive s ≡ true → Answers config b clock s room 0x01
   -- nor does one that joins a value to it
-  pub joined : (clock : ℕ) (s : List ℕ) (room : ℕ) → Reaches b clock s room → keyIn s ≡ k → among (opcode s) joins ≡ true → Answers b clock s room 0x05
+  pub joined : (clock : ℕ) (s : List ℕ) (room : ℕ) → Reaches config b clock s room → keyIn s ≡ k → among (opcode s) joins ≡ true → Answers config b clock s room 0x05
   -- a purge up to its CAS frees it
-  pub purge : (clock bound : ℕ) → clock < 2 ^ 32 → d .numbers .cas .0 ≤ bound → docAt (purgedBytes b clock bound) k ≡ none
+  pub purge : (clock bound : ℕ) → clock < 2 ^ 32 → d .numbers .cas .0 ≤ bound → docAt (purgedBytes config b clock bound) k ≡ none
 
 -- "a document that was expired to a served frame or to a purge is expired to every later call, reads included, until its key is written again"
-abbrev pub StaysExpired : Type 0
-StaysExpired =
-    (b : List ℕ) (x : TableCall) (xs : List TableCall) (k : Key) (d : Doc) → AllGiven (x ∷ xs) → ExpiredTo b x k d → Unwritten b (x ∷ xs) k
-    → ExpiredForGood (memoryAfter b (x ∷ xs)) k d
+abbrev pub StaysExpired : Config → Type 0
+StaysExpired config =
+    (b : List ℕ) (x : TableCall) (xs : List TableCall) (k : Key) (d : Doc) → AllGiven (x ∷ xs) → ExpiredTo config b x k d → Unwritten config b (x ∷ xs) k
+    → ExpiredForGood config (memoryAfter config b (x ∷ xs)) k d
 
 -- ---- "A read raises nothing, so an earlier read by itself promises nothing of a later one"
 abbrev pub key : Key
@@ -146,13 +147,13 @@ shortLived =
 abbrev noop : List ℕ
 noop = 0x80 ∷ 0x0a ∷ replicate 22 0
 
-pub record ReadsAlone : Type 0 where
-  pub missed : readOf shortLived 50 key ≡ ExpiredBy (pos 0)
+pub record ReadsAlone (config : Config) : Type 0 where
+  pub missed : readOf config shortLived 50 key ≡ ExpiredBy (pos 0)
   -- a second earlier it is there again
-  pub shown-again : readOf (memoryAfter shortLived (Read 50 key ∷ [])) 49 key ≡ Live numbers (Seconds (pos 1)) 49 1
+  pub shown-again : readOf config (memoryAfter config shortLived (Read 50 key ∷ [])) 49 key ≡ Live numbers (Seconds (pos 1)) 49 1
   -- but not once a frame was served at 50, be it a Noop, or a purge answered, be it one that frees no row
-  pub after-frame : readOf (memoryAfter shortLived (Serve (at 50 noop) ∷ [])) 49 key ≡ ExpiredBy (pos 0)
-  pub after-purge : readOf (memoryAfter shortLived (Purge 50 0 ∷ [])) 49 key ≡ ExpiredBy (pos 0)
+  pub after-frame : readOf config (memoryAfter config shortLived (Serve (at 50 noop) ∷ [])) 49 key ≡ ExpiredBy (pos 0)
+  pub after-purge : readOf config (memoryAfter config shortLived (Purge 50 0 ∷ [])) 49 key ≡ ExpiredBy (pos 0)
 
 -- ---- the plain expiry sum: "A Set of 10 s given clock 50 on a table that kept 110 stores 120."
 -- a table of one free row that keeps a clock
@@ -168,9 +169,9 @@ setFor expiry =
 abbrev storedUntil : ℕ → Doc
 storedUntil expiry = record { tomb = false; value = 0x31 ∷ []; numbers = record { flags = 0; expiry = expiry; revision = record { 0 = 1 }; cas = record { 0 = 1 } } }
 
-pub record SumsLater : Type 0 where
-  pub stored : docAt (tableServed (keeping 110) (at 50 (setFor 10))) key ≡ some (storedUntil 120)
-  pub kept : keptAt (tableServed (keeping 110) (at 50 (setFor 10))) ≡ 110
+pub record SumsLater (config : Config) : Type 0 where
+  pub stored : docAt (tableServed config (keeping 110) (at 50 (setFor 10))) key ≡ some (storedUntil 120)
+  pub kept : keptAt (tableServed config (keeping 110) (at 50 (setFor 10))) ≡ 110
   -- a clock of 2^32 - 1 given once stays: a second is 0x04 from then on, "never" isn't
-  pub spent : servedStatus (servedBy (keeping 0xffffffff) (at 50 (setFor 1))) ≡ 0x04
-  pub never : servedStatus (servedBy (keeping 0xffffffff) (at 50 (setFor 0))) ≡ 0
+  pub spent : servedStatus (servedBy config (keeping 0xffffffff) (at 50 (setFor 1))) ≡ 0x04
+  pub never : servedStatus (servedBy config (keeping 0xffffffff) (at 50 (setFor 0))) ≡ 0

@@ -8,6 +8,7 @@ use mathlib.Core.Option.{Option, none, some}
 use lib.ListN.{length, take}
 use lib.Dec.{eqb}
 use lib.IntN.{pos, _-ℤ_}
+use Rattle.engine.specs.declared.Config.{Config}
 use Rattle.octets.specs.Parts.{Bytes}
 use Rattle.octets.specs.BigEndian.{num}
 use Rattle.octets.specs.Compare.{same}
@@ -23,11 +24,11 @@ use Rattle.request.specs.declared.Gate.the-variants.{Whole}
 use Rattle.request.specs.Reading.{gateOf, bytesIn, extrasSpan, keySpan, valueSpan}
 use Rattle.commands.specs.Rules.{Check}
 use Rattle.rows.specs.Table.{tableOf, tableAt, clockAt, tableBytes}
-use Rattle.plain.specs.Plain.{plain}
-use Rattle.plain.specs.Damage.{sound}
-use Rattle.owner.specs.declared.Document.{Document}
-use Rattle.owner.specs.declared.Document.the-variants.{Missing, Expired as Past, Live as Shown}
-use Rattle.owner.specs.Owner.{readOf, readStatus}
+use Rattle.engines.specs.Engines.{engineOf}
+use Rattle.engines.specs.Damage.{soundBy}
+use Rattle.owning.specs.declared.Document.{Document}
+use Rattle.owning.specs.declared.Document.the-variants.{Missing, Expired as Past, Live as Shown}
+use Rattle.owning.specs.Owner.{readOf, readStatus}
 use Rattle.serving.specs.declared.Served.the-variants.{Done}
 use Rattle.serving.specs.Serve.{served, servedTable, servedReply}
 use Rattle.serving.specs.Statuses.{statuses}
@@ -122,39 +123,39 @@ Passes [] = Unit {0}
 Passes (c ∷ cs) = (c .fails ≡ false) × Passes cs
 
 -- a whole frame on an undamaged table, to which none of the statuses before 0x05 and 0x01 applies: 0x83, 0x81, 0x04 of form, of fields and by mode or clock, 0x03, 0x07
-pub record Reaches (b : List ℕ) (clock : ℕ) (s : List ℕ) (room : ℕ) : Type 0 where
+pub record Reaches (config : Config) (b : List ℕ) (clock : ℕ) (s : List ℕ) (room : ℕ) : Type 0 where
   pub bytes : Bytes b
-  pub undamaged : sound b ≡ true
+  pub undamaged : soundBy config b ≡ true
   pub roomy : 1302 ≤ room
   pub whole : gateOf s ≡ Whole (headerOf s)
   pub earlier : Passes (take 7 (statuses (tableAt (tableOf b) clock) (clockAt (tableOf b) clock) s (headerOf s)))
 
 -- the frame is served with this status
-abbrev pub Answers : List ℕ → ℕ → List ℕ → ℕ → ℕ → Type 0
-Answers b clock s room status = (len : ℕ) × (served b clock s room ≡ Done status (24 + headerOf s .body) len)
+abbrev pub Answers : Config → List ℕ → ℕ → List ℕ → ℕ → ℕ → Type 0
+Answers config b clock s room status = (len : ℕ) × (served config b clock s room ≡ Done status (24 + headerOf s .body) len)
 
 -- the frame is not served with this status
-abbrev pub Avoids : List ℕ → ℕ → List ℕ → ℕ → ℕ → Type 0
-Avoids b clock s room status = (used len : ℕ) → served b clock s room ≡ Done status used len → ⊥
+abbrev pub Avoids : Config → List ℕ → ℕ → List ℕ → ℕ → ℕ → Type 0
+Avoids config b clock s room status = (used len : ℕ) → served config b clock s room ≡ Done status used len → ⊥
 
 -- ---- a key without a live document
 -- what needs one is answered 0x01, and no table byte changes but the kept clock's
-abbrev pub DeadIsMissing : Type 0
-DeadIsMissing =
-    (b : List ℕ) (clock : ℕ) (s : List ℕ) (room : ℕ) → Reaches b clock s room → NotLive (laterAt b clock) (docAt b (keyIn s)) → needsLive s ≡ true
-    → Answers b clock s room 0x01 × (servedTable b clock s room ≡ clockRaised b clock)
+abbrev pub DeadIsMissing : Config → Type 0
+DeadIsMissing config =
+    (b : List ℕ) (clock : ℕ) (s : List ℕ) (room : ℕ) → Reaches config b clock s room → NotLive (laterAt b clock) (docAt b (keyIn s)) → needsLive s ≡ true
+    → Answers config b clock s room 0x01 × (servedTable config b clock s room ≡ clockRaised b clock)
 
 -- order 4, Append and Prepend: "not live is 0x05, whatever the header CAS"
-abbrev pub DeadIsUnstored : Type 0
-DeadIsUnstored =
-    (b : List ℕ) (clock : ℕ) (s : List ℕ) (room : ℕ) → Reaches b clock s room → NotLive (laterAt b clock) (docAt b (keyIn s)) → among (opcode s) joins ≡ true
-    → Answers b clock s room 0x05 × (servedTable b clock s room ≡ clockRaised b clock)
+abbrev pub DeadIsUnstored : Config → Type 0
+DeadIsUnstored config =
+    (b : List ℕ) (clock : ℕ) (s : List ℕ) (room : ℕ) → Reaches config b clock s room → NotLive (laterAt b clock) (docAt b (keyIn s)) → among (opcode s) joins ≡ true
+    → Answers config b clock s room 0x05 × (servedTable config b clock s room ≡ clockRaised b clock)
 
 -- Set and Add without a header CAS are not refused with 0x01 or 0x02
-abbrev pub DeadIsWritten : Type 0
-DeadIsWritten =
+abbrev pub DeadIsWritten : Config → Type 0
+DeadIsWritten config =
     (b : List ℕ) (clock : ℕ) (s : List ℕ) (room : ℕ) → NotLive (laterAt b clock) (docAt b (keyIn s)) → among (opcode s) (sets ++ adds) ≡ true → headerCas s ≡ 0
-    → Avoids b clock s room 0x01 × Avoids b clock s room 0x02
+    → Avoids config b clock s room 0x01 × Avoids config b clock s room 0x02
 
 -- "Plain expiry: 0 never; 1 to 2,592,000 is added to the clock, 0x04 if that passes 2^32 - 1; above, absolute.": what is stored for an expiry that is given
 pub record PlainExpiry (given clock stored : ℕ) : Type 0 where
@@ -170,27 +171,27 @@ pub record BeginsAt (initial given clock : ℕ) (d : Doc) : Type 0 where
   pub expiry : PlainExpiry given clock (d .numbers .expiry)
 
 -- a counter without a header CAS begins at its initial number, and isn't refused with 0x01, 0x02 or 0x06
-pub record CountsAnew (b : List ℕ) (clock : ℕ) (s : List ℕ) (room : ℕ) : Type 0 where
-  pub found : Avoids b clock s room 0x01
-  pub free : Avoids b clock s room 0x02
-  pub number : Avoids b clock s room 0x06
-  pub stored : Answers b clock s room 0 → (d : Doc) × ((docAt (servedTable b clock s room) (keyIn s) ≡ some d) × BeginsAt (initialIn s) (counterExpiry s) (laterAt b clock) d)
+pub record CountsAnew (config : Config) (b : List ℕ) (clock : ℕ) (s : List ℕ) (room : ℕ) : Type 0 where
+  pub found : Avoids config b clock s room 0x01
+  pub free : Avoids config b clock s room 0x02
+  pub number : Avoids config b clock s room 0x06
+  pub stored : Answers config b clock s room 0 → (d : Doc) × ((docAt (servedTable config b clock s room) (keyIn s) ≡ some d) × BeginsAt (initialIn s) (counterExpiry s) (laterAt b clock) d)
 
-abbrev pub DeadCounts : Type 0
-DeadCounts =
+abbrev pub DeadCounts : Config → Type 0
+DeadCounts config =
     (b : List ℕ) (clock : ℕ) (s : List ℕ) (room : ℕ) → Bytes b → Bytes s → clock < 2 ^ 32 → NotLive (laterAt b clock) (docAt b (keyIn s)) → among (opcode s) counters ≡ true
-    → headerCas s ≡ 0 → (counterExpiry s ≡ 0xffffffff → ⊥) → CountsAnew b clock s room
+    → headerCas s ≡ 0 → (counterExpiry s ≡ 0xffffffff → ⊥) → CountsAnew config b clock s room
 
 -- ---- the expiry of a Set, an Add or a Replace: "8 extras (flags, expiry)"
 abbrev pub writtenExpiry : List ℕ → ℕ
 writtenExpiry s = num (extrasIn s) 4 4
 
 -- one with status 0 stores it by the plain rule, at the later of the kept clock and the call's
-abbrev pub WritesUntil : Type 0
-WritesUntil =
+abbrev pub WritesUntil : Config → Type 0
+WritesUntil config =
     (b : List ℕ) (clock : ℕ) (s : List ℕ) (room : ℕ) → Bytes b → Bytes s → clock < 2 ^ 32 → among (opcode s) (sets ++ (adds ++ replaces)) ≡ true
-    → Answers b clock s room 0
-    → (d : Doc) × ((docAt (servedTable b clock s room) (keyIn s) ≡ some d) × PlainExpiry (writtenExpiry s) (laterAt b clock) (d .numbers .expiry))
+    → Answers config b clock s room 0
+    → (d : Doc) × ((docAt (servedTable config b clock s room) (keyIn s) ≡ some d) × PlainExpiry (writtenExpiry s) (laterAt b clock) (d .numbers .expiry))
 
 -- ---- an expired document
 -- the tombstone with its revision and CAS: "A tombstone has no value, flags 0, expiry 0."
@@ -198,33 +199,33 @@ abbrev pub tombstoneOf : Doc → Doc
 tombstoneOf d = record { tomb = true; value = []; numbers = record { flags = 0; expiry = 0; revision = d .numbers .revision; cas = d .numbers .cas } }
 
 -- the table that has that tombstone in its row
-abbrev pub buried : List ℕ → Key → Doc → List ℕ
-buried b k d = tableBytes (record { head = tableOf b .head; rows = plain .put (tableOf b .rows) k (tombstoneOf d) })
+abbrev pub buried : Config → List ℕ → Key → Doc → List ℕ
+buried config b k d = tableBytes (record { head = tableOf b .head; rows = engineOf config .put (tableOf b .rows) k (tombstoneOf d) })
 
-pub record AsBuried (b grave : List ℕ) (clock : ℕ) (s out : List ℕ) : Type 0 where
-  pub undamaged : sound grave ≡ true
-  pub answer : served b clock s (length out) ≡ served grave clock s (length out)
-  pub reply : servedReply b clock s out ≡ servedReply grave clock s out
+pub record AsBuried (config : Config) (b grave : List ℕ) (clock : ℕ) (s out : List ℕ) : Type 0 where
+  pub undamaged : soundBy config grave ≡ true
+  pub answer : served config b clock s (length out) ≡ served config grave clock s (length out)
+  pub reply : servedReply config b clock s out ≡ servedReply config grave clock s out
   -- both tables end with the same bytes, or neither changes but for the kept clock
-  pub table : (servedTable b clock s (length out) ≡ servedTable grave clock s (length out))
-      ⊎ ((servedTable b clock s (length out) ≡ keptBy (served b clock s (length out)) b clock)
-      × (servedTable grave clock s (length out) ≡ keptBy (served grave clock s (length out)) grave clock))
-  pub others : (k : Key) → same (keyIn s) k ≡ false → docAt (servedTable b clock s (length out)) k ≡ docAt (servedTable grave clock s (length out)) k
+  pub table : (servedTable config b clock s (length out) ≡ servedTable config grave clock s (length out))
+      ⊎ ((servedTable config b clock s (length out) ≡ keptBy (served config b clock s (length out)) b clock)
+      × (servedTable config grave clock s (length out) ≡ keptBy (served config grave clock s (length out)) grave clock))
+  pub others : (k : Key) → same (keyIn s) k ≡ false → docAt (servedTable config b clock s (length out)) k ≡ docAt (servedTable config grave clock s (length out)) k
 
 -- any frame but a with-meta one is answered, and leaves every other row, as on the undamaged table with the tombstone
-abbrev pub ExpiredIsDead : Type 0
-ExpiredIsDead =
-    (b : List ℕ) (clock : ℕ) (s out : List ℕ) (d : Doc) → Bytes b → Bytes s → clock < 2 ^ 32 → sound b ≡ true → docAt b (keyIn s) ≡ some d → Expired (laterAt b clock) d
-    → among (opcode s) withMetas ≡ false → AsBuried b (buried b (keyIn s) d) clock s out
+abbrev pub ExpiredIsDead : Config → Type 0
+ExpiredIsDead config =
+    (b : List ℕ) (clock : ℕ) (s out : List ℕ) (d : Doc) → Bytes b → Bytes s → clock < 2 ^ 32 → soundBy config b ≡ true → docAt b (keyIn s) ≡ some d → Expired (laterAt b clock) d
+    → among (opcode s) withMetas ≡ false → AsBuried config b (buried config b (keyIn s) d) clock s out
 
 -- with-meta writes without options 0x01 and 0x08 compare the row's own numbers: "a key with any row, expired or tombstone included, is compared; the write must be greater, else 0x02."
-abbrev pub DeadIsCompared : Type 0
-DeadIsCompared =
-    (b : List ℕ) (clock : ℕ) (s : List ℕ) (room : ℕ) (d : Doc) → Reaches b clock s room → docAt b (keyIn s) ≡ some d → NotLive (laterAt b clock) (some d)
+abbrev pub DeadIsCompared : Config → Type 0
+DeadIsCompared config =
+    (b : List ℕ) (clock : ℕ) (s : List ℕ) (room : ℕ) (d : Doc) → Reaches config b clock s room → docAt b (keyIn s) ≡ some d → NotLive (laterAt b clock) (some d)
     → among (opcode s) withMetas ≡ true → headerCas s ≡ 0 → eqb (withMeta (extrasIn s) .options % 2) 1 ≡ false
     → eqb (withMeta (extrasIn s) .options / 8 % 2) 1 ≡ false
-    → (greater (modeAt b) (withMeta (extrasIn s) .numbers) (d .numbers) ≡ false → Answers b clock s room 0x02)
-    × (greater (modeAt b) (withMeta (extrasIn s) .numbers) (d .numbers) ≡ true → Avoids b clock s room 0x01 × Avoids b clock s room 0x02)
+    → (greater (modeAt b) (withMeta (extrasIn s) .numbers) (d .numbers) ≡ false → Answers config b clock s room 0x02)
+    × (greater (modeAt b) (withMeta (extrasIn s) .numbers) (d .numbers) ≡ true → Avoids config b clock s room 0x01 × Avoids config b clock s room 0x02)
 
 -- ---- one liveness
 -- what a status tells of the key's document: 0x01, and to Append and Prepend 0x05, that it isn't live, and to an Add without a header CAS 0x02 that it is
@@ -240,42 +241,42 @@ abbrev pub readLive : Document → Bool
 readLive r = not (eqb (readStatus r) 0x01)
 
 -- at one clock, a document is live to one command exactly if it is live to the owner's read, and so to all of them
-abbrev pub OneLiveness : Type 0
-OneLiveness =
-    (b : List ℕ) (clock : ℕ) (s : List ℕ) (room status : ℕ) → Reaches b clock s room → tells s ≡ true
-    → Answers b clock s room status → toldLive s status ≡ readLive (readOf b clock (keyIn s))
+abbrev pub OneLiveness : Config → Type 0
+OneLiveness config =
+    (b : List ℕ) (clock : ℕ) (s : List ℕ) (room status : ℕ) → Reaches config b clock s room → tells s ≡ true
+    → Answers config b clock s room status → toldLive s status ≡ readLive (readOf config b clock (keyIn s))
 
 -- and a live document is found: no such frame is answered 0x01 or 0x05, the owner's read shows its numbers
-abbrev pub LiveIsFound : Type 0
-LiveIsFound =
-    (b : List ℕ) (clock : ℕ) (s : List ℕ) (room : ℕ) (d : Doc) → Reaches b clock s room → docAt b (keyIn s) ≡ some d → Live (laterAt b clock) d
-    → tells s ≡ true → (Avoids b clock s room 0x01 × Avoids b clock s room 0x05) × (readLive (readOf b clock (keyIn s)) ≡ true)
+abbrev pub LiveIsFound : Config → Type 0
+LiveIsFound config =
+    (b : List ℕ) (clock : ℕ) (s : List ℕ) (room : ℕ) (d : Doc) → Reaches config b clock s room → docAt b (keyIn s) ≡ some d → Live (laterAt b clock) d
+    → tells s ≡ true → (Avoids config b clock s room 0x01 × Avoids config b clock s room 0x05) × (readLive (readOf config b clock (keyIn s)) ≡ true)
 
 -- a counter goes on counting: "flags and expiry stay"
-abbrev pub LiveCounts : Type 0
-LiveCounts =
+abbrev pub LiveCounts : Config → Type 0
+LiveCounts config =
     (b : List ℕ) (clock : ℕ) (s : List ℕ) (room : ℕ) (d : Doc) → Bytes b → Bytes s → clock < 2 ^ 32 → docAt b (keyIn s) ≡ some d → Live (laterAt b clock) d
-    → among (opcode s) counters ≡ true → Answers b clock s room 0
-    → (e : Doc) × ((docAt (servedTable b clock s room) (keyIn s) ≡ some e)
+    → among (opcode s) counters ≡ true → Answers config b clock s room 0
+    → (e : Doc) × ((docAt (servedTable config b clock s room) (keyIn s) ≡ some e)
     × ((e .numbers .flags ≡ d .numbers .flags) × (e .numbers .expiry ≡ d .numbers .expiry)))
 
 -- ---- order 5: what the owner's read tells of the time left, in the expiry and the clock alone
 -- the read shows the document, with this time left to it
-abbrev pub ShowsLeft : List ℕ → ℕ → Key → Doc → Left → Type 0
-ShowsLeft b clock k d left = (at len : ℕ) × (readOf b clock k ≡ Shown (d .numbers) left at len)
+abbrev pub ShowsLeft : Config → List ℕ → ℕ → Key → Doc → Left → Type 0
+ShowsLeft config b clock k d left = (at len : ℕ) × (readOf config b clock k ≡ Shown (d .numbers) left at len)
 
 -- "negative once the contact is past, zero exactly at the expiry, and a separate answer for a document that never expires": of a key with a row
-pub record TellsLeft (b : List ℕ) (clock : ℕ) (k : Key) (d : Doc) : Type 0 where
-  pub never : Live (laterAt b clock) d → d .numbers .expiry ≡ 0 → ShowsLeft b clock k d Never
-  pub left : Live (laterAt b clock) d → (d .numbers .expiry ≡ 0 → ⊥) → ShowsLeft b clock k d (Seconds (pos (d .numbers .expiry) -ℤ pos (laterAt b clock)))
+pub record TellsLeft (config : Config) (b : List ℕ) (clock : ℕ) (k : Key) (d : Doc) : Type 0 where
+  pub never : Live (laterAt b clock) d → d .numbers .expiry ≡ 0 → ShowsLeft config b clock k d Never
+  pub left : Live (laterAt b clock) d → (d .numbers .expiry ≡ 0 → ⊥) → ShowsLeft config b clock k d (Seconds (pos (d .numbers .expiry) -ℤ pos (laterAt b clock)))
   -- "beside 0x01 for an expired document too"
-  pub past : Expired (laterAt b clock) d → readOf b clock k ≡ Past (pos (d .numbers .expiry) -ℤ pos (laterAt b clock))
-  pub tombstone : d .tomb ≡ true → readOf b clock k ≡ Missing
+  pub past : Expired (laterAt b clock) d → readOf config b clock k ≡ Past (pos (d .numbers .expiry) -ℤ pos (laterAt b clock))
+  pub tombstone : d .tomb ≡ true → readOf config b clock k ≡ Missing
 
-abbrev pub ReadTells : Type 0
-ReadTells =
-    (b : List ℕ) (clock : ℕ) (k : Key) → sound b ≡ true
-    → (docAt b k ≡ none → readOf b clock k ≡ Missing) × ((d : Doc) → docAt b k ≡ some d → TellsLeft b clock k d)
+abbrev pub ReadTells : Config → Type 0
+ReadTells config =
+    (b : List ℕ) (clock : ℕ) (k : Key) → soundBy config b ≡ true
+    → (docAt b k ≡ none → readOf config b clock k ≡ Missing) × ((d : Doc) → docAt b k ≡ some d → TellsLeft config b clock k d)
 
 -- ---- order 4, on a live document
 -- what follows a frame's key
@@ -298,11 +299,11 @@ pub record Joins (mark : ℕ) (bytes : List ℕ) (d e : Doc) : Type 0 where
 abbrev pub markIn : List ℕ → ℕ
 markIn b = num b 8 8
 
-abbrev pub LiveJoins : Type 0
-LiveJoins =
+abbrev pub LiveJoins : Config → Type 0
+LiveJoins config =
     (b : List ℕ) (clock : ℕ) (s : List ℕ) (room : ℕ) (d : Doc) → Bytes b → Bytes s → clock < 2 ^ 32 → docAt b (keyIn s) ≡ some d
-    → among (opcode s) joins ≡ true → Answers b clock s room 0
-    → (e : Doc) × ((docAt (servedTable b clock s room) (keyIn s) ≡ some e)
+    → among (opcode s) joins ≡ true → Answers config b clock s room 0
+    → (e : Doc) × ((docAt (servedTable config b clock s room) (keyIn s) ≡ some e)
     × ((among (opcode s) appends ≡ true → Joins (markIn b) (d .value ++ valueIn s) d e)
     × (among (opcode s) prepends ≡ true → Joins (markIn b) (valueIn s ++ d .value) d e)))
 
@@ -312,14 +313,14 @@ pub record Touches (mark given clock : ℕ) (d e : Doc) : Type 0 where
   pub expiry : PlainExpiry given clock (e .numbers .expiry)
   pub value : e .value ≡ d .value
 
-abbrev pub LiveTouches : Type 0
-LiveTouches =
+abbrev pub LiveTouches : Config → Type 0
+LiveTouches config =
     (b : List ℕ) (clock : ℕ) (s : List ℕ) (room : ℕ) (d : Doc) → Bytes b → Bytes s → clock < 2 ^ 32 → docAt b (keyIn s) ≡ some d
-    → among (opcode s) touches ≡ true → Answers b clock s room 0
-    → (e : Doc) × ((docAt (servedTable b clock s room) (keyIn s) ≡ some e) × Touches (markIn b) (num (extrasIn s) 0 4) (laterAt b clock) d e)
+    → among (opcode s) touches ≡ true → Answers config b clock s room 0
+    → (e : Doc) × ((docAt (servedTable config b clock s room) (keyIn s) ≡ some e) × Touches (markIn b) (num (extrasIn s) 0 4) (laterAt b clock) d e)
 
 -- a Get of any form, hit or miss, changes no table byte but the kept clock's, and not that where it is refused, whatever the memory
-abbrev pub GetKeeps : Type 0
-GetKeeps =
+abbrev pub GetKeeps : Config → Type 0
+GetKeeps config =
     (b : List ℕ) (clock : ℕ) (s : List ℕ) (room : ℕ) → Bytes b → among (opcode s) gets ≡ true
-    → servedTable b clock s room ≡ keptBy (served b clock s room) b clock
+    → servedTable config b clock s room ≡ keptBy (served config b clock s room) b clock

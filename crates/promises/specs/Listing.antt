@@ -5,6 +5,7 @@ use mathlib.Core.Bool.{true, false}
 use mathlib.Core.List.{List, [], _∷_, _++_}
 use mathlib.Core.Option.{some}
 use lib.ListN.{length, drop}
+use Rattle.engine.specs.declared.Config.{Config}
 use Rattle.octets.specs.Parts.{Bytes}
 use Rattle.octets.specs.BigEndian.{num}
 use Rattle.keys.specs.Keys.{keyBelow}
@@ -14,8 +15,8 @@ use Rattle.listing.specs.Claims.{OneOf, Rising, LeftOut, pages}
 use Rattle.header.specs.declared.Header.{Header}
 use Rattle.header.specs.Header.{headerOf, headerBytes}
 use Rattle.rows.specs.Table.{tableOf}
-use Rattle.plain.specs.Plain.{plain}
-use Rattle.plain.specs.Damage.{sound}
+use Rattle.plain.specs.Plain.{usedRows}
+use Rattle.engines.specs.Damage.{soundBy}
 use Rattle.serving.specs.declared.Served.the-variants.{Done}
 use Rattle.serving.specs.Serve.{served, servedTable, servedReply}
 use Rattle.promises.specs.Merge.{docAt}
@@ -32,7 +33,7 @@ countIn s = countBy (extrasIn s)
 
 -- the documents in a table's memory, with their keys
 abbrev pub docsIn : List ℕ → List Entry
-docsIn b = plain .docs (tableOf b .rows)
+docsIn b = usedRows (tableOf b .rows)
 
 -- ---- the answer
 -- the reply's value: the listing from the frame's key, as many keys as it asks for, at the later of the kept clock and the call's
@@ -56,20 +57,20 @@ listingHeader opaque body = record {
 abbrev pub listingReply : List ℕ → ℕ → List ℕ → List ℕ
 listingReply b clock s = headerBytes (listingHeader (headerOf s .opaque) (length (listingIn b clock s))) ++ listingIn b clock s
 
-pub record ServesListing (b : List ℕ) (clock : ℕ) (s out : List ℕ) : Type 0 where
-  pub answer : served b clock s (length out) ≡ Done 0 (24 + headerOf s .body) (24 + length (listingIn b clock s))
-  pub table : servedTable b clock s (length out) ≡ clockRaised b clock
-  pub reply : servedReply b clock s out ≡ listingReply b clock s ++ drop (24 + length (listingIn b clock s)) out
+pub record ServesListing (config : Config) (b : List ℕ) (clock : ℕ) (s out : List ℕ) : Type 0 where
+  pub answer : served config b clock s (length out) ≡ Done 0 (24 + headerOf s .body) (24 + length (listingIn b clock s))
+  pub table : servedTable config b clock s (length out) ≡ clockRaised b clock
+  pub reply : servedReply config b clock s out ≡ listingReply b clock s ++ drop (24 + length (listingIn b clock s)) out
 
 -- "Header CAS is ignored"; "None found is status 0": a whole frame to which none of the statuses up to 0x07 applies is answered the listing
-abbrev pub ListingServed : Type 0
-ListingServed = (b : List ℕ) (clock : ℕ) (s out : List ℕ) → Reaches b clock s (length out) → opcode s ≡ 0xb8 → ServesListing b clock s out
+abbrev pub ListingServed : Config → Type 0
+ListingServed config = (b : List ℕ) (clock : ℕ) (s out : List ℕ) → Reaches config b clock s (length out) → opcode s ≡ 0xb8 → ServesListing config b clock s out
 
 -- no such frame changes a table byte but the kept clock's, whatever the memory and whatever its form
-abbrev pub ListingKeeps : Type 0
-ListingKeeps =
+abbrev pub ListingKeeps : Config → Type 0
+ListingKeeps config =
     (b : List ℕ) (clock : ℕ) (s : List ℕ) (room : ℕ) → Bytes b → opcode s ≡ 0xb8
-    → servedTable b clock s room ≡ keptBy (served b clock s room) b clock
+    → servedTable config b clock s room ≡ keptBy (served config b clock s room) b clock
 
 -- ---- the keys listed
 -- a key with a live document, at or after a start key
@@ -92,17 +93,17 @@ pub record ListsLive (b : List ℕ) (clock : ℕ) (start : Key) (count : ℕ) : 
   pub few : length (listedKeys (docsIn b) clock start count) ≤ count
   pub short : length (listing (docsIn b) clock start count) ≤ 1278
 
-abbrev pub ListingLive : Type 0
-ListingLive = (b : List ℕ) (clock : ℕ) (start : Key) (count : ℕ) → Bytes b → sound b ≡ true → ListsLive b clock start count
+abbrev pub ListingLive : Config → Type 0
+ListingLive config = (b : List ℕ) (clock : ℕ) (start : Key) (count : ℕ) → Bytes b → soundBy config b ≡ true → ListsLive b clock start count
 
 -- two tables with the same documents, whatever the order of their rows and how many are free, list alike
-abbrev pub ListingByDocuments : Type 0
-ListingByDocuments =
-    (b c : List ℕ) → Bytes b → sound b ≡ true → Bytes c → sound c ≡ true → ((k : Key) → docAt b k ≡ docAt c k)
+abbrev pub ListingByDocuments : Config → Type 0
+ListingByDocuments config =
+    (b c : List ℕ) → Bytes b → soundBy config b ≡ true → Bytes c → soundBy config c ≡ true → ((k : Key) → docAt b k ≡ docAt c k)
     → (clock : ℕ) (start : Key) (count : ℕ) → listing (docsIn b) clock start count ≡ listing (docsIn c) clock start count
 
 -- pages of at least two keys, each asked for from the last key of the one before, come to the end: one for each document is enough, so 256 are
-abbrev pub ListingPages : Type 0
-ListingPages =
-    (b : List ℕ) (clock : ℕ) (start : Key) (count : ℕ) → Bytes b → sound b ≡ true → 2 ≤ count
+abbrev pub ListingPages : Config → Type 0
+ListingPages config =
+    (b : List ℕ) (clock : ℕ) (start : Key) (count : ℕ) → Bytes b → soundBy config b ≡ true → 2 ≤ count
     → (length (docsIn b) ≤ 256) × ((n : ℕ) → length (docsIn b) ≤ suc n → pages n (docsIn b) clock start count ≡ keysFrom (docsIn b) clock start)

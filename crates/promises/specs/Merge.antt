@@ -5,6 +5,7 @@ use mathlib.Core.Bool.{true, false}
 use mathlib.Core.List.{List, [], _∷_, _++_, map}
 use mathlib.Core.Option.{Option, some}
 use lib.ListN.{length}
+use Rattle.engine.specs.declared.Config.{Config}
 use Rattle.octets.specs.Parts.{Bytes}
 use Rattle.numbers.specs.declared.Mode.{Mode}
 use Rattle.numbers.specs.declared.Mode.the-variants.{ByRevision, LastWrite}
@@ -20,7 +21,7 @@ use Rattle.request.specs.Reading.{gateOf, frameStatus, extrasSpan, bytesIn}
 use Rattle.decision.specs.Merging.{writeOf}
 use Rattle.decode.specs.Decode.{requestOf}
 use Rattle.rows.specs.Table.{tableOf}
-use Rattle.plain.specs.Damage.{sound}
+use Rattle.engines.specs.Damage.{soundBy}
 use Rattle.rows.specs.Find.{findRow, freeRows}
 use Rattle.merge.specs.Writes.{_∈_, Greatest, optionList, for, isWritten, newKeys, latest, largestCas, verdicts, applied}
 use Rattle.merge.specs.Merge.{All}
@@ -64,10 +65,10 @@ writes cs = map carriedBy cs
 abbrev pub candidates : List ℕ → List Call → Key → List Doc
 candidates b cs k = optionList (docAt b k) ++ for k (writes cs)
 
-pub record Premises (b : List ℕ) (cs : List Call) : Type 0 where
+pub record Premises (config : Config) (b : List ℕ) (cs : List Call) : Type 0 where
   -- "start from any undamaged active table"
   pub bytes : Bytes b
-  pub undamaged : sound b ≡ true
+  pub undamaged : soundBy config b ≡ true
   pub active : tableOf b .head .state ≡ 1
   pub merging : All (MergingCall (modeAt b) (tableOf b .head .vbucket)) cs
   -- "New keys have a write in the list and no row at the start; at least as many rows are free then."
@@ -75,22 +76,22 @@ pub record Premises (b : List ℕ) (cs : List Call) : Type 0 where
   -- "documents for a key that agree in all four numbers being the same"
   pub unique : (k : Key) (x y : Doc) → x ∈ candidates b cs k → y ∈ candidates b cs k → x .numbers ≡ y .numbers → x ≡ y
 
-pub record Merged (b : List ℕ) (cs : List Call) : Type 0 where
+pub record Merged (config : Config) (b : List ℕ) (cs : List Call) : Type 0 where
   -- "each written key ends with the greatest, in the published order, of the documents that its writes carry and the one stored at the start"
   pub winner : (k : Key) → isWritten k (writes cs) ≡ true
-      → (d : Doc) × (docAt (bytesAfter b cs) k ≡ some d) × Greatest (modeAt b) d (candidates b cs k)
+      → (d : Doc) × (docAt (bytesAfter config b cs) k ≡ some d) × Greatest (modeAt b) d (candidates b cs k)
   -- "Every other document is as before, and no other key gains one."
-  pub others : (k : Key) → isWritten k (writes cs) ≡ false → docAt (bytesAfter b cs) k ≡ docAt b k
+  pub others : (k : Key) → isWritten k (writes cs) ≡ false → docAt (bytesAfter config b cs) k ≡ docAt b k
   -- "each with outcome 0"
-  pub served : All (λ n. n ≡ 0) (callOutcomes b cs)
-  pub statuses : callStatuses b cs ≡ verdicts (modeAt b) (docAt b) [] (writes cs)
+  pub served : All (λ n. n ≡ 0) (callOutcomes config b cs)
+  pub statuses : callStatuses config b cs ≡ verdicts (modeAt b) (docAt b) [] (writes cs)
   -- "The mark ends as the largest of itself and the CAS numbers of the writes with status 0"; order 2: "the kept clock ends as the greatest of itself and those given"; nothing else of the head changes
-  pub head : tableOf (bytesAfter b cs) .head
+  pub head : tableOf (bytesAfter config b cs) .head
       ≡ marked (clocked (tableOf b .head) (latest (tableOf b .head .clock) (clocks cs)))
-      (largestCas (tableOf b .head .mark .0) (applied (callStatuses b cs) (writes cs)))
+      (largestCas (tableOf b .head .mark .0) (applied (callStatuses config b cs) (writes cs)))
   -- "in last-write-wins, of all the writes"
-  pub mark-last : modeAt b ≡ LastWrite → tableOf (bytesAfter b cs) .head .mark .0 ≡ largestCas (tableOf b .head .mark .0) (writes cs)
-  pub undamaged : sound (bytesAfter b cs) ≡ true
+  pub mark-last : modeAt b ≡ LastWrite → tableOf (bytesAfter config b cs) .head .mark .0 ≡ largestCas (tableOf b .head .mark .0) (writes cs)
+  pub undamaged : soundBy config (bytesAfter config b cs) ≡ true
 
-abbrev pub Demand3 : Type 0
-Demand3 = (b : List ℕ) (cs : List Call) → Premises b cs → Merged b cs
+abbrev pub Demand3 : Config → Type 0
+Demand3 config = (b : List ℕ) (cs : List Call) → Premises config b cs → Merged config b cs

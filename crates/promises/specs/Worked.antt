@@ -6,6 +6,7 @@ use mathlib.Core.List.{List, [], _∷_, _++_}
 use mathlib.Core.Option.{none, some}
 use lib.ListN.{length}
 use lib.Dec.{eqb}
+use Rattle.engine.specs.declared.Config.{Config}
 use Rattle.numbers.specs.declared.Numbers.{Numbers}
 use Rattle.document.specs.declared.Head.{Head}
 use Rattle.document.specs.Documents.{Key, Doc}
@@ -19,16 +20,16 @@ abbrev numbers : ℕ → ℕ → ℕ → Numbers
 numbers expiry revision cas = record { flags = 0; expiry = expiry; revision = record { 0 = revision }; cas = record { 0 = cas } }
 
 -- a document's value is one byte, its CAS
-abbrev doc : ℕ → ℕ → ℕ → Doc
+abbrev pub doc : ℕ → ℕ → ℕ → Doc
 doc expiry revision cas = record { tomb = false; value = cas ∷ []; numbers = numbers expiry revision cas }
 
-abbrev tombstone : ℕ → ℕ → Doc
+abbrev pub tombstone : ℕ → ℕ → Doc
 tombstone revision cas = record { tomb = true; value = []; numbers = numbers 0 revision cas }
 
-abbrev row : Key → Doc → Row
+abbrev pub row : Key → Doc → Row
 row k d = some (record { key = k; doc = d })
 
-abbrev head : ℕ → ℕ → ℕ → Head
+abbrev pub head : ℕ → ℕ → ℕ → Head
 head mode clock mark = record { state = 1; mode = mode; vbucket = 0; clock = clock; mark = record { 0 = mark } }
 
 -- at the start: `Hello` is stored and long expired, and one row is free
@@ -75,15 +76,15 @@ calls mode =
     ∷ []
 
 -- the list meets the premises, and this is what it gives
-pub record Gives (mode : ℕ) (wanted : List ℕ) (winner : Doc) : Type 0 where
-  pub premises : Premises (table mode) (calls mode)
-  pub merged : Merged (table mode) (calls mode)
-  pub statuses : callStatuses (table mode) (calls mode) ≡ wanted
+pub record Gives (config : Config) (mode : ℕ) (wanted : List ℕ) (winner : Doc) : Type 0 where
+  pub premises : Premises config (table mode) (calls mode)
+  pub merged : Merged config (table mode) (calls mode)
+  pub statuses : callStatuses config (table mode) (calls mode) ≡ wanted
   -- every byte of the table
-  pub after : bytesAfter (table mode) (calls mode) ≡ end mode winner
-  pub hello-ends : docAt (bytesAfter (table mode) (calls mode)) hello ≡ some winner
-  pub mykey-ends : docAt (bytesAfter (table mode) (calls mode)) mykey ≡ some (tombstone 11 61)
+  pub after : bytesAfter config (table mode) (calls mode) ≡ end mode winner
+  pub hello-ends : docAt (bytesAfter config (table mode) (calls mode)) hello ≡ some winner
+  pub mykey-ends : docAt (bytesAfter config (table mode) (calls mode)) mykey ≡ some (tombstone 11 61)
 
-pub record Worked : Type 0 where
-  pub by-revision : Gives 1 (0 ∷ 2 ∷ 2 ∷ 0 ∷ 2 ∷ 0 ∷ 0 ∷ []) (doc 0 6 38)
-  pub last-write : Gives 2 (0 ∷ 2 ∷ 2 ∷ 0 ∷ 2 ∷ 0 ∷ 2 ∷ []) (tombstone 5 41)
+pub record Worked (config : Config) : Type 0 where
+  pub by-revision : Gives config 1 (0 ∷ 2 ∷ 2 ∷ 0 ∷ 2 ∷ 0 ∷ 0 ∷ []) (doc 0 6 38)
+  pub last-write : Gives config 2 (0 ∷ 2 ∷ 2 ∷ 0 ∷ 2 ∷ 0 ∷ 2 ∷ []) (tombstone 5 41)

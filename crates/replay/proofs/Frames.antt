@@ -8,8 +8,10 @@ use lib.ListN.{length, take, drop}
 use lib.Dec.{eqb}
 use lib.Seq.{take-append-seam}
 use borrow.Author.Tests.{eqb-true}
+use Rattle.engine.specs.declared.Config.{Config}
 use Rattle.octets.specs.Parts.{Bytes, part, pasted, written}
 use Rattle.octets.proofs.Lists.{written-fits}
+use Rattle.engines.proofs.Tables.{sound-plain}
 use Rattle.header.specs.declared.Header.{Header}
 use Rattle.header.specs.Header.{headerOf}
 use Rattle.request.specs.declared.Gate.{Gate}
@@ -33,75 +35,75 @@ unfolding pasted
 start-of out xs h = ap (take (length xs)) (written-fits out 0 xs (omega arith)) ∙ take-append-seam xs (drop (0 + length xs) out)
 
 -- ---- a frame that was served
-pub record Sent (b : List ℕ) (clock : ℕ) (s out : List ℕ) (used len : ℕ) : Type 0 where
+pub record Sent (config : Config) (b : List ℕ) (clock : ℕ) (s out : List ℕ) (used len : ℕ) : Type 0 where
   pub consumed : used ≡ 24 + headerOf s .body
-  pub reply : part (servedReply b clock s out) 0 len ≡ sentReply b clock s
+  pub reply : part (servedReply config b clock s out) 0 len ≡ sentReply config b clock s
 
-module _ (b : List ℕ) (clock : ℕ) (s : List ℕ) where
+module _ (config : Config) (b : List ℕ) (clock : ℕ) (s : List ℕ) where
   abbrev SentBy : List ℕ → ℕ → ℕ → Gate → Type 0
   SentBy out used len g = (used ≡ 24 + headerOf s .body) × (part (replyBy b clock s out g) 0 len ≡ replyFor b clock s g)
 
-  sent-by : (out : List ℕ) (st used len : ℕ) (g : Gate) → gateAll b (length out) s ≡ g → Bytes b → answerBy b clock s g ≡ Done st used len → SentBy out used len g
+  pub sent-by : (out : List ℕ) (st used len : ℕ) (g : Gate) → gateAll config b (length out) s ≡ g → Bytes b → answerBy b clock s g ≡ Done st used len → SentBy out used len g
   sent-by out st used len (Stop n need) q y e = absurd (let z : _≡_ {A = ℕ} 0 1 = cc in omega arith)
   sent-by out st used len (Whole h) q y e =
       let l : length (frameReply b clock s h) ≡ len = cc in
       let u : 24 + h .body ≡ used = cc in
-      let w = was-open b s (length out) h q in
-      let m = reply-most b clock s h y (w .undamaged) in (
+      let w = was-open config b s (length out) h q in
+      let m = reply-most b clock s h y (sound-plain config b (w .undamaged)) in (
         sym u ∙ ap (λ (x : Header). 24 + x .body) (sym (w .frame .header)),
         rw (← l) (start-of out (frameReply b clock s h) (omega (arith, m, w .roomy))),
       )
 
-  pub was-sent : (out : List ℕ) (st used len : ℕ) → length out ≡ 1302 → Bytes b → served b clock s (length out) ≡ Done st used len → Sent b clock s out used len
+  pub was-sent : (out : List ℕ) (st used len : ℕ) → length out ≡ 1302 → Bytes b → served config b clock s (length out) ≡ Done st used len → Sent config b clock s out used len
   unfolding served servedReply sentReply
   was-sent out st used len n y e =
-      let w = sent-by out st used len (gateAll b (length out) s) refl y e in
-      record { consumed = w .0; reply = w .1 ∙ ap (λ (k : ℕ). replyFor b clock s (gateAll b k s)) n }
+      let w = sent-by out st used len (gateAll config b (length out) s) refl y e in
+      record { consumed = w .0; reply = w .1 ∙ ap (λ (k : ℕ). replyFor b clock s (gateAll config b k s)) n }
 
 -- ---- a field's frame
-module _ (b : List ℕ) (frame out : List ℕ) (p : Progress) (n : length out ≡ 1302) (y : Bytes b) where
+module _ (config : Config) (b : List ℕ) (frame out : List ℕ) (p : Progress) (n : length out ≡ 1302) (y : Bytes b) where
   abbrev asked : Served
-  asked = served b (p .clock) frame 1302
+  asked = served config b (p .clock) frame 1302
 
   -- at the size of the reply area
-  at-size : served b (p .clock) frame (length out) ≡ asked
-  at-size = ap (served b (p .clock) frame) n
+  at-size : served config b (p .clock) frame (length out) ≡ asked
+  at-size = ap (served config b (p .clock) frame) n
 
   chosen : isOneFrame asked (length frame) ≡ true
-      → _≡_ {A = Turn} (cond (isOneFrame asked (length frame)) (On (withFrame frame (voyageOf b out p))) (End (Stopped (p .at)))) (On (withFrame frame (voyageOf b out p)))
+      → _≡_ {A = Turn} (cond (isOneFrame asked (length frame)) (On (withFrame config frame (voyageOf b out p))) (End (Stopped (p .at)))) (On (withFrame config frame (voyageOf b out p)))
   chosen e = rw e refl
 
-  stays : isOneFrame asked (length frame) ≡ false → FrameTurns b frame out p (Ends (Stopped (p .at))) b out
+  stays : isOneFrame asked (length frame) ≡ false → FrameTurns config b frame out p (Ends (Stopped (p .at))) b out
   stays e = record { turn = rw e refl; leads = refl }
 
   not-one : (r : Served) → asked ≡ r → eqb (24 + headerOf frame .body) (length frame) ≡ false → isOneFrame r (length frame) ≡ false
   not-one (Refused k need) e f = refl
-  not-one (Done st used len) e f = rw (was-sent b (p .clock) frame out st used len n y (at-size ∙ e) .consumed) f
+  not-one (Done st used len) e f = rw (was-sent config b (p .clock) frame out st used len n y (at-size ∙ e) .consumed) f
 
   -- more bytes than one frame's, or fewer
-  pub frame-cut : eqb (24 + headerOf frame .body) (length frame) ≡ false → FrameTurns b frame out p (Ends (Stopped (p .at))) b out
+  pub frame-cut : eqb (24 + headerOf frame .body) (length frame) ≡ false → FrameTurns config b frame out p (Ends (Stopped (p .at))) b out
   frame-cut f = stays (not-one asked refl f)
 
-  module _ (r : Served) (b′ out′ : List ℕ) (q : Serves b (p .clock) frame out r b′ out′) where
-    pub frame-refused : (k need : ℕ) → r ≡ Refused k need → FrameTurns b frame out p (Ends (Stopped (p .at))) b′ out′
+  module _ (r : Served) (b′ out′ : List ℕ) (q : Serves config b (p .clock) frame out r b′ out′) where
+    pub frame-refused : (k need : ℕ) → r ≡ Refused k need → FrameTurns config b frame out p (Ends (Stopped (p .at))) b′ out′
     frame-refused k need e =
         let a : asked ≡ Refused k need = sym at-size ∙ (sym (q .answer) ∙ e) in
         record {
           turn = rw a refl;
-          leads = q .table ∙ refused-keeps b (p .clock) frame out k need (at-size ∙ a) .0;
+          leads = q .table ∙ refused-keeps config b (p .clock) frame out k need (at-size ∙ a) .0;
         }
 
     pub frame-used : (st used len : ℕ) → eqb (24 + headerOf frame .body) (length frame) ≡ true → r ≡ Done st used len → used ≡ length frame
     frame-used st used len f e =
-        was-sent b (p .clock) frame out st used len n y (sym (q .answer) ∙ e) .consumed ∙ eqb-true (24 + headerOf frame .body) (length frame) f
+        was-sent config b (p .clock) frame out st used len n y (sym (q .answer) ∙ e) .consumed ∙ eqb-true (24 + headerOf frame .body) (length frame) f
 
     pub frame-served : (st used len : ℕ) → eqb (24 + headerOf frame .body) (length frame) ≡ true → r ≡ Done st used len
-        → FrameTurns b frame out p (Goes (record { at = p .at + 3 + used; clock = p .clock; frames = p .frames + 1; filled = len })) b′ out′
+        → FrameTurns config b frame out p (Goes (record { at = p .at + 3 + used; clock = p .clock; frames = p .frames + 1; filled = len })) b′ out′
     frame-served st used len f e =
         let a : asked ≡ Done st used len = sym at-size ∙ (sym (q .answer) ∙ e) in
-        let w = was-sent b (p .clock) frame out st used len n y (at-size ∙ a) in
-        let t : b′ ≡ servedTable b (p .clock) frame 1302 = q .table ∙ ap (servedTable b (p .clock) frame) n in
-        let m : part out′ 0 len ≡ sentReply b (p .clock) frame = ap (λ (zs : List ℕ). part zs 0 len) (q .reply) ∙ w .reply in
+        let w = was-sent config b (p .clock) frame out st used len n y (at-size ∙ a) in
+        let t : b′ ≡ servedTable config b (p .clock) frame 1302 = q .table ∙ ap (servedTable config b (p .clock) frame) n in
+        let m : part out′ 0 len ≡ sentReply config b (p .clock) frame = ap (λ (zs : List ℕ). part zs 0 len) (q .reply) ∙ w .reply in
         let one : isOneFrame asked (length frame) ≡ true = ap (λ (z : Served). isOneFrame z (length frame)) a ∙ (ap (λ (z : ℕ). eqb z (length frame)) (w .consumed) ∙ f) in
         let all = frame-used st used len f e in
         record {

@@ -8,11 +8,12 @@ use mathlib.Core.List.{List, []}
 use lib.ListN.{length}
 use lib.Dec.{ltb, eqb}
 use borrow.Author.Tests.{eq-eqb, ltb-false}
+use Rattle.engine.specs.declared.Config.{Config}
 use Rattle.octets.specs.BigEndian.{num}
 use Rattle.octets.proofs.Choices.{cond-elim}
 use Rattle.rows.specs.RowRules.{sizeOk}
 use Rattle.rows.specs.Table.{tableBytes, fresh}
-use Rattle.owner.specs.Owner.{makeOk, made}
+use Rattle.owning.specs.Owner.{makeOk, made}
 use Rattle.trace.specs.declared.Opening.{Opening}
 use Rattle.trace.specs.declared.Opening.the-variants.{Broken, Opened}
 use Rattle.trace.specs.Trace.{openingOf, fieldsIn}
@@ -52,16 +53,16 @@ made-fresh b mode vbucket n (inl e) = rw (n, e) refl
 made-fresh b mode vbucket n (inr e) = rw (n, e) refl
 
 -- ---- what a call leaves
-module _ (b trace : List ℕ) where
+module _ (config : Config) (b trace : List ℕ) where
   abbrev Left : Ending → List ℕ → Type 0
-  Left r b′ = (r ≡ replayed b trace .answer) × (b′ ≡ replayed b trace .table)
+  Left r b′ = (r ≡ replayed config b trace .answer) × (b′ ≡ replayed config b trace .table)
 
   pub other-size : eqb (length b) 42000 ≡ false → Left Damaged b
   unfolding replayed
   other-size e = rw e (refl, refl)
 
   module _ (n : length b ≡ 42000) where
-    by-opening : (o : Opening) → openingOf trace ≡ o → replayed b trace ≡ onOpening b trace o
+    by-opening : (o : Opening) → openingOf trace ≡ o → replayed config b trace ≡ onOpening config b trace o
     unfolding replayed
     by-opening o e = rw (eq-eqb (length b) 42000 n, e) refl
 
@@ -69,9 +70,9 @@ module _ (b trace : List ℕ) where
     unopened e = let w = by-opening Broken e in (sym (ap (λ (x : After). x .answer) w), sym (ap (λ (x : After). x .table) w))
 
     pub opened : (mode vbucket : ℕ) (fresh′ : List ℕ) (r : Ending) (b′ : List ℕ) → openingOf trace ≡ Opened mode vbucket → fresh′ ≡ made b 32 1 mode vbucket
-        → Walks fresh′ trace r b′ → Left r b′
+        → Walks config fresh′ trace r b′ → Left r b′
     opened mode vbucket fresh′ r b′ e f w =
         let t : fresh′ ≡ tableBytes (fresh 32 1 mode vbucket) = f ∙ made-fresh b mode vbucket n (opens trace mode vbucket e .known) in
-        let x : _≡_ {A = After} (record { answer = r; table = b′ }) (replayed b trace) =
-        w .end ∙ ((λ i. walked (record { table = t i; clock = 0; frames = 0; reply = [] }) (fieldsIn trace)) ∙ sym (by-opening (Opened mode vbucket) e)) in
+        let x : _≡_ {A = After} (record { answer = r; table = b′ }) (replayed config b trace) =
+        w .end ∙ ((λ i. walked config (record { table = t i; clock = 0; frames = 0; reply = [] }) (fieldsIn trace)) ∙ sym (by-opening (Opened mode vbucket) e)) in
         (ap (λ (z : After). z .answer) x, ap (λ (z : After). z .table) x)

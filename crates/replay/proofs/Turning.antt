@@ -6,12 +6,13 @@ use mathlib.Core.Bool.{Bool, true, false}
 use mathlib.Core.List.{List}
 use lib.ListN.{length}
 use lib.Dec.{eqb}
+use Rattle.engine.specs.declared.Config.{Config}
 use Rattle.octets.specs.Parts.{part}
 use Rattle.octets.specs.Compare.{same}
 use Rattle.octets.proofs.Choices.{cases}
 use Rattle.octets.proofs.Lists.{part-length}
 use Rattle.numbers.specs.declared.Cas.{Cas}
-use Rattle.owner.specs.Owner.{purgedBytes}
+use Rattle.owning.specs.Owner.{purgedBytes}
 use Rattle.trace.specs.declared.Field.{Field}
 use Rattle.trace.specs.declared.Field.the-variants.{Clock, Frame, Reply, Purge, Broken}
 use Rattle.trace.specs.Trace.{lengthIn, bytesHeld, fieldOf, isBroken}
@@ -31,58 +32,58 @@ module _ (s : List ℕ) where
   pub inside : (f : Field) → fieldOf s ≡ f → isBroken f ≡ false → 3 + lengthIn s ≤ length s
   inside f e k = field-inside s (ap isBroken e ∙ k)
 
-module _ (b s out : List ℕ) (p : Progress) where
-  pub clock-turns : (clock : ℕ) → fieldOf s ≡ Clock clock
-      → Turns b s out p (Goes (record { at = p .at + 3 + 4; clock = clock; frames = p .frames; filled = p .filled })) b out
-  clock-turns clock e = record { turn = rw e refl; leads = (omega (arith, says s (Clock clock) e), omega arith) }
-
-  pub broken-turns : fieldOf s ≡ Broken → Turns b s out p (Ends (Stopped (p .at))) b out
-  broken-turns e = record { turn = rw e refl; leads = refl }
-
   -- the bytes that a field holds, as the code cuts them out
   module _ (f : Field) (len : ℕ) (bytes : List ℕ) (e : fieldOf s ≡ f) (k : isBroken f ≡ false) (l : lengthIn s ≡ len) (x : bytes ≡ part s 3 len) where
     pub held : bytes ≡ bytesHeld s
     held = x ∙ ap (part s 3) (sym l)
 
     pub held-length : length bytes ≡ lengthIn s
-    held-length = ap length held ∙ part-length s 3 (lengthIn s) (inside s f e k)
+    held-length = ap length held ∙ part-length s 3 (lengthIn s) (inside f e k)
+
+module _ (config : Config) (b s out : List ℕ) (p : Progress) where
+  pub clock-turns : (clock : ℕ) → fieldOf s ≡ Clock clock
+      → Turns config b s out p (Goes (record { at = p .at + 3 + 4; clock = clock; frames = p .frames; filled = p .filled })) b out
+  clock-turns clock e = record { turn = rw e refl; leads = (omega (arith, says s (Clock clock) e), omega arith) }
+
+  pub broken-turns : fieldOf s ≡ Broken → Turns config b s out p (Ends (Stopped (p .at))) b out
+  broken-turns e = record { turn = rw e refl; leads = refl }
 
   pub frame-turns : (len : ℕ) (frame : List ℕ) (r : Step) (b′ out′ : List ℕ) → fieldOf s ≡ Frame len → frame ≡ part s 3 len
-      → FrameTurns b frame out p r b′ out′ → Turns b s out p r b′ out′
+      → FrameTurns config b frame out p r b′ out′ → Turns config b s out p r b′ out′
   frame-turns len frame r b′ out′ e x q =
       let l = says s (Frame len) e in
-      let g = held (Frame len) len frame e refl l x in
-      let k = held-length (Frame len) len frame e refl l x in
+      let g = held s (Frame len) len frame e refl l x in
+      let k = held-length s (Frame len) len frame e refl l x in
       let h : Frame (length frame) ≡ fieldOf s = ap Frame (k ∙ l) ∙ sym e in
       record {
-        turn = q .turn ∙ (λ i. onField (p .at) (voyageOf b out p) (h i) (g i));
+        turn = q .turn ∙ (λ i. onField config (p .at) (voyageOf b out p) (h i) (g i));
         leads = subst (λ (n : ℕ). Leads b p n b′ r) k (q .leads);
       }
 
   replied : (len n : ℕ) (bytes : List ℕ) (sent : Bool) → same bytes (part out 0 (p .filled)) ≡ sent
-      → turnOf b out (replyStep sent n p) ≡ onField (p .at) (voyageOf b out p) (Reply len) bytes
+      → turnOf b out (replyStep sent n p) ≡ onField config (p .at) (voyageOf b out p) (Reply len) bytes
   replied len n bytes sent e = cases (eqb (p .frames) 0) (λ t. rw t refl) (λ t. cases sent (λ u. rw (t, e, u) refl) (λ u. rw (t, e, u) refl))
 
   leads-reply : (n : ℕ) (sent : Bool) → n ≡ lengthIn s → Leads b p (lengthIn s) b (replyStep sent n p)
   leads-reply n sent l = cases (eqb (p .frames) 0) (λ t. rw t refl) (λ t. cases sent (λ u. rw (t, u) (omega (arith, l), omega arith)) (λ u. rw (t, u) refl))
 
   pub reply-turns : (len : ℕ) (expected sent : List ℕ) (r : Step) → fieldOf s ≡ Reply len → expected ≡ part s 3 len → sent ≡ part out 0 (p .filled)
-      → r ≡ replyStep (same expected sent) (length expected) p → Turns b s out p r b out
+      → r ≡ replyStep (same expected sent) (length expected) p → Turns config b s out p r b out
   reply-turns len expected sent r e x y q =
       let l = says s (Reply len) e in
-      let g = held (Reply len) len expected e refl l x in
-      let k = held-length (Reply len) len expected e refl l x in
+      let g = held s (Reply len) len expected e refl l x in
+      let k = held-length s (Reply len) len expected e refl l x in
       let t = replied len (length expected) expected (same expected sent) (ap (same expected) (sym y)) in
       record {
-        turn = ap (turnOf b out) q ∙ (t ∙ (λ i. onField (p .at) (voyageOf b out p) (sym e i) (g i)));
+        turn = ap (turnOf b out) q ∙ (t ∙ (λ i. onField config (p .at) (voyageOf b out p) (sym e i) (g i)));
         leads = subst (Leads b p (lengthIn s) b) (sym q) (leads-reply (length expected) (same expected sent) k);
       }
 
-  pub purge-turns : (bound : Cas) (b′ : List ℕ) (q : Progress) → fieldOf s ≡ Purge bound → b′ ≡ purgedBytes b (p .clock) (bound .0) → q ≡ passed p 8
-      → Turns b s out p (Goes q) b′ out
+  pub purge-turns : (bound : Cas) (b′ : List ℕ) (q : Progress) → fieldOf s ≡ Purge bound → b′ ≡ purgedBytes config b (p .clock) (bound .0) → q ≡ passed p 8
+      → Turns config b s out p (Goes q) b′ out
   purge-turns bound b′ q e x y =
       let l = says s (Purge bound) e in
-      subst (λ (z : Progress). Turns b s out p (Goes z) b′ out) (sym y) (record {
-        turn = (λ i. On (voyageOf (x i) out (passed p 8))) ∙ (λ i. onField (p .at) (voyageOf b out p) (sym e i) (bytesHeld s));
+      subst (λ (z : Progress). Turns config b s out p (Goes z) b′ out) (sym y) (record {
+        turn = (λ i. On (voyageOf (x i) out (passed p 8))) ∙ (λ i. onField config (p .at) (voyageOf b out p) (sym e i) (bytesHeld s));
         leads = (omega (arith, l), omega arith);
       })

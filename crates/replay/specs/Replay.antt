@@ -4,11 +4,12 @@ use mathlib.Core.List.{List, [], _∷_}
 use mathlib.Core.Bool.{Bool, false, cond}
 use lib.ListN.{length}
 use lib.Dec.{eqb}
+use Rattle.engine.specs.declared.Config.{Config}
 use Rattle.octets.specs.Compare.{same}
 use Rattle.request.specs.declared.Gate.{Gate}
 use Rattle.request.specs.declared.Gate.the-variants.{Stop, Whole}
 use Rattle.rows.specs.Table.{tableBytes, fresh}
-use Rattle.owner.specs.Owner.{purgedBytes}
+use Rattle.owning.specs.Owner.{purgedBytes}
 use Rattle.serving.specs.declared.Served.{Served}
 use Rattle.serving.specs.declared.Served.the-variants.{Refused, Done}
 use Rattle.serving.specs.Serve.{gateAll, frameReply, served, servedTable}
@@ -38,23 +39,23 @@ abbrev pub replyFor : List ℕ → ℕ → List ℕ → Gate → List ℕ
 replyFor b clock s (Stop n need) = []
 replyFor b clock s (Whole h) = frameReply b clock s h
 
-unfoldable pub sentReply : List ℕ → ℕ → List ℕ → List ℕ
-sentReply b clock s = replyFor b clock s (gateAll b 1302 s)
+unfoldable pub sentReply : Config → List ℕ → ℕ → List ℕ → List ℕ
+sentReply config b clock s = replyFor b clock s (gateAll config b 1302 s)
 
 -- after a field that goes on
 abbrev pub withClock : ℕ → Voyage → Voyage
 withClock clock v = record { table = v .table; clock = clock; frames = v .frames; reply = v .reply }
 
-abbrev pub withFrame : List ℕ → Voyage → Voyage
-withFrame frame v = record {
-  table = servedTable (v .table) (v .clock) frame 1302;
+abbrev pub withFrame : Config → List ℕ → Voyage → Voyage
+withFrame config frame v = record {
+  table = servedTable config (v .table) (v .clock) frame 1302;
   clock = v .clock;
   frames = v .frames + 1;
-  reply = sentReply (v .table) (v .clock) frame;
+  reply = sentReply config (v .table) (v .clock) frame;
 }
 
-abbrev pub withPurge : ℕ → Voyage → Voyage
-withPurge bound v = record { table = purgedBytes (v .table) (v .clock) bound; clock = v .clock; frames = v .frames; reply = v .reply }
+abbrev pub withPurge : Config → ℕ → Voyage → Voyage
+withPurge config bound v = record { table = purgedBytes config (v .table) (v .clock) bound; clock = v .clock; frames = v .frames; reply = v .reply }
 
 -- a field leads on, or to the end
 pub data Turn : Type 0 where
@@ -62,15 +63,15 @@ pub data Turn : Type 0 where
   End : Ending → Turn
 
 -- by the field at a place and the bytes that it holds
-abbrev pub onField : ℕ → Voyage → Field → List ℕ → Turn
-onField at v (Clock clock) bytes = On (withClock clock v)
+abbrev pub onField : Config → ℕ → Voyage → Field → List ℕ → Turn
+onField config at v (Clock clock) bytes = On (withClock clock v)
 -- "a tag 2 field that isn't exactly one frame with outcome 0 [..] stops the replay with its place"
-onField at v (Frame len) bytes = cond (isOneFrame (served (v .table) (v .clock) bytes 1302) len) (On (withFrame bytes v)) (End (Stopped at))
+onField config at v (Frame len) bytes = cond (isOneFrame (served config (v .table) (v .clock) bytes 1302) len) (On (withFrame config bytes v)) (End (Stopped at))
 -- "a tag 3 before any frame [..] stops the replay with its place"; "`differs` and the place of the first tag 3 that isn't the last frame's reply"
-onField at v (Reply len) bytes = cond (eqb (v .frames) 0) (End (Stopped at)) (cond (same bytes (v .reply)) (On v) (End (Differs at)))
-onField at v (Purge bound) bytes = On (withPurge (bound .0) v)
+onField config at v (Reply len) bytes = cond (eqb (v .frames) 0) (End (Stopped at)) (cond (same bytes (v .reply)) (On v) (End (Differs at)))
+onField config at v (Purge bound) bytes = On (withPurge config (bound .0) v)
 -- "An unknown tag [..], wrong length, [..] or a cut field stops the replay with its place"
-onField at v Broken bytes = End (Stopped at)
+onField config at v Broken bytes = End (Stopped at)
 
 -- ---- a voyage
 -- what a replay answers, and the memory that it leaves
@@ -83,22 +84,22 @@ onTurn v (On w) go = go w
 onTurn v (End r) go = record { answer = r; table = v .table }
 
 -- field by field, to the first that ends it; "or `replayed` and the number of frames"
-abbrev pub walked : Voyage → List Placed → After
-walked v [] = record { answer = Replayed (v .frames); table = v .table }
-walked v (p ∷ ps) = onTurn v (onField (p .at) v (p .field) (p .bytes)) (λ w. walked w ps)
+abbrev pub walked : Config → Voyage → List Placed → After
+walked config v [] = record { answer = Replayed (v .frames); table = v .table }
+walked config v (p ∷ ps) = onTurn v (onField config (p .at) v (p .field) (p .bytes)) (λ w. walked config w ps)
 
 -- "on a fresh active table of 32 rows"; "The clock is 0 until a tag 1."
 abbrev pub setOut : ℕ → ℕ → Voyage
 setOut mode vbucket = record { table = tableBytes (fresh 32 1 mode vbucket); clock = 0; frames = 0; reply = [] }
 
 -- "A place is [..] 0 for a bad opening or a trace over 65,536 bytes."
-abbrev pub onOpening : List ℕ → List ℕ → Opening → After
-onOpening b trace NotOpened = record { answer = Stopped 0; table = b }
-onOpening b trace (Opened mode vbucket) = walked (setOut mode vbucket) (fieldsIn trace)
+abbrev pub onOpening : Config → List ℕ → List ℕ → Opening → After
+onOpening config b trace NotOpened = record { answer = Stopped 0; table = b }
+onOpening config b trace (Opened mode vbucket) = walked config (setOut mode vbucket) (fieldsIn trace)
 
 -- a table of 32 rows takes 42,000 bytes; lent memory of another size is refused as in making a table, unchanged
-unfoldable pub replayed : List ℕ → List ℕ → After
-replayed b trace = cond (eqb (length b) 42000) (onOpening b trace (openingOf trace)) (record { answer = Damaged; table = b })
+unfoldable pub replayed : Config → List ℕ → List ℕ → After
+replayed config b trace = cond (eqb (length b) 42000) (onOpening config b trace (openingOf trace)) (record { answer = Damaged; table = b })
 
 -- 01's number for the answer: 5 where the lent memory is of another size
 abbrev pub replayOutcome : Ending → ℕ

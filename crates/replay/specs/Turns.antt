@@ -5,6 +5,7 @@ use mathlib.Core.List.{List, []}
 use mathlib.Core.Bool.{Bool, cond}
 use lib.ListN.{length, drop}
 use lib.Dec.{eqb}
+use Rattle.engine.specs.declared.Config.{Config}
 use Rattle.octets.specs.Parts.{part}
 use Rattle.trace.specs.declared.Field.{Field}
 use Rattle.trace.specs.declared.Field.the-variants.{Frame}
@@ -34,20 +35,20 @@ Leads b p n b′ (Goes q) = (q .at ≡ p .at + (3 + n)) × (q .frames ≤ p .fra
 Leads b p n b′ (Ends r) = b′ ≡ b
 
 -- after a field that holds these bytes
-pub record TurnsBy (b out : List ℕ) (p : Progress) (f : Field) (bytes : List ℕ) (n : ℕ) (r : Step) (b′ out′ : List ℕ) : Type 0 where
-  pub turn : turnOf b′ out′ r ≡ onField (p .at) (voyageOf b out p) f bytes
+pub record TurnsBy (config : Config) (b out : List ℕ) (p : Progress) (f : Field) (bytes : List ℕ) (n : ℕ) (r : Step) (b′ out′ : List ℕ) : Type 0 where
+  pub turn : turnOf b′ out′ r ≡ onField config (p .at) (voyageOf b out p) f bytes
   pub leads : Leads b p n b′ r
 
-abbrev pub FrameTurns : List ℕ → List ℕ → List ℕ → Progress → Step → List ℕ → List ℕ → Type 0
-FrameTurns b frame out p r b′ out′ = TurnsBy b out p (Frame (length frame)) frame (length frame) r b′ out′
+abbrev pub FrameTurns : Config → List ℕ → List ℕ → List ℕ → Progress → Step → List ℕ → List ℕ → Type 0
+FrameTurns config b frame out p r b′ out′ = TurnsBy config b out p (Frame (length frame)) frame (length frame) r b′ out′
 
-abbrev pub Turns : List ℕ → List ℕ → List ℕ → Progress → Step → List ℕ → List ℕ → Type 0
-Turns b s out p r b′ out′ = TurnsBy b out p (fieldOf s) (bytesHeld s) (lengthIn s) r b′ out′
+abbrev pub Turns : Config → List ℕ → List ℕ → List ℕ → Progress → Step → List ℕ → List ℕ → Type 0
+Turns config b s out p r b′ out′ = TurnsBy config b out p (fieldOf s) (bytesHeld s) (lengthIn s) r b′ out′
 
 -- an expected reply of n bytes, the last frame's or not
 abbrev pub replyStep : Bool → ℕ → Progress → Step
 replyStep sent n p = cond (eqb (p .frames) 0) (Ends (Stopped (p .at))) (cond sent (Goes (passed p n)) (Ends (Differs (p .at))))
 
 -- a trace that has opened, on a table's memory
-pub record Walks (b trace : List ℕ) (r : Ending) (b′ : List ℕ) : Type 0 where
-  pub end : _≡_ {A = After} (record { answer = r; table = b′ }) (walked (record { table = b; clock = 0; frames = 0; reply = [] }) (fieldsIn trace))
+pub record Walks (config : Config) (b trace : List ℕ) (r : Ending) (b′ : List ℕ) : Type 0 where
+  pub end : _≡_ {A = After} (record { answer = r; table = b′ }) (walked config (record { table = b; clock = 0; frames = 0; reply = [] }) (fieldsIn trace))

@@ -8,6 +8,7 @@ ghost use Rattle.header.specs.Header.{headerOf};
 ghost use Rattle.octets.specs.Compare.{same};
 ghost use Rattle.replay.specs.Replay.{replayed, walked};
 ghost use Rattle.replay.specs.Turns.{passed, replyStep, FrameTurns, Turns, Walks};
+use engine::Config;
 use run::Cursor;
 use serving::ROOM;
 use serving::Served;
@@ -67,15 +68,15 @@ fn is_one(frame: &[u8]) -> bool
 }
 
 // Serves a field's frame. Where it is more than one frame, or none that can be served, nothing is served and the replay ends.
-fn serve_field(b: &mut [u8], frame: &[u8], out: &mut [u8], p: Progress) -> Step
+fn serve_field(config: Config, b: &mut [u8], frame: &[u8], out: &mut [u8], p: Progress) -> Step
     requires { ⌜ (length (now out) ≡ 1302) × ((p .frames ≤ p .at) × (p .at + (3 + length (now frame)) ≤ 65536)) ⌝ }
-    ensures { λ r. ⌜ FrameTurns (now (b .entry)) (now (frame .entry)) (now (out .entry)) p r (now (b .exit)) (now (out .exit)) ⌝ }
+    ensures { λ r. ⌜ FrameTurns config (now (b .entry)) (now (frame .entry)) (now (out .entry)) p r (now (b .exit)) (now (out .exit)) ⌝ }
 {
     if !is_one(frame) {
         return Step::Ends(Ending::Stopped(p.at));
     }
     let start = Cursor { at: 0 };
-    let moved = start.step(b, p.clock, frame, out);
+    let moved = start.step(config, b, p.clock, frame, out);
     let served = moved.served;
     match served {
         Served::Refused(_, _) => Step::Ends(Ending::Stopped(p.at)),
@@ -103,9 +104,9 @@ fn compare_reply(expected: &[u8], sent: &[u8], p: Progress) -> Step
 }
 
 // Replays the field at the start of s, the trace from a place on.
-fn turn(b: &mut [u8], s: &[u8], out: &mut [u8], p: Progress) -> Step
+fn turn(config: Config, b: &mut [u8], s: &[u8], out: &mut [u8], p: Progress) -> Step
     requires { ⌜ (length (now out) ≡ 1302) × ((p .frames ≤ p .at) × (p .at + length (now s) ≤ 65536)) ⌝ }
-    ensures { λ r. ⌜ Turns (now (b .entry)) (now (s .entry)) (now (out .entry)) p r (now (b .exit)) (now (out .exit)) ⌝ }
+    ensures { λ r. ⌜ Turns config (now (b .entry)) (now (s .entry)) (now (out .entry)) p r (now (b .exit)) (now (out .exit)) ⌝ }
 {
     match trace::field_of(s) {
         Field::Clock(clock) => Step::Goes(Progress {
@@ -114,14 +115,14 @@ fn turn(b: &mut [u8], s: &[u8], out: &mut [u8], p: Progress) -> Step
             frames: p.frames,
             filled: p.filled,
         }),
-        Field::Frame(len) => serve_field(b, octets::part(s, FRONT, len), out, p),
+        Field::Frame(len) => serve_field(config, b, octets::part(s, FRONT, len), out, p),
         Field::Reply(len) => compare_reply(
             octets::part(s, FRONT, len),
             octets::part(out, 0, p.filled),
             p,
         ),
         Field::Purge(bound) => {
-            owner::purge(b, p.clock, bound);
+            owner::purge(config, b, p.clock, bound);
             Step::Goes(passed(p, 8))
         }
         Field::Broken => Step::Ends(Ending::Stopped(p.at)),
@@ -129,9 +130,9 @@ fn turn(b: &mut [u8], s: &[u8], out: &mut [u8], p: Progress) -> Step
 }
 
 // Replays the fields of a trace on a table, one after another, until one ends it.
-fn replay_fields(b: &mut [u8], trace: &[u8], out: &mut [u8]) -> Ending
+fn replay_fields(config: Config, b: &mut [u8], trace: &[u8], out: &mut [u8]) -> Ending
     requires { ⌜ (length (now out) ≡ 1302) × ((3 ≤ length (now trace)) × (length (now trace) ≤ 65536)) ⌝ }
-    ensures { λ r. ⌜ Walks (now (b .entry)) (now (trace .entry)) r (now (b .exit)) ⌝ }
+    ensures { λ r. ⌜ Walks config (now (b .entry)) (now (trace .entry)) r (now (b .exit)) ⌝ }
 {
     let mut p = Progress {
         at: OPENING,
@@ -144,7 +145,7 @@ fn replay_fields(b: &mut [u8], trace: &[u8], out: &mut [u8]) -> Ending
         if trace.len() <= at {
             return Ending::Replayed(p.frames);
         }
-        match turn(b, octets::rest(trace, at), out, p) {
+        match turn(config, b, octets::rest(trace, at), out, p) {
             Step::Goes(next) => {
                 p = next;
             }
@@ -156,8 +157,8 @@ fn replay_fields(b: &mut [u8], trace: &[u8], out: &mut [u8]) -> Ending
 }
 
 // Replays a trace on a fresh active table of 32 rows, made in lent memory, which is left as the voyage leaves it.
-pub fn replay(b: &mut [u8], trace: &[u8]) -> Ending
-    ensures { λ r. ⌜ (r ≡ replayed (now (b .entry)) (now (trace .entry)) .answer) × (now (b .exit) ≡ replayed (now (b .entry)) (now (trace .entry)) .table) ⌝ }
+pub fn replay(config: Config, b: &mut [u8], trace: &[u8]) -> Ending
+    ensures { λ r. ⌜ (r ≡ replayed config (now (b .entry)) (now (trace .entry)) .answer) × (now (b .exit) ≡ replayed config (now (b .entry)) (now (trace .entry)) .table) ⌝ }
 {
     if b.len() != SIZE {
         return Ending::Damaged;
@@ -167,7 +168,7 @@ pub fn replay(b: &mut [u8], trace: &[u8]) -> Ending
         Opening::Opened(mode, vbucket) => {
             let mut out = [0u8; ROOM];
             owner::make(b, ROWS, ACTIVE, mode, vbucket);
-            replay_fields(b, trace, &mut out)
+            replay_fields(config, b, trace, &mut out)
         }
     }
 }

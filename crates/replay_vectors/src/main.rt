@@ -6,13 +6,16 @@
 // TRACE is segments, a + between two: hexadecimal digits, with *N behind them where their bytes stand N times, N of 1 to 5 decimal
 // digits. Any other line is answered by `what?`, and so is one that spells 70,000 bytes or more. The input is read up to 262,144 bytes.
 //
-// Each trace is replayed in memory filled with ee. Where it stops at 0, ` CHANGED` follows unless the memory is as it was. If memory
-// one byte short or one too long isn't refused unchanged, `WRONG SIZE TAKEN` is the first line.
+// Each trace is replayed on rows in key order, in memory filled with ee. Where it stops at 0, ` CHANGED` follows unless the memory is
+// as it was. ` ENGINES DIFFER` follows if the plain engine answers otherwise, or leaves other documents. If memory one byte short or
+// one too long isn't refused unchanged, `WRONG SIZE TAKEN` is the first line.
+mod alike;
 mod text;
 
 ghost use mathlib.Core.Path.{_≡_};
 ghost use Prim.Native.Nat.{_≤_};
 ghost use lib.ListN.{length};
+use engine::Config;
 use replay::Ending;
 
 const FILL: u8 = 0xee;
@@ -66,41 +69,70 @@ fn is_refused(r: Ending) -> bool {
     }
 }
 
-fn is_damaged(r: Ending) -> bool {
+// Which ending it is, and its number.
+fn kind_of(r: Ending) -> u8 {
     match r {
-        Ending::Damaged => true,
-        _ => false,
+        Ending::Damaged => 0,
+        Ending::Differs(_) => 1,
+        Ending::Stopped(_) => 2,
+        Ending::Replayed(_) => 3,
     }
 }
 
-// Replays a trace in the first n bytes of memory.
-fn replay_in(memory: &mut [u8], n: usize, trace: &[u8]) -> Ending
-    requires { ⌜ n ≤ length (now memory) ⌝ }
-{
-    replay::replay(&mut memory[..n], trace)
+fn number_of(r: Ending) -> usize {
+    match r {
+        Ending::Damaged => 0,
+        Ending::Differs(at) => at,
+        Ending::Stopped(at) => at,
+        Ending::Replayed(n) => n,
+    }
 }
 
-fn answer_in(after: &mut [u8], before: &[u8], trace: &[u8])
+fn is_same(r: Ending, s: Ending) -> bool {
+    (kind_of(r) == kind_of(s)) & (number_of(r) == number_of(s))
+}
+
+// Replays a trace in the first n bytes of memory.
+fn replay_in(config: Config, memory: &mut [u8], n: usize, trace: &[u8]) -> Ending
+    requires { ⌜ n ≤ length (now memory) ⌝ }
+{
+    replay::replay(config, &mut memory[..n], trace)
+}
+
+fn answer_in(after: &mut [u8], before: &[u8], trace: &[u8]) -> Ending
     requires { ⌜ 42001 ≤ length (now after) ⌝ }
 {
-    let r = replay_in(after, replay::SIZE, trace);
+    let r = replay_in(engine::config_for(false), after, replay::SIZE, trace);
     say_answer(r);
     if is_refused(r) & !compare::same(after, before) {
         say(b" CHANGED");
+    }
+    r
+}
+
+// Replays the trace on the plain engine too, and says whether that comes out otherwise.
+fn compare_in(other: &mut [u8], after: &[u8], r: Ending, trace: &[u8])
+    requires { ⌜ 42001 ≤ length (now other) ⌝ }
+{
+    let plain = replay_in(engine::config_for(true), other, replay::SIZE, trace);
+    if !(is_same(r, plain) & alike::are_alike(after, other)) {
+        say(b" ENGINES DIFFER");
     }
 }
 
 fn answer_trace(trace: &[u8]) {
     let before = memory();
     let mut after = memory();
-    answer_in(&mut after, &before, trace);
+    let mut other = memory();
+    let r = answer_in(&mut after, &before, trace);
+    compare_in(&mut other, &after, r, trace);
 }
 
 fn is_left_in(after: &mut [u8], before: &[u8], n: usize) -> bool
     requires { ⌜ n ≤ length (now after) ⌝ }
 {
-    let r = replay_in(after, n, b"\x01\0\x07");
-    is_damaged(r) & compare::same(after, before)
+    let r = replay_in(engine::config_for(false), after, n, b"\x01\0\x07");
+    (kind_of(r) == 0) & compare::same(after, before)
 }
 
 // Whether memory of so many bytes is refused and stays as it was.

@@ -17,6 +17,8 @@ use Rattle.octets.proofs.Choices.{both, cond-elim}
 use Rattle.octets.proofs.Lists.{part-length}
 use Rattle.octets.proofs.Options.{none-some}
 use Rattle.document.specs.Documents.{Entry}
+use Rattle.document.specs.declared.Stored.the-variants.{Used}
+use Rattle.document.specs.Stored.{metadataOf, alive, live}
 use Rattle.rows.specs.Row.{slotOf, docOf, keyOf, rowOf}
 use Rattle.rows.specs.Table.{chunks, rowCount, rowsOf, tableOf, rowAt}
 use Rattle.rows.specs.RowRules.{sizeOk, usedOk, rowSound, allSound}
@@ -46,6 +48,10 @@ module _ (r : List ℕ) where
   pub row-used : (num r 0 2 ≡ 0 → ⊥) → rowOf r ≡ some (record { key = keyOf r; doc = docOf r })
   unfolding rowOf slotOf
   row-used e = rw (ne-eqb (num r 0 2) 0 e)
+
+  pub row-alive : (clock kind expiry : ℕ) → kind ≡ num r 0 2 → expiry ≡ num r 12 4 → live (Used (metadataOf (docOf r))) clock ≡ alive (eqb kind 2) expiry clock
+  unfolding live docOf slotOf
+  row-alive clock kind expiry k e = rw (k, e)
 
   pub sound-free : (mark : ℕ) → num r 0 2 ≡ 0 → rowSound mark r ≡ zeros r
   unfolding rowSound slotOf

@@ -4,6 +4,7 @@ use Prim.Native.Nat.{ℕ, _+_, _≤_}
 use mathlib.Core.Path.{_≡_, refl, subst}
 use mathlib.Core.List.{List}
 use lib.ListN.{length}
+use Rattle.engine.specs.declared.Config.{Config}
 use Rattle.request.specs.declared.Gate.{Gate}
 use Rattle.request.specs.declared.Gate.the-variants.{Stop, Whole}
 use Rattle.serving.specs.declared.Served.{Served}
@@ -13,16 +14,16 @@ use Rattle.serving.specs.Serves.{Serves}
 use Rattle.run.specs.declared.Moved.{Moved}
 use Rattle.run.specs.Run.{movedBy}
 
-used-by : (b : List ℕ) (clock : ℕ) (s : List ℕ) (room : ℕ) (g : Gate) → gateAll b room s ≡ g → servedUsed (served b clock s room) ≤ length s
+used-by : (config : Config) (b : List ℕ) (clock : ℕ) (s : List ℕ) (room : ℕ) (g : Gate) → gateAll config b room s ≡ g → servedUsed (served config b clock s room) ≤ length s
 unfolding served
-used-by b clock s room (Stop k need) q = rw q (omega arith)
-used-by b clock s room (Whole h) q = rw q (was-open b s room h q .frame .inside)
+used-by config b clock s room (Stop k need) q = rw q (omega arith)
+used-by config b clock s room (Whole h) q = rw q (was-open config b s room h q .frame .inside)
 
-pub used-fits : (b : List ℕ) (clock : ℕ) (s : List ℕ) (room : ℕ) → servedUsed (served b clock s room) ≤ length s
-used-fits b clock s room = used-by b clock s room (gateAll b room s) refl
+pub used-fits : (config : Config) (b : List ℕ) (clock : ℕ) (s : List ℕ) (room : ℕ) → servedUsed (served config b clock s room) ≤ length s
+used-fits config b clock s room = used-by config b clock s room (gateAll config b room s) refl
 
-pub moved-eq : (at : ℕ) (b : List ℕ) (clock : ℕ) (s s′ r : List ℕ) (x : Served) (used : ℕ) (b′ r′ : List ℕ) → s ≡ s′ → used ≡ servedUsed x
-    → Serves b clock s r x b′ r′
-    → (_≡_ {A = Moved} (record { cursor = record { at = at + used }; served = x }) (movedBy at x)) × Serves b clock s′ r x b′ r′
+pub moved-eq : (config : Config) (at : ℕ) (b : List ℕ) (clock : ℕ) (s s′ r : List ℕ) (x : Served) (used : ℕ) (b′ r′ : List ℕ) → s ≡ s′ → used ≡ servedUsed x
+    → Serves config b clock s r x b′ r′
+    → (_≡_ {A = Moved} (record { cursor = record { at = at + used }; served = x }) (movedBy at x)) × Serves config b clock s′ r x b′ r′
 unfolding movedBy
-moved-eq at b clock s s′ r x used b′ r′ e u q = (rw u, subst (λ (z : List ℕ). Serves b clock z r x b′ r′) e q)
+moved-eq config at b clock s s′ r x used b′ r′ e u q = (rw u, subst (λ (z : List ℕ). Serves config b clock z r x b′ r′) e q)

@@ -6,6 +6,8 @@ use mathlib.Core.List.{List, _++_, append-nil}
 use lib.ListN.{length, take, drop, length-drop, drop-of-length-le, take-append-drop}
 use lib.Seq.{take-all}
 use borrow.Rule.Slice.PartMut.{midOf, putMid}
+use Rattle.engine.specs.declared.Config.{Config}
+use Rattle.engines.proofs.Tables.{sound-plain}
 use Rattle.octets.specs.Parts.{Bytes}
 use Rattle.request.specs.declared.Gate.{Gate}
 use Rattle.request.specs.declared.Gate.the-variants.{Stop, Whole}
@@ -28,67 +30,68 @@ pub record Told (b s : List ℕ) (room used len : ℕ) : Type 0 where
   pub inside : used ≤ length s
   pub fits : Bytes b → len ≤ room
 
-done-by : (b s : List ℕ) (clock room st used len : ℕ) (g : Gate) → gateAll b room s ≡ g → answerBy b clock s g ≡ Done st used len → Told b s room used len
-done-by b s clock room st used len (Stop k need) q e = absurd (let y : _≡_ {A = ℕ} 0 1 = cc in omega arith)
-done-by b s clock room st used len (Whole h) q e =
+done-by : (config : Config) (b s : List ℕ) (clock room st used len : ℕ) (g : Gate) → gateAll config b room s ≡ g → answerBy b clock s g ≡ Done st used len → Told b s room used len
+done-by config b s clock room st used len (Stop k need) q e = absurd (let y : _≡_ {A = ℕ} 0 1 = cc in omega arith)
+done-by config b s clock room st used len (Whole h) q e =
     let u : 24 + h .body ≡ used = cc in
     let l : length (frameReply b clock s h) ≡ len = cc in
-    let w = was-open b s room h q in
+    let w = was-open config b s room h q in
     record {
       least = omega arith;
       inside = omega (arith, w .frame .inside);
-      fits = λ y. omega (arith, reply-most b clock s h y (w .undamaged), w .roomy);
+      fits = λ y. omega (arith, reply-most b clock s h y (sound-plain config b (w .undamaged)), w .roomy);
     }
 
-done-told : (b s : List ℕ) (clock room st used len : ℕ) → served b clock s room ≡ Done st used len → Told b s room used len
+done-told : (config : Config) (b s : List ℕ) (clock room st used len : ℕ) → served config b clock s room ≡ Done st used len → Told b s room used len
 unfolding served
-done-told b s clock room st used len e = done-by b s clock room st used len (gateAll b room s) refl e
+done-told config b s clock room st used len e = done-by config b s clock room st used len (gateAll config b room s) refl e
 
 -- ---- the calls of a run
 by-served {ℓ} : {X : Type ℓ} (r : Served) → ((n need : ℕ) → r ≡ Refused n need → X) → ((st used len : ℕ) → r ≡ Done st used len → X) → X
 by-served (Refused n need) f g = f n need refl
 by-served (Done st used len) f g = g st used len refl
 
-module _ (clock : ℕ) (run : List ℕ) where
+module _ (config : Config) (clock : ℕ) (run : List ℕ) where
   abbrev on : ℕ → Stand → Served → Stand
-  on n x r = onDone r x (λ st used len. standAfter n clock run (further clock run x st used len))
+  on n x r = onDone r x (λ st used len. standAfter config n clock run (further config clock run x st used len))
 
-  stops : (n k need : ℕ) (x : Stand) → calledOn clock run x ≡ Refused k need → standAfter n clock run x ≡ x
+  stops : (n k need : ℕ) (x : Stand) → calledOn config clock run x ≡ Refused k need → standAfter config n clock run x ≡ x
   unfolding standAfter
   stops zero k need x e = refl
   stops (suc n) k need x e = ap (on n x) e
 
-  goes : (n st used len : ℕ) (x : Stand) → calledOn clock run x ≡ Done st used len → standAfter (suc n) clock run x ≡ standAfter n clock run (further clock run x st used len)
+  goes : (n st used len : ℕ) (x : Stand) → calledOn config clock run x ≡ Done st used len
+      → standAfter config (suc n) clock run x ≡ standAfter config n clock run (further config clock run x st used len)
   unfolding standAfter
   goes n st used len x e = ap (on n x) e
 
-  told : (x : Stand) (st used len : ℕ) → calledOn clock run x ≡ Done st used len → Told (x .table) (drop (x .at) run) (length (x .reply) - x .filled) used len
-  told x st used len e = done-told (x .table) (drop (x .at) run) clock (length (x .reply) - x .filled) st used len e
+  told : (x : Stand) (st used len : ℕ) → calledOn config clock run x ≡ Done st used len → Told (x .table) (drop (x .at) run) (length (x .reply) - x .filled) used len
+  told x st used len e = done-told config (x .table) (drop (x .at) run) clock (length (x .reply) - x .filled) st used len e
 
   -- no more calls than bytes are left
-  enough : (n : ℕ) (x : Stand) → length run - x .at ≤ n → standAfter (suc n) clock run x ≡ standAfter n clock run x
+  enough : (n : ℕ) (x : Stand) → length run - x .at ≤ n → standAfter config (suc n) clock run x ≡ standAfter config n clock run x
   enough zero x h =
-      by-served (calledOn clock run x)
+      by-served (calledOn config clock run x)
       (λ k need e. stops 1 k need x e ∙ sym (stops 0 k need x e))
       (λ st used len e. let t = told x st used len e in absurd (omega (arith, t .least, t .inside, length-drop (x .at) run)))
   enough (suc n) x h =
-      by-served (calledOn clock run x)
+      by-served (calledOn config clock run x)
       (λ k need e. stops (suc (suc n)) k need x e ∙ sym (stops (suc n) k need x e))
       (λ st used len e.
       let t = told x st used len e in
-      goes (suc n) st used len x e ∙ (enough n (further clock run x st used len) (omega (arith, t .least, t .inside, length-drop (x .at) run)) ∙ sym (goes n st used len x e)))
+      goes (suc n) st used len x e ∙ (enough n (further config clock run x st used len) (omega (arith, t .least, t .inside, length-drop (x .at) run)) ∙ sym (goes n st used len x e)))
 
-  run-on : (x : Stand) (st used len : ℕ) → calledOn clock run x ≡ Done st used len → runEnd clock run x ≡ runEnd clock run (further clock run x st used len)
+  run-on : (x : Stand) (st used len : ℕ) → calledOn config clock run x ≡ Done st used len → runEnd config clock run x ≡ runEnd config clock run (further config clock run x st used len)
   unfolding runEnd
   run-on x st used len e = sym (enough (length run) x (omega arith)) ∙ goes (length run) st used len x e
 
-  run-ends : (x : Stand) (k need : ℕ) → calledOn clock run x ≡ Refused k need → runEnd clock run x ≡ x
+  run-ends : (x : Stand) (k need : ℕ) → calledOn config clock run x ≡ Refused k need → runEnd config clock run x ≡ x
   unfolding runEnd
   run-ends x k need e = stops (length run) k need x e
 
 -- ---- one turn of the loop: the part of the reply area past the replies is lent to the step
-module _ (clock : ℕ) (run b out : List ℕ) (t : Tally) (at filled : ℕ) (f : filled ≤ length out) (m : Moved) (b′ ys : List ℕ)
-    (moves : m ≡ movedBy at (m .served)) (q : Serves b clock (drop at run) (midOf filled (length out - filled) out) (m .served) b′ ys) where
+module _ (config : Config) (clock : ℕ) (run b out : List ℕ) (t : Tally) (at filled : ℕ) (f : filled ≤ length out) (m : Moved) (b′ ys : List ℕ)
+    (moves : m ≡ movedBy at (m .served)) (q : Serves config b clock (drop at run) (midOf filled (length out - filled) out) (m .served) b′ ys) where
   abbrev now : Stand
   now = record { table = b; reply = out; tally = t; at = at; filled = filled }
 
@@ -101,17 +104,17 @@ module _ (clock : ℕ) (run b out : List ℕ) (t : Tally) (at filled : ℕ) (f :
   put : putMid filled (length out - filled) out ys ≡ take filled out ++ ys
   put = ap (λ (zs : List ℕ). take filled out ++ zs) (ap (λ (zs : List ℕ). ys ++ zs) (drop-of-length-le (drop filled out) {i = length out - filled} (omega (arith, room))) ∙ append-nil ys)
 
-  answer : m .served ≡ served b clock (drop at run) (length (drop filled out))
-  answer = q .answer ∙ (λ i. served b clock (drop at run) (length (mid i)))
+  answer : m .served ≡ served config b clock (drop at run) (length (drop filled out))
+  answer = q .answer ∙ (λ i. served config b clock (drop at run) (length (mid i)))
 
-  left : b′ ≡ servedTable b clock (drop at run) (length (drop filled out))
-  left = q .table ∙ (λ i. servedTable b clock (drop at run) (length (mid i)))
+  left : b′ ≡ servedTable config b clock (drop at run) (length (drop filled out))
+  left = q .table ∙ (λ i. servedTable config b clock (drop at run) (length (mid i)))
 
-  reply : ys ≡ servedReply b clock (drop at run) (drop filled out)
-  reply = q .reply ∙ ap (servedReply b clock (drop at run)) mid
+  reply : ys ≡ servedReply config b clock (drop at run) (drop filled out)
+  reply = q .reply ∙ ap (servedReply config b clock (drop at run)) mid
 
-  called : m .served ≡ calledOn clock run now
-  called = answer ∙ ap (served b clock (drop at run)) room
+  called : m .served ≡ calledOn config clock run now
+  called = answer ∙ ap (served config b clock (drop at run)) room
 
   -- where the cursor is handed back
   moved-to : (r : Served) → m .served ≡ r → m .cursor ≡ record { at = at + servedUsed r }
@@ -119,31 +122,31 @@ module _ (clock : ℕ) (run b out : List ℕ) (t : Tally) (at filled : ℕ) (f :
   moved-to r e = ap (λ (x : Moved). x .cursor) moves ∙ (λ i. record { at = at + servedUsed (e i) })
 
   pub turn-told : (st used len : ℕ) → m .served ≡ Done st used len → Told b (drop at run) (length out - filled) used len
-  turn-told st used len e = told clock run now st used len (sym called ∙ e)
+  turn-told st used len e = told config clock run now st used len (sym called ∙ e)
 
   pub turn-at : (st used len : ℕ) → m .served ≡ Done st used len → m .cursor .at ≡ at + used
   turn-at st used len e = ap (λ (x : Cursor). x .at) (moved-to (Done st used len) e)
 
   pub turn-on : (st used len : ℕ) → m .served ≡ Done st used len → (t′ : Tally) → t′ ≡ countedOf t (Done st used len)
-      → runEnd clock run now ≡ runEnd clock run (record { table = b′; reply = putMid filled (length out - filled) out ys; tally = t′; at = m .cursor .at; filled = filled + len })
+      → runEnd config clock run now ≡ runEnd config clock run (record { table = b′; reply = putMid filled (length out - filled) out ys; tally = t′; at = m .cursor .at; filled = filled + len })
   turn-on st used len e t′ et =
-      let y = left ∙ ap (servedTable b clock (drop at run)) room in
+      let y = left ∙ ap (servedTable config b clock (drop at run)) room in
       let z = put ∙ ap (λ (zs : List ℕ). take filled out ++ zs) reply in
       let c = turn-at st used len e in
-      run-on clock run now st used len (sym called ∙ e)
-      ∙ sym (λ i. runEnd clock run (record { table = y i; reply = z i; tally = et i; at = c i; filled = filled + len }))
+      run-on config clock run now st used len (sym called ∙ e)
+      ∙ sym (λ i. runEnd config clock run (record { table = y i; reply = z i; tally = et i; at = c i; filled = filled + len }))
 
-  pub turn-ends : (n need : ℕ) → m .served ≡ Refused n need → (y : Stand) → runEnd clock run now ≡ runEnd clock run y
-      → (_≡_ {A = Ran} (record { cursor = m .cursor; filled = filled; tally = t; stop = m .served }) (ranOf clock run (runEnd clock run y)))
-      × ((b′ ≡ runEnd clock run y .table) × (putMid filled (length out - filled) out ys ≡ runEnd clock run y .reply))
+  pub turn-ends : (n need : ℕ) → m .served ≡ Refused n need → (y : Stand) → runEnd config clock run now ≡ runEnd config clock run y
+      → (_≡_ {A = Ran} (record { cursor = m .cursor; filled = filled; tally = t; stop = m .served }) (ranOf config clock run (runEnd config clock run y)))
+      × ((b′ ≡ runEnd config clock run y .table) × (putMid filled (length out - filled) out ys ≡ runEnd config clock run y .reply))
   unfolding ranOf
   turn-ends n need e y p =
-      let x : now ≡ runEnd clock run y = sym (run-ends clock run now n need (sym called ∙ e)) ∙ p in
-      let k = refused-keeps b clock (drop at run) (drop filled out) n need (sym answer ∙ e) in
+      let x : now ≡ runEnd config clock run y = sym (run-ends config clock run now n need (sym called ∙ e)) ∙ p in
+      let k = refused-keeps config b clock (drop at run) (drop filled out) n need (sym answer ∙ e) in
       let stays : _≡_ {A = ℕ} (at + 0) at = omega arith in
-      let a : _≡_ {A = Ran} (record { cursor = m .cursor; filled = filled; tally = t; stop = m .served }) (ranOf clock run now) =
+      let a : _≡_ {A = Ran} (record { cursor = m .cursor; filled = filled; tally = t; stop = m .served }) (ranOf config clock run now) =
       λ i. record { cursor = (moved-to (Refused n need) e ∙ (λ j. record { at = stays j })) i; filled = filled; tally = t; stop = called i } in (
-        a ∙ ap (ranOf clock run) x,
+        a ∙ ap (ranOf config clock run) x,
         (
           (left ∙ k .0) ∙ ap (λ (z : Stand). z .table) x,
           (put ∙ (ap (λ (zs : List ℕ). take filled out ++ zs) (reply ∙ k .1) ∙ take-append-drop filled out)) ∙ ap (λ (z : Stand). z .reply) x,

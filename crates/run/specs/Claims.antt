@@ -4,12 +4,13 @@ use mathlib.Core.Path.{_≡_}
 use mathlib.Core.Bool.{true}
 use mathlib.Core.List.{List, []}
 use lib.ListN.{length}
-use Rattle.plain.specs.Damage.{sound}
+use Rattle.engine.specs.declared.Config.{Config}
+use Rattle.engines.specs.Damage.{soundBy}
 use Rattle.serving.specs.declared.Served.the-variants.{Refused}
 use Rattle.serving.specs.Serve.{served}
 use Rattle.run.specs.Run.{seen}
 
-abbrev pub PastEnd : Type 0
-PastEnd =
+abbrev pub PastEnd : Config → Type 0
+PastEnd config =
     (b : List ℕ) (clock : ℕ) (run : List ℕ) (at room : ℕ) → length run ≤ at
-    → (seen at run ≡ []) × (sound b ≡ true → 1302 ≤ room → served b clock (seen at run) room ≡ Refused 1 24)
+    → (seen at run ≡ []) × (soundBy config b ≡ true → 1302 ≤ room → served config b clock (seen at run) room ≡ Refused 1 24)

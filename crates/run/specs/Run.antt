@@ -2,6 +2,7 @@
 use Prim.Native.Nat.{ℕ, zero, suc, _+_, _-_}
 use mathlib.Core.List.{List, _++_}
 use lib.ListN.{length, take, drop}
+use Rattle.engine.specs.declared.Config.{Config}
 use Rattle.serving.specs.declared.Served.{Served}
 use Rattle.serving.specs.declared.Served.the-variants.{Refused, Done}
 use Rattle.serving.specs.Serve.{servedUsed, served, servedTable, servedReply}
@@ -27,14 +28,14 @@ pub record Stand : Type 0 where
   pub at : ℕ
   pub filled : ℕ
 
-abbrev pub calledOn : ℕ → List ℕ → Stand → Served
-calledOn clock run x = served (x .table) clock (seen (x .at) run) (length (x .reply) - x .filled)
+abbrev pub calledOn : Config → ℕ → List ℕ → Stand → Served
+calledOn config clock run x = served config (x .table) clock (seen (x .at) run) (length (x .reply) - x .filled)
 
 -- after one more call that was not refused
-abbrev pub further : ℕ → List ℕ → Stand → ℕ → ℕ → ℕ → Stand
-further clock run x status used len = record {
-  table = servedTable (x .table) clock (seen (x .at) run) (length (x .reply) - x .filled);
-  reply = take (x .filled) (x .reply) ++ servedReply (x .table) clock (seen (x .at) run) (drop (x .filled) (x .reply));
+abbrev pub further : Config → ℕ → List ℕ → Stand → ℕ → ℕ → ℕ → Stand
+further config clock run x status used len = record {
+  table = servedTable config (x .table) clock (seen (x .at) run) (length (x .reply) - x .filled);
+  reply = take (x .filled) (x .reply) ++ servedReply config (x .table) clock (seen (x .at) run) (drop (x .filled) (x .reply));
   tally = countedOf (x .tally) (Done status used len);
   at = x .at + used;
   filled = x .filled + len;
@@ -45,17 +46,17 @@ onDone (Refused n need) x go = x
 onDone (Done status used len) x go = go status used len
 
 -- after at most n calls that were not refused
-unfoldable pub standAfter : ℕ → ℕ → List ℕ → Stand → Stand
-standAfter zero clock run x = x
-standAfter (suc n) clock run x = onDone (calledOn clock run x) x (λ status used len. standAfter n clock run (further clock run x status used len))
+unfoldable pub standAfter : Config → ℕ → ℕ → List ℕ → Stand → Stand
+standAfter config zero clock run x = x
+standAfter config (suc n) clock run x = onDone (calledOn config clock run x) x (λ status used len. standAfter config n clock run (further config clock run x status used len))
 
 -- a frame takes 24 bytes at least, so a run has no more frames than bytes, and the call after the last of them is refused
-unfoldable pub runEnd : ℕ → List ℕ → Stand → Stand
+unfoldable pub runEnd : Config → ℕ → List ℕ → Stand → Stand
 unfolding standAfter
-runEnd clock run x = standAfter (length run) clock run x
+runEnd config clock run x = standAfter config (length run) clock run x
 
 abbrev pub begun : List ℕ → List ℕ → Tally → Stand
 begun b out t = record { table = b; reply = out; tally = t; at = 0; filled = 0 }
 
-unfoldable pub ranOf : ℕ → List ℕ → Stand → Ran
-ranOf clock run x = record { cursor = record { at = x .at }; filled = x .filled; tally = x .tally; stop = calledOn clock run x }
+unfoldable pub ranOf : Config → ℕ → List ℕ → Stand → Ran
+ranOf config clock run x = record { cursor = record { at = x .at }; filled = x .filled; tally = x .tally; stop = calledOn config clock run x }

@@ -4,6 +4,7 @@ ghost use Rattle.run.specs.Run.{seen, movedBy, begun, runEnd, ranOf};
 ghost use Rattle.serving.specs.Serve.{servedUsed};
 ghost use Rattle.serving.specs.Serves.{Serves};
 ghost use Rattle.tally.specs.Serves.{ServesCounted};
+use engine::Config;
 use serving::Served;
 use tally::Tally;
 
@@ -24,7 +25,7 @@ pub struct Ran {
     pub stop: Served,
 }
 
-fn used_of(r: Served) -> usize
+pub fn used_of(r: Served) -> usize
     ensures { λ n. ⌜ n ≡ servedUsed r ⌝ }
 {
     match r {
@@ -35,12 +36,12 @@ fn used_of(r: Served) -> usize
 
 impl Cursor {
     // Serves the frame at the cursor, uncounted. The cursor is handed back past it.
-    pub fn step(self, b: &mut [u8], clock: u32, run: &[u8], out: &mut [u8]) -> Moved
+    pub fn step(self, config: Config, b: &mut [u8], clock: u32, run: &[u8], out: &mut [u8]) -> Moved
         ensures { λ r. ⌜ (r ≡ movedBy (self .at) (r .served))
-            × Serves (now (b .entry)) clock (seen (self .at) (now (run .entry))) (now (out .entry)) (r .served) (now (b .exit)) (now (out .exit)) ⌝ }
+            × Serves config (now (b .entry)) clock (seen (self .at) (now (run .entry))) (now (out .entry)) (r .served) (now (b .exit)) (now (out .exit)) ⌝ }
     {
         let at = self.at;
-        let r = serve::serve_one(b, clock, octets::rest(run, at), out);
+        let r = serve::serve_one(config, b, clock, octets::rest(run, at), out);
         let used = used_of(r);
         Moved {
             cursor: Cursor { at: at + used },
@@ -49,27 +50,42 @@ impl Cursor {
     }
 
     // Serves the frame at the cursor and counts it. The cursor is handed back past it.
-    pub fn serve(self, b: &mut [u8], clock: u32, run: &[u8], out: &mut [u8], t: &mut Tally) -> Moved
+    pub fn serve(
+        self,
+        config: Config,
+        b: &mut [u8],
+        clock: u32,
+        run: &[u8],
+        out: &mut [u8],
+        t: &mut Tally,
+    ) -> Moved
         ensures { λ r. ⌜ (r ≡ movedBy (self .at) (r .served))
-            × ServesCounted (now (b .entry)) clock (seen (self .at) (now (run .entry))) (now (out .entry)) (now (t .entry)) (r .served) (now (b .exit)) (now (out .exit)) (now (t .exit)) ⌝ }
+            × ServesCounted config (now (b .entry)) clock (seen (self .at) (now (run .entry))) (now (out .entry)) (now (t .entry)) (r .served) (now (b .exit)) (now (out .exit)) (now (t .exit)) ⌝ }
     {
-        let r = self.step(b, clock, run, out);
+        let r = self.step(config, b, clock, run, out);
         tally::count(t, r.served);
         r
     }
 }
 
 // Serves the frames of a run one after another, each reply after those before it, until a call is refused.
-pub fn serve_run(b: &mut [u8], clock: u32, run: &[u8], out: &mut [u8], t: Tally) -> Ran
-    ensures { λ r. ⌜ (r ≡ ranOf clock (now (run .entry)) (runEnd clock (now (run .entry)) (begun (now (b .entry)) (now (out .entry)) t)))
-        × ((now (b .exit) ≡ runEnd clock (now (run .entry)) (begun (now (b .entry)) (now (out .entry)) t) .table)
-        × (now (out .exit) ≡ runEnd clock (now (run .entry)) (begun (now (b .entry)) (now (out .entry)) t) .reply)) ⌝ }
+pub fn serve_run(
+    config: Config,
+    b: &mut [u8],
+    clock: u32,
+    run: &[u8],
+    out: &mut [u8],
+    t: Tally,
+) -> Ran
+    ensures { λ r. ⌜ (r ≡ ranOf config clock (now (run .entry)) (runEnd config clock (now (run .entry)) (begun (now (b .entry)) (now (out .entry)) t)))
+        × ((now (b .exit) ≡ runEnd config clock (now (run .entry)) (begun (now (b .entry)) (now (out .entry)) t) .table)
+        × (now (out .exit) ≡ runEnd config clock (now (run .entry)) (begun (now (b .entry)) (now (out .entry)) t) .reply)) ⌝ }
 {
     let mut cursor = Cursor { at: 0 };
     let mut filled: usize = 0;
     let mut tally = t;
     loop {
-        let moved = cursor.step(b, clock, run, &mut out[filled..]);
+        let moved = cursor.step(config, b, clock, run, &mut out[filled..]);
         cursor = moved.cursor;
         let r = moved.served;
         match r {

@@ -1,9 +1,12 @@
 // Serves a run of frames a step of the cursor at a time, then at places where no bytes are left, then by one call, and prints what each
 // gives: the cursor's place before and after, outcome and bytes needed or status and reply length; for a run what was consumed, the
-// tally, why it stopped, and the replies.
+// tally, why it stopped, and the replies. The rows stand in key order; the call is made on the plain engine too, and a line follows if
+// that replies otherwise.
 //
 // The expected output was worked out by hand from document 01.
+use engine::Config;
 use run::Cursor;
+use run::Ran;
 use serving::Served;
 use tally::Tally;
 
@@ -67,7 +70,7 @@ fn answer(r: Served) {
 // Serves the frame at a place, and answers where the cursor stands then.
 fn step(table: &mut [u8], run: &[u8], out: &mut [u8], at: usize) -> usize {
     let start = Cursor { at };
-    let moved = start.step(table, CLOCK, run, out);
+    let moved = start.step(engine::config_for(false), table, CLOCK, run, out);
     let cursor = moved.cursor;
     let served = moved.served;
     decimal(b"at ", at as u64);
@@ -107,16 +110,22 @@ fn by_steps(run: &[u8]) {
 }
 
 // Serves a run by one call on a fresh table.
-fn whole(run: &[u8]) {
+fn ran_by(config: Config, run: &[u8], out: &mut [u8]) -> Ran {
     let mut table = [0u8; SIZE];
-    let mut out = [FILL; ROOM];
     let none = Tally {
         served: 0,
         refused: 0,
         silent: 0,
     };
     owner::make(&mut table, ROWS, ACTIVE, BY_REVISION, VBUCKET);
-    let ran = run::serve_run(&mut table, CLOCK, run, &mut out, none);
+    run::serve_run(config, &mut table, CLOCK, run, out, none)
+}
+
+fn whole(run: &[u8]) {
+    let mut out = [FILL; ROOM];
+    let mut plain = [FILL; ROOM];
+    let ran = ran_by(engine::config_for(false), run, &mut out);
+    ran_by(engine::config_for(true), run, &mut plain);
     let cursor = ran.cursor;
     let tally = ran.tally;
     let stop = ran.stop;
@@ -130,6 +139,9 @@ fn whole(run: &[u8]) {
     text(b": ");
     hex(octets::part(&out, 0, ran.filled));
     text(b"\n");
+    if !compare::same(&out, &plain) {
+        text(b"  THE PLAIN ENGINE REPLIES OTHERWISE\n");
+    }
 }
 
 fn main() {

@@ -7,11 +7,9 @@ use mathlib.Core.Logic.{⊎-elim}
 use denote.Enum.Declared
 use types.Run.{OneOf}
 use native.Mathlib.Omega.{arith}
-use lib.Dec.{leb, ltb}
 use lib.ListN.{length}
-use borrow.Author.Tests.{leb-true, le-ltb}
-use Rattle.octets.specs.Parts.{written}
-use Rattle.octets.proofs.Choices.{both}
+use Rattle.engine.specs.declared.Config.{Config}
+use Rattle.octets.specs.Parts.{Bytes, written}
 use Rattle.header.specs.declared.Header.{Header}
 use Rattle.header.specs.Header.{headerBytes}
 use Rattle.document.specs.Documents.{Key, docValue}
@@ -22,34 +20,27 @@ use Rattle.decision.specs.declared.Decision.{Decision}
 use Rattle.decision.specs.Decide.{replyKey, replyExtras}
 use Rattle.listing.specs.Listing.{listing}
 use Rattle.listing.proofs.Taken.{listing-short}
-use Rattle.rows.specs.RowRules.{sizeOk}
-use Rattle.rows.specs.Table.{rowCount, tableOf}
+use Rattle.rows.specs.Table.{tableOf}
 use Rattle.rows.specs.Find.{findRow}
-use Rattle.plain.specs.Plain.{plain}
-use Rattle.plain.specs.Damage.{sound}
-use Rattle.plain_listing.specs.Places.{fittingKeys}
+use Rattle.plain.specs.Plain.{usedRows}
+use Rattle.engines.specs.Damage.{soundBy}
+use Rattle.table.specs.Calls.{keysFor}
+use Rattle.table.proofs.Listing.{lists-keys}
 use Rattle.serving.specs.Reply.{replyShows, bodyOf, headerWith, replyHeader, replyBytes}
 use Rattle.reply.specs.Fitting.{fittingReply}
 use Rattle.reply.proofs.Replies.{Bodied, no-reply, replied, fitting}
 use Rattle.serve.specs.Answer.{replyFrom, ReplyWritten}
 
-few-rows : (b : List ℕ) → sound b ≡ true → rowCount b ≤ 256
-unfolding sound sizeOk
-few-rows b e =
-    let size = both (sizeOk (length b) (rowCount b)) _ e .0 in
-    leb-true (rowCount b) 256 (both (leb (rowCount b) 256) _ (both (leb 1 (rowCount b)) _ size .1) .0)
-
-module _ (b : List ℕ) (clock : ℕ) (start : Key) (count : ℕ) (out : List ℕ) (undamaged : sound b ≡ true) (roomy : 1302 ≤ length out) where
+module _ (config : Config) (b : List ℕ) (clock : ℕ) (start : Key) (count : ℕ) (out : List ℕ) (y : Bytes b) (undamaged : soundBy config b ≡ true) (roomy : 1302 ≤ length out) where
   abbrev keys : List ℕ
-  keys = fittingKeys (length out) b clock start count
+  keys = keysFor config (length out) b clock start count
 
   -- with room, the keys written are the listing of the table's documents
-  all-fit : keys ≡ listing (plain .docs (tableOf b .rows)) clock start count
-  unfolding fittingKeys
-  all-fit = rw (le-ltb (length out) 1302 roomy, le-ltb 256 (rowCount b) (few-rows b undamaged))
+  all-fit : keys ≡ listing (usedRows (tableOf b .rows)) clock start count
+  all-fit = lists-keys config b clock start count (length out) y undamaged roomy
 
   pub keys-short : length keys ≤ 1278
-  keys-short = omega (arith, ap length all-fit, listing-short (plain .docs (tableOf b .rows)) clock start count)
+  keys-short = omega (arith, ap length all-fit, listing-short (usedRows (tableOf b .rows)) clock start count)
 
   module _ (h : Header) (d : Decision) (lists : d .done .reply ≡ Keys count) where
     body-is : keys ≡ bodyOf (d .done .reply) start (replyShows (d .done .reply) (tableOf b .rows) clock start)

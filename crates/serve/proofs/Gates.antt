@@ -5,31 +5,32 @@ use mathlib.Core.Bool.{true, false}
 use mathlib.Core.List.{List}
 use lib.ListN.{length}
 use borrow.Author.Tests.{lt-ltb, le-ltb}
+use Rattle.engine.specs.declared.Config.{Config}
 use Rattle.request.specs.declared.Gate.{Gate}
 use Rattle.request.specs.declared.Gate.the-variants.{Stop}
 use Rattle.request.specs.Reading.{gateOf}
-use Rattle.plain.specs.Damage.{sound}
+use Rattle.engines.specs.Damage.{soundBy}
 use Rattle.serving.specs.declared.Served.{Served}
 use Rattle.serving.specs.Serves.{Serves}
 use Rattle.serving.specs.Serve.{gateAll, answerBy, tableBy, replyBy, served, servedTable, servedReply}
 
-module _ (b s : List ℕ) (room : ℕ) where
-  pub gate-damaged : sound b ≡ false → gateAll b room s ≡ Stop 5 0
+module _ (config : Config) (b s : List ℕ) (room : ℕ) where
+  pub gate-damaged : soundBy config b ≡ false → gateAll config b room s ≡ Stop 5 0
   unfolding gateAll
   gate-damaged d = rw d
 
-  module _ (u : sound b ≡ true) where
-    pub gate-room : room < 1302 → gateAll b room s ≡ Stop 4 0
+  module _ (u : soundBy config b ≡ true) where
+    pub gate-room : room < 1302 → gateAll config b room s ≡ Stop 4 0
     unfolding gateAll
     gate-room l = rw (u, lt-ltb room 1302 l)
 
-    pub gate-open : 1302 ≤ room → gateAll b room s ≡ gateOf s
+    pub gate-open : 1302 ≤ room → gateAll config b room s ≡ gateOf s
     unfolding gateAll
     gate-open l = rw (u, le-ltb room 1302 l)
 
-pub gated : (b s out : List ℕ) (clock : ℕ) (g : Gate) → gateAll b (length out) s ≡ g → (r : Served) (b′ out′ : List ℕ)
-    → r ≡ answerBy b clock s g → b′ ≡ tableBy b clock s g → out′ ≡ replyBy b clock s out g
-    → Serves b clock s out r b′ out′
+pub gated : (config : Config) (b s out : List ℕ) (clock : ℕ) (g : Gate) → gateAll config b (length out) s ≡ g → (r : Served) (b′ out′ : List ℕ)
+    → r ≡ answerBy b clock s g → b′ ≡ tableBy config b clock s g → out′ ≡ replyBy b clock s out g
+    → Serves config b clock s out r b′ out′
 unfolding served servedTable servedReply
-gated b s out clock g e r b′ out′ er eb eo =
-    record { answer = er ∙ sym (ap (answerBy b clock s) e); table = eb ∙ sym (ap (tableBy b clock s) e); reply = eo ∙ sym (ap (replyBy b clock s out) e) }
+gated config b s out clock g e r b′ out′ er eb eo =
+    record { answer = er ∙ sym (ap (answerBy b clock s) e); table = eb ∙ sym (ap (tableBy config b clock s) e); reply = eo ∙ sym (ap (replyBy b clock s out) e) }

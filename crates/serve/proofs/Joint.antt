@@ -2,16 +2,17 @@
 use Prim.Native.Nat.{ℕ, _+_, _^_, _≤_, _<_}
 use mathlib.Core.Path.{_≡_, refl, sym, ap, subst, _∙_}
 use mathlib.Core.Bool.{Bool, true, false, _||_}
-use mathlib.Core.List.{List, [], _++_, append-nil}
-use mathlib.Core.Option.{Option, none, some}
+use mathlib.Core.List.{List, [], append-nil}
+use mathlib.Core.Option.{Option, none}
 use native.Mathlib.Omega.{arith}
 use lib.Dec.{ltb}
 use lib.ListN.{length, drop}
 use lib.Seq.{take-at}
+use Rattle.engine.specs.declared.Config.{Config}
 use Rattle.octets.specs.Parts.{Bytes, part, pasted, written}
 use Rattle.octets.specs.BigEndian.{bytesOf}
 use Rattle.octets.proofs.Choices.{cases}
-use Rattle.octets.proofs.Options.{options, none-some}
+use Rattle.octets.proofs.Options.{none-some}
 use Rattle.octets.proofs.Lists.{part-most}
 use Rattle.header.specs.declared.Header.{Header}
 use Rattle.header.specs.Header.{headerBytes}
@@ -42,22 +43,20 @@ use Rattle.engine.specs.Engine.{storeRow}
 use Rattle.rows.specs.Table.{Table, tableOf, tableAt, clockAt, tableBytes, headOf, headBytes}
 use Rattle.rows.specs.Find.{findRow, freeRows}
 use Rattle.rows.specs.Good.{EntryGood}
-use Rattle.plain.specs.Damage.{sound}
-use Rattle.plain.specs.Plain.{plain}
-use Rattle.plain.specs.Claims.{Good}
-use Rattle.plain.proofs.TableLaws.{sound-good}
+use Rattle.engines.specs.Engines.{engineOf}
+use Rattle.engines.specs.Damage.{soundBy}
+use Rattle.engines.specs.Claims.{GoodBy}
+use Rattle.engines.proofs.Tables.{sound-good-by, head-put, clock-put, clock-good-by}
 use Rattle.table.specs.declared.Lookup.{Lookup}
 use Rattle.table.specs.Calls.{hasPlace, lookupOf, storedBy, joinedBy}
 use Rattle.table.specs.Claims.{Finds}
 use Rattle.table.proofs.Looking.{finds-sound, lookup-head}
-use Rattle.table.proofs.Keeping.{head-put, clock-put, clock-good}
-use Rattle.table.proofs.Keeping.{joins-good}
+use Rattle.table.proofs.Keeping.{stores-good, joins-good}
 use Rattle.serving.specs.declared.Served.{Served}
 use Rattle.serving.specs.declared.Served.the-variants.{Done}
-use Rattle.serving.specs.Reply.{replyBytes}
 use Rattle.serving.specs.Serve.{reachesDecision, decisionOn, decisionAt, frameEffect, effectAt, frameTable, frameReply}
 use Rattle.serving.specs.Serves.{ServesFrame}
-use Rattle.serving.proofs.Change.{Storing, changing, unchanged, raised, raised-good, puts}
+use Rattle.serving.proofs.Change.{changing, unchanged, raised, raised-good}
 use Rattle.reply.specs.Fitting.{bareHeader}
 use Rattle.reply.proofs.Frames.{bare-reply, refused-is, refused-reply, refused-length, key-short}
 use Rattle.serve.specs.Answer.{replyFrom, ReplyWritten}
@@ -65,24 +64,24 @@ use Rattle.serve.specs.Change.{storedFrom, changedWith, changedBy}
 
 -- ---- the kept clock
 -- its bytes written alone leave the table at the call's clock
-clock-written : (b : List ℕ) (clock n : ℕ) → Bytes b → sound b ≡ true → n ≡ clockAt (tableOf b) clock → written b 4 (bytesOf 4 n) ≡ tableBytes (tableAt (tableOf b) clock)
-clock-written b clock n y sb e = (λ i. written (sym (sound-good b y sb .0) i) 4 (bytesOf 4 (e i))) ∙ clock-put (tableOf b) clock
+clock-written : (config : Config) (b : List ℕ) (clock n : ℕ) → Bytes b → soundBy config b ≡ true → n ≡ clockAt (tableOf b) clock → written b 4 (bytesOf 4 n) ≡ tableBytes (tableAt (tableOf b) clock)
+clock-written config b clock n y sb e = (λ i. written (sym (sound-good-by config b y sb .0) i) 4 (bytesOf 4 (e i))) ∙ clock-put (tableOf b) clock
 
 -- ---- a frame whose status the reader gives: its reply is a bare header
-module _ (b s : List ℕ) (clock : ℕ) (h : Header) (g : reachesDecision (frameStatus s h) ≡ false) where
-  refused-table : frameTable b clock s h ≡ tableBytes (tableAt (tableOf b) clock)
+module _ (config : Config) (b s : List ℕ) (clock : ℕ) (h : Header) (g : reachesDecision (frameStatus s h) ≡ false) where
+  refused-table : frameTable config b clock s h ≡ tableBytes (tableAt (tableOf b) clock)
   unfolding frameTable frameEffect tableOf
   refused-table =
-      ap tableBytes (unchanged (tableAt (tableOf b) clock) (clockAt (tableOf b) clock) s h (rw (refused-is b s clock h g)) (rw (refused-is b s clock h g)))
+      ap tableBytes (unchanged config (tableAt (tableOf b) clock) (clockAt (tableOf b) clock) s h (rw (refused-is b s clock h g)) (rw (refused-is b s clock h g)))
 
   refused-status : effectAt b clock s h .status ≡ frameStatus s h
   unfolding frameEffect
   refused-status = ap (λ (x : Decision). x .status) (refused-is b s clock h g)
 
   -- what answering with a bare header and keeping the clock leaves
-  pub refused-by : (st : ℕ) (hd : Head) (r : Served) (b′ out out′ : List ℕ) → Bytes b → sound b ≡ true → st ≡ frameStatus s h → hd ≡ headOf b
+  pub refused-by : (st : ℕ) (hd : Head) (r : Served) (b′ out out′ : List ℕ) → Bytes b → soundBy config b ≡ true → st ≡ frameStatus s h → hd ≡ headOf b
       → r ≡ Done st (24 + h .body) 24 → b′ ≡ written b 4 (bytesOf 4 (later (hd .clock) clock))
-      → out′ ≡ written out 0 (headerBytes (bareHeader (h .opcode) (h .opaque) st)) → ServesFrame b clock s h out r b′ out′
+      → out′ ≡ written out 0 (headerBytes (bareHeader (h .opcode) (h .opaque) st)) → ServesFrame config b clock s h out r b′ out′
   unfolding tableOf
   refused-by st hd r b′ out out′ y sb es eh er eb eo =
       let w : headerBytes (bareHeader (h .opcode) (h .opaque) st) ≡ frameReply b clock s h =
@@ -90,14 +89,14 @@ module _ (b s : List ℕ) (clock : ℕ) (h : Header) (g : reachesDecision (frame
       ∙ sym (bare-reply (h .opcode) (h .opaque) (atClock (headOf b) clock) (frameStatus s h)) ∙ refused-reply b s clock h g in
       record {
         answer = er ∙ (λ i. Done ((es ∙ sym refused-status) i) (24 + h .body) (sym (refused-length b s clock h g) i));
-        table = eb ∙ clock-written b clock _ y sb (ap (λ (x : Head). later (x .clock) clock) eh) ∙ sym refused-table;
+        table = eb ∙ clock-written config b clock _ y sb (ap (λ (x : Head). later (x .clock) clock) eh) ∙ sym refused-table;
         reply = eo ∙ ap (written out 0) w;
       }
 
 -- ---- a frame that is decided
 -- a document with this value for a key, where a lookup said
-abbrev pub storing : List ℕ → Lookup → Key → Metadata → List ℕ → List ℕ
-storing b l key m value = storedBy b l (entryOf key m value)
+abbrev pub storing : Config → List ℕ → Lookup → Key → Metadata → List ℕ → List ℕ
+storing config b l key m value = storedBy config b l (entryOf key m value)
 
 -- bytes that were written to an array and read back
 pub read-back : (s xs s′ v : List ℕ) (k : ℕ) → k ≡ length xs → s′ ≡ pasted s 0 xs → v ≡ part s′ 0 k → v ≡ xs
@@ -121,31 +120,32 @@ no-doc : (st : Stored) (value : List ℕ) → st ≡ NoRow → docFrom st value 
 no-doc st value e = rw e
 
 -- ---- a value by its source
-module _ (t : Table) (g : Good t) (key : Key) (m : Metadata) (mark : ℕ) (v : List ℕ) where
+module _ (config : Config) (t : Table) (g : GoodBy config t) (key : Key) (m : Metadata) (mark : ℕ) (v : List ℕ) where
   abbrev stored : List ℕ
   stored = docValue (findRow (t .rows) key)
 
   abbrev there : Lookup
-  there = lookupOf true (tableBytes t) key
+  there = lookupOf config true (tableBytes t) key
 
   abbrev Fine : List ℕ → Type 0
   Fine value = EntryGood mark (entryOf key m value)
 
-  join-is : (side : Side) (value : List ℕ) → Fine (joined side stored value) → joinedBy (tableBytes t) there key m side value ≡ storing (tableBytes t) there key m (joined side stored value)
-  join-is side value f = joins-good t key m side value g (omega (arith, f .key-most, f .value-most, joined-length side stored value))
+  join-is : (side : Side) (value : List ℕ) → Fine (joined side stored value)
+      → joinedBy config (tableBytes t) there key m side value ≡ storing config (tableBytes t) there key m (joined side stored value)
+  join-is side value f = joins-good config t key m side value g (omega (arith, f .key-most, f .value-most, joined-length side stored value))
 
   -- stored where a lookup said, it is the value that the definitions name
-  from-source : (source : Source) → Fine (bytesFrom source v stored) → storedFrom (tableBytes t) there key m source v ≡ storing (tableBytes t) there key m (bytesFrom source v stored)
+  from-source : (source : Source) → Fine (bytesFrom source v stored) → storedFrom config (tableBytes t) there key m source v ≡ storing config (tableBytes t) there key m (bytesFrom source v stored)
   from-source Empty f = refl
   from-source Frame f = refl
   from-source (Digits n) f = refl
   from-source Kept f =
       let e : joined Back stored [] ≡ stored = append-nil stored in
-      join-is Back [] (subst Fine (sym e) f) ∙ ap (storing (tableBytes t) there key m) e
+      join-is Back [] (subst Fine (sym e) f) ∙ ap (storing config (tableBytes t) there key m) e
   from-source (Joined side) f = join-is side v f
 
 -- storing what a frame asks for, by the lookup of its key, is the engine's put
-module _ (b s : List ℕ) (clock : ℕ) (h : Header) (y : Bytes b) (z : Bytes s) (small : clock < 2 ^ 32) (inside : 24 + h .body ≤ length s) (sb : sound b ≡ true)
+module _ (config : Config) (b s : List ℕ) (clock : ℕ) (h : Header) (y : Bytes b) (z : Bytes s) (small : clock < 2 ^ 32) (inside : 24 + h .body ≤ length s) (sb : soundBy config b ≡ true)
     (source : Source) (v : List ℕ) where
   abbrev t : Table
   t = tableOf b
@@ -167,39 +167,39 @@ module _ (b s : List ℕ) (clock : ℕ) (h : Header) (y : Bytes b) (z : Bytes s)
   value = bytesFrom source v (docValue (findRow (t .rows) asked))
 
   changed-is : (w : Bool) (store : Stored) → docFrom store value ≡ effect .store → (w ≡ false → effect .store ≡ none)
-      → changedWith b (lookupOf w b asked) asked store source (effect .head) v ≡ frameTable b clock s h
+      → changedWith config b (lookupOf config w b asked) asked store source (effect .head) v ≡ frameTable config b clock s h
   unfolding frameTable
   changed-is w NoRow e none-if =
-      let kept = changing u then s h (clock-good t clock (sound-good b y sb .1) small) z inside .keeps (sym e) in
-      clock-written b clock (effect .head .clock) y sb (ap (λ (k : Head). k .clock) kept) ∙ sym (ap tableBytes (unchanged u then s h (sym e) kept))
+      let kept = changing u then s h (clock-good-by config t clock (sound-good-by config b y sb .1) small .good) z inside .keeps (sym e) in
+      clock-written config b clock (effect .head .clock) y sb (ap (λ (k : Head). k .clock) kept) ∙ sym (ap tableBytes (unchanged config u then s h (sym e) kept))
   changed-is w (Used m) e none-if =
-      let good = sound-good b y sb in
-      let later-good = clock-good t clock (good .1) small in
+      let good = sound-good-by config b y sb in
+      let later-good = clock-good-by config t clock (good .1) small in
       let d : Doc = record { tomb = m .tomb; value = value; numbers = m .numbers } in
-      let q = changing u then s h later-good z inside .stores d (sym e) in
+      let q = changing u then s h (later-good .good) z inside .stores d (sym e) in
       let on : w ≡ true = cases w (λ p. p) (λ p. none-some d (sym (none-if p) ∙ sym e)) in
-      let top = raised u then s h later-good d q in
-      let same = lookup-head t (effect .head) asked true (good .1) (raised-good u then s h later-good d q) in
-      (λ j. storedFrom (written (sym (good .0) j) 0 (headBytes (effect .head))) (lookupOf (on j) (sym (good .0) j) asked) asked m source v)
-      ∙ (λ j. storedFrom (head-put t (effect .head) j) (sym same j) asked m source v)
-      ∙ from-source top (raised-good u then s h later-good d q) asked m (effect .head .mark .0) v source (q .entry)
-      ∙ puts u then s h later-good d q .bytes
-      ∙ ap (λ (o : Option Doc). tableBytes (record { head = effect .head; rows = storeRow plain (t .rows) asked o })) e
+      let top = raised config u then s h later-good d q in
+      let same = lookup-head config t (effect .head) asked true (good .1) (raised-good config u then s h later-good d q) in
+      (λ j. storedFrom config (written (sym (good .0) j) 0 (headBytes (effect .head))) (lookupOf config (on j) (sym (good .0) j) asked) asked m source v)
+      ∙ (λ j. storedFrom config (head-put t (effect .head) j) (sym same j) asked m source v)
+      ∙ from-source config top (raised-good config u then s h later-good d q) asked m (effect .head .mark .0) v source (q .entry)
+      ∙ stores-good config top asked d (raised-good config u then s h later-good d q) (q .entry) (q .room)
+      ∙ ap (λ (o : Option Doc). tableBytes (record { head = effect .head; rows = storeRow (engineOf config) (t .rows) asked o })) e
 
 -- the key of a frame that goes on, and the value stored for it
-pub shown-parts : (b s : List ℕ) (h : Header) → Bytes b → sound b ≡ true → reachesDecision (frameStatus s h) ≡ true → (k : List ℕ) (w : Bool) (l : Lookup) (old : List ℕ)
-    → k ≡ bytesIn s (keySpan h) → l ≡ lookupOf w b k → old ≡ part b (l .at) (l .len)
+pub shown-parts : (config : Config) (b s : List ℕ) (h : Header) → Bytes b → soundBy config b ≡ true → reachesDecision (frameStatus s h) ≡ true → (k : List ℕ) (w : Bool) (l : Lookup) (old : List ℕ)
+    → k ≡ bytesIn s (keySpan h) → l ≡ lookupOf config w b k → old ≡ part b (l .at) (l .len)
     → (length k ≤ 250) × ((length old ≤ 1024) × (old ≡ docValue (findRow (tableOf b .rows) k)))
-shown-parts b s h y sb g k w l old ek el eo =
-    let f = finds-sound b k w y sb in
+shown-parts config b s h y sb g k w l old ek el eo =
+    let f = finds-sound config b k w y sb in
     let e = eo ∙ ap (λ (x : Lookup). part b (x .at) (x .len)) el in (
       omega (arith, ap length ek, key-short s h g),
-      (omega (arith, ap length e, part-most b (lookupOf w b k .at) (lookupOf w b k .len), f .short), e ∙ f .value),
+      (omega (arith, ap length e, part-most b (lookupOf config w b k .at) (lookupOf config w b k .len), f .short), e ∙ f .value),
     )
 
-module _ (b s : List ℕ) (clock : ℕ) (h : Header) (y : Bytes b) (z : Bytes s) (small : clock < 2 ^ 32) (sb : sound b ≡ true) (inside : 24 + h .body ≤ length s)
+module _ (config : Config) (b s : List ℕ) (clock : ℕ) (h : Header) (y : Bytes b) (z : Bytes s) (small : clock < 2 ^ 32) (sb : soundBy config b ≡ true) (inside : 24 + h .body ≤ length s)
     (g : reachesDecision (frameStatus s h) ≡ true) (k : List ℕ) (w : Bool) (l : Lookup) (old : List ℕ) (now : Head) (q : Instruction) (d : Decision)
-    (ek : k ≡ bytesIn s (keySpan h)) (ew : w ≡ isMutation (q .command)) (el : l ≡ lookupOf w b k) (eo : old ≡ part b (l .at) (l .len)) (eh : now ≡ atClock (headOf b) clock)
+    (ek : k ≡ bytesIn s (keySpan h)) (ew : w ≡ isMutation (q .command)) (el : l ≡ lookupOf config w b k) (eo : old ≡ part b (l .at) (l .len)) (eh : now ≡ atClock (headOf b) clock)
     (eq : q ≡ instructionOf (requestOf s h)) (ed : d ≡ decision (seeing now (l .stored) (hasPlace (l .place)) (now .clock) old) q) where
   abbrev key : Key
   key = bytesIn s (keySpan h)
@@ -214,11 +214,11 @@ module _ (b s : List ℕ) (clock : ℕ) (h : Header) (y : Bytes b) (z : Bytes s)
   abbrev head : Head
   head = atClock (headOf b) clock
 
-  found : l ≡ lookupOf w b key
-  found = el ∙ ap (lookupOf w b) ek
+  found : l ≡ lookupOf config w b key
+  found = el ∙ ap (lookupOf config w b) ek
 
-  finds : Finds b (tableOf b .rows) key w
-  finds = finds-sound b key w y sb
+  finds : Finds config b (tableOf b .rows) key w
+  finds = finds-sound config b key w y sb
 
   stored-is : l .stored ≡ storedOf row
   stored-is = ap (λ (x : Lookup). x .stored) found ∙ finds .stored
@@ -260,12 +260,12 @@ module _ (b s : List ℕ) (clock : ℕ) (h : Header) (y : Bytes b) (z : Bytes s)
   -- what answering and storing by the decision leaves
   pub formed-by : (v : List ℕ) (r : Served) (n : ℕ) (b′ out out′ : List ℕ) → v ≡ bareValue s h → ReplyWritten b (now .clock) h d k out n out′
       → r ≡ Done (d .status) (24 + h .body) n
-      → b′ ≡ changedBy b l k (d .done) v
-      → ServesFrame b clock s h out r b′ out′
+      → b′ ≡ changedBy config b l k (d .done) v
+      → ServesFrame config b clock s h out r b′ out′
   formed-by v r n b′ out out′ ev reply er eb =
       record {
         answer = er ∙ (λ i. Done (status-is i) (24 + h .body) ((reply .size ∙ ap length reply-is) i));
-        table = eb ∙ (λ i. changedWith b (found i) (ek i) (d .done .store) (d .done .source) (head-is i) v)
-            ∙ changed-is b s clock h y z small inside sb (d .done .source) v w (d .done .store) (store-is v ev) (store-none v ev);
+        table = eb ∙ (λ i. changedWith config b (found i) (ek i) (d .done .store) (d .done .source) (head-is i) v)
+            ∙ changed-is config b s clock h y z small inside sb (d .done .source) v w (d .done .store) (store-is v ev) (store-none v ev);
         reply = reply .bytes ∙ ap (written out 0) reply-is;
       }

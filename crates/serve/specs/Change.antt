@@ -1,6 +1,7 @@
 -- For the code alone: what a decision leaves of a table's memory, by the lookup of its key. On a table that is not damaged it is serving's frameTable (proofs/Joint.antt).
 use Prim.Native.Nat.{ℕ}
 use mathlib.Core.List.{List, []}
+use Rattle.engine.specs.declared.Config.{Config}
 use Rattle.octets.specs.Parts.{written}
 use Rattle.octets.specs.BigEndian.{bytesOf}
 use Rattle.digits.specs.Decimal.{digits}
@@ -19,17 +20,17 @@ use Rattle.table.specs.declared.Lookup.{Lookup}
 use Rattle.table.specs.Calls.{storedBy, joinedBy}
 
 -- a key's row stored where a lookup said, its value by its source: a value that is kept has nothing joined to it
-abbrev pub storedFrom : List ℕ → Lookup → Key → Metadata → Source → List ℕ → List ℕ
-storedFrom b l key m Empty value = storedBy b l (entryOf key m [])
-storedFrom b l key m Frame value = storedBy b l (entryOf key m value)
-storedFrom b l key m (Digits n) value = storedBy b l (entryOf key m (digits n))
-storedFrom b l key m Kept value = joinedBy b l key m Back []
-storedFrom b l key m (Joined side) value = joinedBy b l key m side value
+abbrev pub storedFrom : Config → List ℕ → Lookup → Key → Metadata → Source → List ℕ → List ℕ
+storedFrom config b l key m Empty value = storedBy config b l (entryOf key m [])
+storedFrom config b l key m Frame value = storedBy config b l (entryOf key m value)
+storedFrom config b l key m (Digits n) value = storedBy config b l (entryOf key m (digits n))
+storedFrom config b l key m Kept value = joinedBy config b l key m Back []
+storedFrom config b l key m (Joined side) value = joinedBy config b l key m side value
 
 -- a row for a key after a new head; where nothing is stored, the head's clock alone
-abbrev pub changedWith : List ℕ → Lookup → Key → Stored → Source → Head → List ℕ → List ℕ
-changedWith b l key Nothing source head value = written b 4 (bytesOf 4 (head .clock))
-changedWith b l key (Used m) source head value = storedFrom (written b 0 (headBytes head)) l key m source value
+abbrev pub changedWith : Config → List ℕ → Lookup → Key → Stored → Source → Head → List ℕ → List ℕ
+changedWith config b l key Nothing source head value = written b 4 (bytesOf 4 (head .clock))
+changedWith config b l key (Used m) source head value = storedFrom config (written b 0 (headBytes head)) l key m source value
 
-abbrev pub changedBy : List ℕ → Lookup → Key → Done → List ℕ → List ℕ
-changedBy b l key d value = changedWith b l key (d .store) (d .source) (d .head) value
+abbrev pub changedBy : Config → List ℕ → Lookup → Key → Done → List ℕ → List ℕ
+changedBy config b l key d value = changedWith config b l key (d .store) (d .source) (d .head) value

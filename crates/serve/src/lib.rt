@@ -16,7 +16,7 @@ ghost use Rattle.digits.specs.Decimal.{numberOf};
 ghost use Rattle.decision.specs.Decision.{decision};
 ghost use Rattle.decision.specs.Decide.{instructionOf};
 ghost use Rattle.decode.specs.Decode.{requestOf, bareValue};
-ghost use Rattle.plain.specs.Damage.{sound};
+ghost use Rattle.engines.specs.Damage.{soundBy};
 ghost use Rattle.document.specs.Documents.{docValue};
 ghost use Rattle.rows.specs.Table.{headOf, tableOf};
 ghost use Rattle.rows.specs.Find.{findRow};
@@ -32,6 +32,7 @@ use decode::Decoded;
 use document::Head;
 use effects::Reply;
 use engine::Checked;
+use engine::Config;
 use header::Header;
 use request::Gate;
 use serving::ROOM;
@@ -62,6 +63,7 @@ fn decided(head: Head, clock: u32, l: Lookup, old: &[u8], ask: Instruction) -> D
 
 // Writes the keys that a listing shows, and the reply's header before them.
 fn put_listing(
+    config: Config,
     b: &[u8],
     clock: u32,
     h: Header,
@@ -70,13 +72,13 @@ fn put_listing(
     count: u32,
     out: &mut [u8],
 ) -> usize
-    requires { ⌜ (sound (now b) ≡ true) × ((1302 ≤ length (now out)) × (d .done .reply ≡ Reply.Keys count)) ⌝ }
+    requires { ⌜ (soundBy config (now b) ≡ true) × ((1302 ≤ length (now out)) × (d .done .reply ≡ Reply.Keys count)) ⌝ }
     ensures { λ r. ⌜ ReplyWritten (now (b .entry)) clock h d (now (start .entry)) (now (out .entry)) r (now (out .exit)) ⌝ }
 {
     if d.silent {
         return 0;
     }
-    let n = table::put_keys(b, clock, start, count, out);
+    let n = table::put_keys(config, b, clock, start, count, out);
     let done = d.done;
     let cas = done.cas;
     reply::put_value_header(out, h.opcode, h.opaque, d.status, n as u32, cas);
@@ -85,6 +87,7 @@ fn put_listing(
 
 // Writes a decision's reply and answers its length. old: the value stored for the key.
 fn put_answer(
+    config: Config,
     b: &[u8],
     clock: u32,
     h: Header,
@@ -93,14 +96,14 @@ fn put_answer(
     old: &[u8],
     out: &mut [u8],
 ) -> usize
-    requires { ⌜ (sound (now b) ≡ true) × (1302 ≤ length (now out)) ⌝ }
+    requires { ⌜ (soundBy config (now b) ≡ true) × (1302 ≤ length (now out)) ⌝ }
     requires { ⌜ (length (now key) ≤ 250) × ((length (now old) ≤ 1024) × (now old ≡ docValue (findRow (tableOf (now b) .rows) (now key)))) ⌝ }
     ensures { λ r. ⌜ ReplyWritten (now (b .entry)) clock h d (now (key .entry)) (now (out .entry)) r (now (out .exit)) ⌝ }
 {
     let done = d.done;
     let reply = done.reply;
     match reply {
-        Reply::Keys(count) => put_listing(b, clock, h, d, key, count, out),
+        Reply::Keys(count) => put_listing(config, b, clock, h, d, key, count, out),
         _ => reply::put_reply(out, h.opcode, h.opaque, d, key, old),
     }
 }
@@ -108,6 +111,7 @@ fn put_answer(
 // Answers and stores a frame whose form is right, or right but for a value over 1,024 bytes. key and value are parts of
 // the received bytes s.
 fn serve_formed(
+    config: Config,
     b: &mut [u8],
     head: Head,
     clock: u32,
@@ -118,19 +122,19 @@ fn serve_formed(
     value: &[u8],
     out: &mut [u8],
 ) -> Served
-    requires { ⌜ (sound (now b) ≡ true) × ((head ≡ headOf (now b)) × (1302 ≤ length (now out))) ⌝ }
+    requires { ⌜ (soundBy config (now b) ≡ true) × ((head ≡ headOf (now b)) × (1302 ≤ length (now out))) ⌝ }
     requires { ⌜ (reachesDecision (frameStatus (now s) h) ≡ true) × ((ask ≡ instructionOf (requestOf (now s) h)) × ((now key ≡ bytesIn (now s) (keySpan h)) × ((part (now value) 0 (ask .size) ≡ bareValue (now s) h) × (24 + h .body ≤ length (now s))))) ⌝ }
-    ensures { λ r. ⌜ ServesFrame (now (b .entry)) clock (now (s .entry)) h (now (out .entry)) r (now (b .exit)) (now (out .exit)) ⌝ }
+    ensures { λ r. ⌜ ServesFrame config (now (b .entry)) clock (now (s .entry)) h (now (out .entry)) r (now (b .exit)) (now (out .exit)) ⌝ }
 {
     let command = ask.command;
-    let l = table::find(b, key, commands::writes(command));
+    let l = table::find(config, b, key, commands::writes(command));
     let size = ask.size;
     let old = octets::part(b, l.at, l.len);
     let now = document::at_clock(head, clock);
     let d = decided(now, now.clock, l, old, ask);
-    let n = put_answer(b, now.clock, h, d, key, old, out);
+    let n = put_answer(config, b, now.clock, h, d, key, old, out);
     let done = d.done;
-    change::change(b, l, key, done, octets::part(value, 0, size));
+    change::change(config, b, l, key, done, octets::part(value, 0, size));
     let frame = header::layout_of(h);
     Served::Done(d.status, frame.end, n)
 }
@@ -149,6 +153,7 @@ fn refused(b: &mut [u8], head: Head, clock: u32, h: Header, status: u8, out: &mu
 
 // A frame whose lengths are right: its parts are cut out, and then its fields are judged.
 fn serve_parts(
+    config: Config,
     b: &mut [u8],
     head: Head,
     clock: u32,
@@ -157,9 +162,9 @@ fn serve_parts(
     shape: Shape,
     out: &mut [u8],
 ) -> Served
-    requires { ⌜ (sound (now b) ≡ true) × ((head ≡ headOf (now b)) × (1302 ≤ length (now out))) ⌝ }
+    requires { ⌜ (soundBy config (now b) ≡ true) × ((head ≡ headOf (now b)) × (1302 ≤ length (now out))) ⌝ }
     requires { ⌜ (shape ≡ shapeOf (h .opcode)) × ((formStatus shape h ≡ 0) × (24 + h .body ≤ length (now s))) ⌝ }
-    ensures { λ r. ⌜ ServesFrame (now (b .entry)) clock (now (s .entry)) h (now (out .entry)) r (now (b .exit)) (now (out .exit)) ⌝ }
+    ensures { λ r. ⌜ ServesFrame config (now (b .entry)) clock (now (s .entry)) h (now (out .entry)) r (now (b .exit)) (now (out .exit)) ⌝ }
 {
     let l = header::layout_of(h);
     let start = l.extras;
@@ -171,42 +176,57 @@ fn serve_parts(
     let value = &s[k..end];
     match decode::decoded_by(shape, h, extras, value) {
         Decoded::Broken => refused(b, head, clock, h, 0x04, out),
-        Decoded::Whole(ask) => serve_formed(b, head, clock, s, h, ask, key, value, out),
+        Decoded::Whole(ask) => serve_formed(config, b, head, clock, s, h, ask, key, value, out),
     }
 }
 
-fn serve_whole(b: &mut [u8], head: Head, clock: u32, s: &[u8], h: Header, out: &mut [u8]) -> Served
-    requires { ⌜ (sound (now b) ≡ true) × ((head ≡ headOf (now b)) × ((1302 ≤ length (now out)) × (24 + h .body ≤ length (now s)))) ⌝ }
-    ensures { λ r. ⌜ ServesFrame (now (b .entry)) clock (now (s .entry)) h (now (out .entry)) r (now (b .exit)) (now (out .exit)) ⌝ }
+fn serve_whole(
+    config: Config,
+    b: &mut [u8],
+    head: Head,
+    clock: u32,
+    s: &[u8],
+    h: Header,
+    out: &mut [u8],
+) -> Served
+    requires { ⌜ (soundBy config (now b) ≡ true) × ((head ≡ headOf (now b)) × ((1302 ≤ length (now out)) × (24 + h .body ≤ length (now s)))) ⌝ }
+    ensures { λ r. ⌜ ServesFrame config (now (b .entry)) clock (now (s .entry)) h (now (out .entry)) r (now (b .exit)) (now (out .exit)) ⌝ }
 {
     let shape = shape::shape_of(h.opcode);
     let status = rules::form_status(shape, h);
     if status == 0 {
-        return serve_parts(b, head, clock, s, h, shape, out);
+        return serve_parts(config, b, head, clock, s, h, shape, out);
     }
     refused(b, head, clock, h, status, out)
 }
 
 // On a table that is not damaged: the outcomes from 4 on, in the order tested.
-fn serve_sound(b: &mut [u8], head: Head, clock: u32, s: &[u8], out: &mut [u8]) -> Served
-    requires { ⌜ (sound (now b) ≡ true) × (head ≡ headOf (now b)) ⌝ }
-    ensures { λ r. ⌜ Serves (now (b .entry)) clock (now (s .entry)) (now (out .entry)) r (now (b .exit)) (now (out .exit)) ⌝ }
+fn serve_sound(
+    config: Config,
+    b: &mut [u8],
+    head: Head,
+    clock: u32,
+    s: &[u8],
+    out: &mut [u8],
+) -> Served
+    requires { ⌜ (soundBy config (now b) ≡ true) × (head ≡ headOf (now b)) ⌝ }
+    ensures { λ r. ⌜ Serves config (now (b .entry)) clock (now (s .entry)) (now (out .entry)) r (now (b .exit)) (now (out .exit)) ⌝ }
 {
     if out.len() < ROOM {
         return Served::Refused(4, 0);
     }
     match request::gate_of(s) {
         Gate::Stop(outcome, needed) => Served::Refused(outcome, needed),
-        Gate::Whole(h) => serve_whole(b, head, clock, s, h, out),
+        Gate::Whole(h) => serve_whole(config, b, head, clock, s, h, out),
     }
 }
 
 // Serves the request at the start of the received bytes. The tally stands apart.
-pub fn serve_one(b: &mut [u8], clock: u32, s: &[u8], out: &mut [u8]) -> Served
-    ensures { λ r. ⌜ Serves (now (b .entry)) clock (now (s .entry)) (now (out .entry)) r (now (b .exit)) (now (out .exit)) ⌝ }
+pub fn serve_one(config: Config, b: &mut [u8], clock: u32, s: &[u8], out: &mut [u8]) -> Served
+    ensures { λ r. ⌜ Serves config (now (b .entry)) clock (now (s .entry)) (now (out .entry)) r (now (b .exit)) (now (out .exit)) ⌝ }
 {
-    match table::checked(b) {
+    match table::checked(config, b) {
         Checked::Damaged => Served::Refused(5, 0),
-        Checked::Sound(head) => serve_sound(b, head, clock, s, out),
+        Checked::Sound(head) => serve_sound(config, b, head, clock, s, out),
     }
 }

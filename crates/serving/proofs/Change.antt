@@ -22,14 +22,15 @@ use Rattle.decision.specs.Decide.{Effect, decide}
 use Rattle.decision.specs.Claims.{StoredSound}
 use Rattle.decision.proofs.Stores.{stores-with-room, stores-sound}
 use Rattle.decode.specs.Decode.{requestOf}
+use Rattle.engine.specs.declared.Config.{Config}
 use Rattle.engine.specs.Engine.{storeRow}
 use Rattle.rows.specs.Table.{Table}
 use Rattle.rows.specs.Find.{findRow, freeRows}
 use Rattle.rows.specs.Good.{EntryGood}
-use Rattle.plain.specs.Plain.{plain}
 use Rattle.plain.specs.Claims.{Good}
-use Rattle.table.specs.Claims.{Stores}
-use Rattle.table.proofs.Keeping.{stores-good, head-good}
+use Rattle.engines.specs.Engines.{engineOf}
+use Rattle.engines.specs.Claims.{GoodBy}
+use Rattle.engines.proofs.Tables.{put-good-by, head-good-by}
 use Rattle.serving.specs.Serve.{reachesDecision, decisionOn, frameEffect, frameChange}
 use Rattle.serving.proofs.Formed.{form, command-right}
 use Rattle.serving.proofs.Kept.{decide-keeps, fits-found, short-found}
@@ -132,26 +133,31 @@ pub changing : (t : Table) (clock : ℕ) (s : List ℕ) (h : Header) → Good t 
 changing t clock s h g y w = cases (reachesDecision (frameStatus s h)) (went t clock s h g y w) (refused t clock s h)
 
 -- "A non-zero status changes no table byte"
-pub unchanged : (t : Table) (clock : ℕ) (s : List ℕ) (h : Header) → frameEffect t clock s h .store ≡ none → frameEffect t clock s h .head ≡ t .head
-    → frameChange t clock s h ≡ t
-unchanged t clock s h e f = λ i. record { head = f i; rows = storeRow plain (t .rows) (bytesIn s (keySpan h)) (e i) }
+pub unchanged : (config : Config) (t : Table) (clock : ℕ) (s : List ℕ) (h : Header) → frameEffect t clock s h .store ≡ none → frameEffect t clock s h .head ≡ t .head
+    → frameChange config t clock s h ≡ t
+unchanged config t clock s h e f = λ i. record { head = f i; rows = storeRow (engineOf config) (t .rows) (bytesIn s (keySpan h)) (e i) }
 
 -- what a frame stores is put in the table with its new head
-module _ (t : Table) (clock : ℕ) (s : List ℕ) (h : Header) (g : Good t) (d : Doc) (q : Storing t clock s h d) where
+module _ (config : Config) (t : Table) (clock : ℕ) (s : List ℕ) (h : Header) (g : GoodBy config t) (d : Doc) (q : Storing t clock s h d) where
   abbrev pub raised : Table
   raised = record { head = frameEffect t clock s h .head; rows = t .rows }
 
-  pub raised-good : Good raised
-  raised-good = subst (λ (x : Head). Good (record { head = x; rows = t .rows })) (sym (q .head)) (head-good t (frameEffect t clock s h .head .mark .0) g (q .grows) (q .fits))
+  pub raised-good : GoodBy config raised
+  raised-good =
+      subst (λ (x : Head). GoodBy config (record { head = x; rows = t .rows })) (sym (q .head))
+      (head-good-by config t (frameEffect t clock s h .head .mark .0) g (q .grows) (q .fits))
 
-  pub puts : Stores raised (bytesIn s (keySpan h)) d
-  puts = stores-good raised (bytesIn s (keySpan h)) d raised-good (q .entry) (q .room)
+  put-good : GoodBy config (record { head = raised .head; rows = engineOf config .put (t .rows) (bytesIn s (keySpan h)) d })
+  put-good = put-good-by config raised (bytesIn s (keySpan h)) d raised-good (q .entry) (q .room)
 
 -- a whole frame keeps a table good
-pub change-good : (t : Table) (clock : ℕ) (s : List ℕ) (h : Header) → Good t → Bytes s → 24 + h .body ≤ length s → Good (frameChange t clock s h)
-change-good t clock s h g y w =
-    let c = changing t clock s h g y w in
+pub change-good : (config : Config) (t : Table) (clock : ℕ) (s : List ℕ) (h : Header) → GoodBy config t → Bytes s → 24 + h .body ≤ length s
+    → GoodBy config (frameChange config t clock s h)
+change-good config t clock s h g y w =
+    let c = changing t clock s h (g .good) y w in
     let x = frameEffect t clock s h in
     options (x .store)
-    (λ e. subst Good (sym (unchanged t clock s h e (c .keeps e))) g)
-    (λ d e. subst (λ (o : Option Doc). Good (record { head = x .head; rows = storeRow plain (t .rows) (bytesIn s (keySpan h)) o })) (sym e) (puts t clock s h g d (c .stores d e) .good))
+    (λ e. subst (GoodBy config) (sym (unchanged config t clock s h e (c .keeps e))) g)
+    (λ d e.
+    subst (λ (o : Option Doc). GoodBy config (record { head = x .head; rows = storeRow (engineOf config) (t .rows) (bytesIn s (keySpan h)) o })) (sym e)
+    (put-good config t clock s h g d (c .stores d e)))

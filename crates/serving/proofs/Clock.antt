@@ -9,8 +9,7 @@ use Rattle.header.specs.declared.Header.{Header}
 use Rattle.document.specs.declared.Head.{Head}
 use Rattle.rows.specs.Table.{Table, tableOf, tableAt, clockAt}
 use Rattle.plain.specs.Claims.{Good}
-use Rattle.plain.proofs.TableLaws.{sound-good, good-sound}
-use Rattle.table.proofs.Keeping.{clock-good}
+use Rattle.engines.proofs.Tables.{sound-good-by, good-sound-by, clock-good-by}
 use Rattle.serving.specs.Serve.{frameEffect, frameChange, frameTable}
 use Rattle.serving.specs.Clock.{FrameRaises}
 use Rattle.serving.proofs.Change.{changing, change-good}
@@ -23,8 +22,8 @@ clock-stays t clock s h g z w =
 
 pub frame-raises : FrameRaises
 unfolding frameTable
-frame-raises b clock s h y z small sb w =
+frame-raises config b clock s h y z small sb w =
     let u = tableAt (tableOf b) clock in
     let now = clockAt (tableOf b) clock in
-    let g = clock-good (tableOf b) clock (sound-good b y sb .1) small in
-    ap (λ (t : Table). t .head .clock) (good-sound (frameChange u now s h) (change-good u now s h g z w) .1) ∙ clock-stays u now s h g z w
+    let g = clock-good-by config (tableOf b) clock (sound-good-by config b y sb .1) small in
+    ap (λ (t : Table). t .head .clock) (good-sound-by config (frameChange config u now s h) (change-good config u now s h g z w) .1) ∙ clock-stays u now s h (g .good) z w

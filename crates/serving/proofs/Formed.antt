@@ -1,14 +1,13 @@
 -- A frame that the reader's rules let pass, save a value over 1,024 bytes, asks for a command whose form is right.
 use Prim.Native.Nat.{ℕ, _+_, _-_, _≤_}
-use mathlib.Core.Path.{_≡_, refl, sym, ap, _∙_}
+use mathlib.Core.Path.{_≡_, refl}
 use mathlib.Core.Bool.{Bool, true, false, cond, _&&_, _||_, or-false}
 use mathlib.Core.List.{List}
 use native.Mathlib.Omega.{arith}
 use lib.ListN.{length}
 use lib.Dec.{leb, eqb}
 use borrow.Author.Tests.{eqb-true, leb-true}
-use Rattle.octets.specs.Parts.{Bytes, part}
-use Rattle.octets.specs.BigEndian.{be, beFrom, num}
+use Rattle.octets.specs.Parts.{Bytes}
 use Rattle.octets.proofs.Choices.{cases, both}
 use Rattle.octets.proofs.Lists.{bytes-part}
 use Rattle.octets.proofs.Numbers.{num-below}

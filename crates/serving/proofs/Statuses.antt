@@ -8,13 +8,11 @@ use lib.ListN.{length}
 use lib.Dec.{ltb, eqb}
 use Rattle.shape.specs.declared.Shape.{Shape}
 use Rattle.shape.specs.Shapes.{Command, commands, unbuilt, lookUp, among, shapeOf}
-use Rattle.header.specs.declared.Header.{Header}
 use Rattle.rules.specs.Rules.{formOk, fieldRulesOk, metaSize, judged, status}
 use Rattle.request.specs.Reading.{bytesIn, extrasSpan, valueSpan, frameStatus}
 use Rattle.commands.specs.Rules.{firstStatus, firstFailure}
 use Rattle.decision.specs.declared.Decision.{Decision}
 use Rattle.decision.specs.Decision.{decision}
-use Rattle.rows.specs.Table.{Table}
 use Rattle.serving.specs.Serve.{reachesDecision, decisionOn}
 use Rattle.serving.specs.Statuses.{testsOn, StatusesInOrder}
 use Rattle.serving.proofs.Formed.{by-cond}

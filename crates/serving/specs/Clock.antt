@@ -7,10 +7,11 @@ use lib.ListN.{length}
 use Rattle.octets.specs.Parts.{Bytes}
 use Rattle.header.specs.declared.Header.{Header}
 use Rattle.rows.specs.Table.{tableOf, clockAt}
-use Rattle.plain.specs.Damage.{sound}
+use Rattle.engine.specs.declared.Config.{Config}
+use Rattle.engines.specs.Damage.{soundBy}
 use Rattle.serving.specs.Serve.{frameTable}
 
 abbrev pub FrameRaises : Type 0
 FrameRaises =
-    (b : List ℕ) (clock : ℕ) (s : List ℕ) (h : Header) → Bytes b → Bytes s → clock < 2 ^ 32 → sound b ≡ true → 24 + h .body ≤ length s
-    → tableOf (frameTable b clock s h) .head .clock ≡ clockAt (tableOf b) clock
+    (config : Config) (b : List ℕ) (clock : ℕ) (s : List ℕ) (h : Header) → Bytes b → Bytes s → clock < 2 ^ 32 → soundBy config b ≡ true → 24 + h .body ≤ length s
+    → tableOf (frameTable config b clock s h) .head .clock ≡ clockAt (tableOf b) clock

@@ -10,7 +10,7 @@ use Rattle.document.specs.Documents.{Key, docValue}
 use Rattle.listing.specs.Listing.{listing}
 use Rattle.rows.specs.Row.{Row}
 use Rattle.rows.specs.Find.{findRow}
-use Rattle.plain.specs.Plain.{plain}
+use Rattle.plain.specs.Plain.{usedRows}
 use Rattle.effects.specs.declared.Reply.{Reply}
 use Rattle.effects.specs.declared.Reply.the-variants.{Bare, Found, Counted, Version as VersionReply, Keys}
 use Rattle.decision.specs.declared.Decision.{Decision}
@@ -22,7 +22,7 @@ replyShows Bare rows clock key = docValue (findRow rows key)
 replyShows (Found flags keyed) rows clock key = docValue (findRow rows key)
 replyShows (Counted n) rows clock key = docValue (findRow rows key)
 replyShows VersionReply rows clock key = docValue (findRow rows key)
-replyShows (Keys count) rows clock key = listing (plain .docs rows) clock key count
+replyShows (Keys count) rows clock key = listing (usedRows rows) clock key count
 
 -- extras, key and value in a row, for a request's key and what the table shows
 abbrev pub bodyOf : Reply → List ℕ → List ℕ → List ℕ

@@ -1,4 +1,4 @@
--- Serving one request: the outcomes of document 01 in the order tested; then the request is decided, answered and stored.
+-- Serving one request on a table of the engine that the call is for: the outcomes of document 01 in the order tested; then the request is decided, answered and stored.
 use Prim.Native.Nat.{ℕ, _+_}
 use mathlib.Core.Bool.{Bool, false, cond, not, _||_}
 use mathlib.Core.List.{List}
@@ -21,9 +21,11 @@ use Rattle.document.specs.Documents.{Key, Doc}
 use Rattle.engine.specs.Engine.{storeRow}
 use Rattle.decode.specs.Decode.{requestOf}
 use Rattle.rows.specs.Table.{Table, tableOf, tableAt, clockAt, tableBytes}
-use Rattle.plain.specs.Plain.{plain}
+use Rattle.engine.specs.declared.Config.{Config}
 use Rattle.engine.specs.declared.Checked.the-variants.{Damaged}
-use Rattle.plain.specs.Damage.{sound, checkedOutcome}
+use Rattle.plain.specs.Damage.{checkedOutcome}
+use Rattle.engines.specs.Engines.{engineOf}
+use Rattle.engines.specs.Damage.{soundBy}
 use Rattle.rows.specs.Find.{findRow, freeRows}
 use Rattle.serving.specs.declared.Served.{Served}
 use Rattle.serving.specs.declared.Served.the-variants.{Refused, Done}
@@ -55,8 +57,8 @@ servedNeeded (Refused n need) = need
 servedNeeded (Done status used len) = 0
 
 -- 5 table damaged, 4 reply room under 1,302 bytes, then the frame's own
-unfoldable pub gateAll : List ℕ → ℕ → List ℕ → Gate
-gateAll b room s = cond (not (sound b)) (Stop (checkedOutcome Damaged) 0) (cond (ltb room 1302) (Stop 4 0) (gateOf s))
+unfoldable pub gateAll : Config → List ℕ → ℕ → List ℕ → Gate
+gateAll config b room s = cond (not (soundBy config b)) (Stop (checkedOutcome Damaged) 0) (cond (ltb room 1302) (Stop 4 0) (gateOf s))
 
 -- the reader's status ends it, save a 0x03: a 0x04 that needs mode or clock comes before
 abbrev pub reachesDecision : ℕ → Bool
@@ -82,12 +84,12 @@ unfolding decisionOn
 frameEffect t clock s h = effectOf (requestOf s h) (findRow (t .rows) (bytesIn s (keySpan h))) (decisionOn t clock s h)
 
 -- a table after a decision on one of its keys
-abbrev pub tableChanged : Table → Key → Effect → Table
-tableChanged t key x = record { head = x .head; rows = storeRow plain (t .rows) key (x .store) }
+abbrev pub tableChanged : Config → Table → Key → Effect → Table
+tableChanged config t key x = record { head = x .head; rows = storeRow (engineOf config) (t .rows) key (x .store) }
 
 -- a table after a whole frame
-abbrev pub frameChange : Table → ℕ → List ℕ → Header → Table
-frameChange t clock s h = tableChanged t (bytesIn s (keySpan h)) (frameEffect t clock s h)
+abbrev pub frameChange : Config → Table → ℕ → List ℕ → Header → Table
+frameChange config t clock s h = tableChanged config t (bytesIn s (keySpan h)) (frameEffect t clock s h)
 
 -- ---- order 2, on a table's memory: "every served frame, read and purge uses the later of the two", and the table keeps it, whatever the status
 abbrev pub decisionAt : List ℕ → ℕ → List ℕ → Header → Decision
@@ -97,9 +99,9 @@ abbrev pub effectAt : List ℕ → ℕ → List ℕ → Header → Effect
 effectAt b clock s h = frameEffect (tableAt (tableOf b) clock) (clockAt (tableOf b) clock) s h
 
 -- the memory after a whole frame
-unfoldable pub frameTable : List ℕ → ℕ → List ℕ → Header → List ℕ
+unfoldable pub frameTable : Config → List ℕ → ℕ → List ℕ → Header → List ℕ
 unfolding frameEffect
-frameTable b clock s h = tableBytes (frameChange (tableAt (tableOf b) clock) (clockAt (tableOf b) clock) s h)
+frameTable config b clock s h = tableBytes (frameChange config (tableAt (tableOf b) clock) (clockAt (tableOf b) clock) s h)
 
 unfoldable pub frameReply : List ℕ → ℕ → List ℕ → Header → List ℕ
 unfolding decisionOn
@@ -113,20 +115,20 @@ abbrev pub answerBy : List ℕ → ℕ → List ℕ → Gate → Served
 answerBy b clock s (Stop n need) = Refused n need
 answerBy b clock s (Whole h) = Done (effectAt b clock s h .status) (24 + h .body) (length (frameReply b clock s h))
 
-abbrev pub tableBy : List ℕ → ℕ → List ℕ → Gate → List ℕ
-tableBy b clock s (Stop n need) = b
-tableBy b clock s (Whole h) = frameTable b clock s h
+abbrev pub tableBy : Config → List ℕ → ℕ → List ℕ → Gate → List ℕ
+tableBy config b clock s (Stop n need) = b
+tableBy config b clock s (Whole h) = frameTable config b clock s h
 
 abbrev pub replyBy : List ℕ → ℕ → List ℕ → List ℕ → Gate → List ℕ
 replyBy b clock s out (Stop n need) = out
 replyBy b clock s out (Whole h) = written out 0 (frameReply b clock s h)
 
 -- what serving answers, and what it leaves of the table and of the reply area
-unfoldable pub served : List ℕ → ℕ → List ℕ → ℕ → Served
-served b clock s room = answerBy b clock s (gateAll b room s)
+unfoldable pub served : Config → List ℕ → ℕ → List ℕ → ℕ → Served
+served config b clock s room = answerBy b clock s (gateAll config b room s)
 
-unfoldable pub servedTable : List ℕ → ℕ → List ℕ → ℕ → List ℕ
-servedTable b clock s room = tableBy b clock s (gateAll b room s)
+unfoldable pub servedTable : Config → List ℕ → ℕ → List ℕ → ℕ → List ℕ
+servedTable config b clock s room = tableBy config b clock s (gateAll config b room s)
 
-unfoldable pub servedReply : List ℕ → ℕ → List ℕ → List ℕ → List ℕ
-servedReply b clock s out = replyBy b clock s out (gateAll b (length out) s)
+unfoldable pub servedReply : Config → List ℕ → ℕ → List ℕ → List ℕ → List ℕ
+servedReply config b clock s out = replyBy b clock s out (gateAll config b (length out) s)

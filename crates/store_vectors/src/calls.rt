@@ -4,13 +4,14 @@ use crate::text;
 use crate::text::Given;
 use document::Head;
 use document::Metadata;
+use engine::Config;
 use engine::Place;
 use numbers::Cas;
 use numbers::Left;
 use numbers::Numbers;
 use numbers::Revision;
-use owner::Document;
-use owner::Purged;
+use owning::Document;
+use owning::Purged;
 use table::Lookup;
 
 // What the memory holds before a table is made in it, and the reply area before a frame is served.
@@ -80,17 +81,17 @@ pub(crate) fn dump(g: Given, s: &[u8]) {
     show::octets(octets::part(s, n[0] as usize, n[1] as usize));
 }
 
-pub(crate) fn sound(s: &[u8]) {
-    if table::is_sound(s) {
+pub(crate) fn sound(config: Config, s: &[u8]) {
+    if table::is_sound(config, s) {
         show::text(b"sound");
         return;
     }
     show::text(b"damaged");
 }
 
-pub(crate) fn purge(g: Given, s: &mut [u8]) {
+pub(crate) fn purge(config: Config, g: Given, s: &mut [u8]) {
     let n = g.numbers;
-    let p = owner::purge(s, as_u32(n[0]), Cas(n[1]));
+    let p = owner::purge(config, s, as_u32(n[0]), Cas(n[1]));
     match p {
         Purged::Damaged => show::text(b"outcome 5"),
         Purged::Freed(k) => show::decimal(b"freed ", k as u64),
@@ -128,7 +129,7 @@ fn put_mark(s: &mut [u8], mark: Cas) {
     );
 }
 
-fn store_by(g: Given, key: &[u8], value: &[u8], s: &mut [u8], l: Lookup) {
+fn store_by(config: Config, g: Given, key: &[u8], value: &[u8], s: &mut [u8], l: Lookup) {
     let n = g.numbers;
     let given = Metadata {
         tomb: n[0] == 1,
@@ -139,7 +140,7 @@ fn store_by(g: Given, key: &[u8], value: &[u8], s: &mut [u8], l: Lookup) {
             cas: Cas(n[4]),
         },
     };
-    table::store(s, l, key, given, value);
+    table::store(config, s, l, key, given, value);
     put_mark(s, Cas(n[5]));
 }
 
@@ -151,14 +152,14 @@ fn show_place(p: Place) {
     }
 }
 
-fn store_entry(g: Given, key: &[u8], value: &[u8], s: &mut [u8]) {
-    let l = table::find(s, key, true);
+fn store_entry(config: Config, g: Given, key: &[u8], value: &[u8], s: &mut [u8]) {
+    let l = table::find(config, s, key, true);
     let p = l.place;
     show_place(p);
     if !table::has_place(p) {
         return;
     }
-    store_by(g, key, value, s, l);
+    store_by(config, g, key, value, s, l);
 }
 
 // Where the key and the value end in the space, and whether the line spells them.
@@ -178,15 +179,15 @@ fn put_parts(space: &mut [u8], spelled: &[u8]) -> Parts {
     }
 }
 
-fn store_parts(g: Given, space: &[u8], p: Parts, s: &mut [u8]) {
+fn store_parts(config: Config, g: Given, space: &[u8], p: Parts, s: &mut [u8]) {
     let key = octets::part(space, 0, p.key);
-    store_entry(g, key, between(space, p.key, p.value), s);
+    store_entry(config, g, key, between(space, p.key, p.value), s);
 }
 
-pub(crate) fn store(g: Given, spelled: &[u8], s: &mut [u8], space: &mut [u8]) {
+pub(crate) fn store(config: Config, g: Given, spelled: &[u8], s: &mut [u8], space: &mut [u8]) {
     let p = put_parts(space, spelled);
     if p.good {
-        store_parts(g, space, p, s);
+        store_parts(config, g, space, p, s);
     } else {
         show::text(b"what?");
     }
@@ -213,7 +214,7 @@ fn show_document(s: &[u8], d: Document) {
     }
 }
 
-pub(crate) fn read(g: Given, spelled: &[u8], s: &[u8], space: &mut [u8]) {
+pub(crate) fn read(config: Config, g: Given, spelled: &[u8], s: &[u8], space: &mut [u8]) {
     let n = g.numbers;
     let key = text::put_bytes(space, 0, spelled);
     if !key.good {
@@ -222,6 +223,6 @@ pub(crate) fn read(g: Given, spelled: &[u8], s: &[u8], space: &mut [u8]) {
     }
     show_document(
         s,
-        owner::read(s, as_u32(n[0]), octets::part(space, 0, key.end)),
+        owner::read(config, s, as_u32(n[0]), octets::part(space, 0, key.end)),
     );
 }

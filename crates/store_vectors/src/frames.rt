@@ -4,6 +4,7 @@ use crate::calls::FILL;
 use crate::show;
 use crate::text;
 use crate::text::Given;
+use engine::Config;
 use serving::Served;
 use tally::Tally;
 
@@ -51,9 +52,9 @@ fn show_served(r: Served, out: &[u8]) {
 }
 
 // Serves the frame at the start of the bytes, and prints the answer.
-fn step(s: &mut [u8], clock: u32, bytes: &[u8], out: &mut [u8]) -> Served {
+fn step(config: Config, s: &mut [u8], clock: u32, bytes: &[u8], out: &mut [u8]) -> Served {
     text::put_run(out, 0, FILL, out.len());
-    let r = serve::serve_one(s, clock, bytes, out);
+    let r = serve::serve_one(config, s, clock, bytes, out);
     show_served(r, out);
     show::table(s);
     r
@@ -68,11 +69,18 @@ fn used_by(r: Served) -> usize {
 }
 
 // Serves frame after frame, until one is refused.
-fn run_frames(s: &mut [u8], clock: u32, bytes: &[u8], out: &mut [u8], t: Tally) -> Tally {
+fn run_frames(
+    config: Config,
+    s: &mut [u8],
+    clock: u32,
+    bytes: &[u8],
+    out: &mut [u8],
+    t: Tally,
+) -> Tally {
     let mut counts = t;
     let mut at: usize = 0;
     while at <= bytes.len() {
-        let r = step(s, clock, octets::rest(bytes, at), out);
+        let r = step(config, s, clock, octets::rest(bytes, at), out);
         counts = tally::counted(counts, r);
         let used = used_by(r);
         if used == 0 {
@@ -88,6 +96,7 @@ fn run_frames(s: &mut [u8], clock: u32, bytes: &[u8], out: &mut [u8], t: Tally) 
 }
 
 pub(crate) fn serve(
+    config: Config,
     g: Given,
     spelled: &[u8],
     s: &mut [u8],
@@ -101,11 +110,18 @@ pub(crate) fn serve(
         show::text(b"what?");
         return t;
     }
-    let r = step(s, calls::as_u32(n[0]), octets::part(space, 0, put.end), out);
+    let r = step(
+        config,
+        s,
+        calls::as_u32(n[0]),
+        octets::part(space, 0, put.end),
+        out,
+    );
     tally::counted(t, r)
 }
 
 pub(crate) fn run(
+    config: Config,
     g: Given,
     spelled: &[u8],
     s: &mut [u8],
@@ -120,6 +136,7 @@ pub(crate) fn run(
         return t;
     }
     run_frames(
+        config,
         s,
         calls::as_u32(n[0]),
         octets::part(space, 0, put.end),

@@ -1,6 +1,8 @@
 // Drives one table in lent memory by the lines of standard input, and prints an answer for each line:
 //
 //     # ..            a heading, printed as it is; so is an empty line
+//     engine plain, engine ordered
+//                     the engine that keeps the table's rows from now on; rows in key order at the start
 //     size ROWS       the bytes that a table of so many rows needs
 //     make SIZE ROWS STATE MODE VBUCKET
 //                     fills SIZE bytes with ee, makes a table in them, and shows what the bytes are then
@@ -34,22 +36,40 @@ mod frames;
 mod show;
 mod text;
 
+use engine::Config;
 use tally::Tally;
 use text::Given;
 
-// How much of the memory and of the reply area is lent, and the counts.
+// The engine, how much of the memory and of the reply area is lent, and the counts.
 struct Lent {
+    config: Config,
     size: usize,
     room: usize,
     tally: Tally,
 }
 
-// What a line finds lent: make and lend name a new size, room and tally a new room or counts.
-fn lent_for(word: &[u8], g: Given, l: Lent) -> Lent {
+// Whether a line names an engine.
+fn is_engine(word: &[u8], rest: &[u8]) -> bool {
+    compare::same(word, b"engine")
+        & (compare::same(rest, b"plain") | compare::same(rest, b"ordered"))
+}
+
+// What a line finds lent: engine names another one, make and lend a new size, room and tally a new room or counts.
+fn lent_for(word: &[u8], rest: &[u8], g: Given, l: Lent) -> Lent {
     let n = g.numbers;
+    let config = l.config;
     let tally = l.tally;
+    if is_engine(word, rest) {
+        return Lent {
+            config: engine::config_for(compare::same(rest, b"plain")),
+            size: l.size,
+            room: l.room,
+            tally,
+        };
+    }
     if compare::same(word, b"make") | compare::same(word, b"lend") {
         return Lent {
+            config,
             size: n[0] as usize,
             room: l.room,
             tally,
@@ -57,6 +77,7 @@ fn lent_for(word: &[u8], g: Given, l: Lent) -> Lent {
     }
     if compare::same(word, b"room") & (g.count == 1) {
         return Lent {
+            config,
             size: l.size,
             room: n[0] as usize,
             tally,
@@ -64,6 +85,7 @@ fn lent_for(word: &[u8], g: Given, l: Lent) -> Lent {
     }
     if compare::same(word, b"tally") & (g.count == 3) {
         return Lent {
+            config,
             size: l.size,
             room: l.room,
             tally: frames::tally_of(g),
@@ -73,7 +95,7 @@ fn lent_for(word: &[u8], g: Given, l: Lent) -> Lent {
 }
 
 // Answers the owner's calls that need no more than their numbers, and says whether the line is one of them.
-fn is_plain_call(word: &[u8], g: Given, s: &mut [u8]) -> bool {
+fn is_bare_call(config: Config, word: &[u8], g: Given, s: &mut [u8]) -> bool {
     if compare::same(word, b"size") & (g.count == 1) {
         calls::size(g);
         return true;
@@ -91,18 +113,23 @@ fn is_plain_call(word: &[u8], g: Given, s: &mut [u8]) -> bool {
         return true;
     }
     if compare::same(word, b"sound") & (g.count == 0) {
-        calls::sound(s);
+        calls::sound(config, s);
         return true;
     }
     if compare::same(word, b"purge") & (g.count == 2) {
-        calls::purge(g, s);
+        calls::purge(config, g, s);
         return true;
     }
     false
 }
 
-// Answers a line about the reply area or the counts, and says whether the line is one.
-fn is_setting(word: &[u8], g: Given, room: usize, t: Tally) -> bool {
+// Answers a line about the engine, the reply area or the counts, and says whether the line is one.
+fn is_setting(word: &[u8], rest: &[u8], g: Given, room: usize, t: Tally) -> bool {
+    if is_engine(word, rest) {
+        show::text(b"engine ");
+        show::text(rest);
+        return true;
+    }
     if compare::same(word, b"room") & (g.count == 1) {
         show::decimal(b"room ", room as u64);
         return true;
@@ -116,17 +143,24 @@ fn is_setting(word: &[u8], g: Given, room: usize, t: Tally) -> bool {
 
 // Answers the owner's calls that take bytes, which stand after the line's first slash, and says whether the line is one of
 // them. The space is for the bytes.
-fn is_call(word: &[u8], g: Given, spelled: &[u8], s: &mut [u8], space: &mut [u8]) -> bool {
+fn is_call(
+    config: Config,
+    word: &[u8],
+    g: Given,
+    spelled: &[u8],
+    s: &mut [u8],
+    space: &mut [u8],
+) -> bool {
     if compare::same(word, b"poke") & (g.count == 1) {
         calls::poke(g, spelled, s, space);
         return true;
     }
     if compare::same(word, b"store") & (g.count == 6) {
-        calls::store(g, spelled, s, space);
+        calls::store(config, g, spelled, s, space);
         return true;
     }
     if compare::same(word, b"read") & (g.count == 1) {
-        calls::read(g, spelled, s, space);
+        calls::read(config, g, spelled, s, space);
         return true;
     }
     false
@@ -134,6 +168,7 @@ fn is_call(word: &[u8], g: Given, spelled: &[u8], s: &mut [u8], space: &mut [u8]
 
 // Answers a line that serves, or one that can't be understood.
 fn answer_frames(
+    config: Config,
     word: &[u8],
     g: Given,
     spelled: &[u8],
@@ -143,16 +178,17 @@ fn answer_frames(
     t: Tally,
 ) -> Tally {
     if compare::same(word, b"serve") & (g.count == 1) {
-        return frames::serve(g, spelled, s, out, space, t);
+        return frames::serve(config, g, spelled, s, out, space, t);
     }
     if compare::same(word, b"run") & (g.count == 1) {
-        return frames::run(g, spelled, s, out, space, t);
+        return frames::run(config, g, spelled, s, out, space, t);
     }
     show::text(b"what?");
     t
 }
 
 fn answer_call(
+    config: Config,
     word: &[u8],
     g: Given,
     rest: &[u8],
@@ -161,19 +197,19 @@ fn answer_call(
     space: &mut [u8],
     t: Tally,
 ) -> Tally {
-    if is_setting(word, g, out.len(), t) {
+    if is_setting(word, rest, g, out.len(), t) {
         return t;
     }
-    if is_plain_call(word, g, s) {
+    if is_bare_call(config, word, g, s) {
         show::table(s);
         return t;
     }
     let spelled = text::after(rest, b'/');
-    if is_call(word, g, spelled, s, space) {
+    if is_call(config, word, g, spelled, s, space) {
         show::table(s);
         return t;
     }
-    answer_frames(word, g, spelled, s, out, space, t)
+    answer_frames(config, word, g, spelled, s, out, space, t)
 }
 
 // Answers a line, and hands on what the next one finds lent.
@@ -191,7 +227,8 @@ fn answer_line(
     let word = text::before(line, b' ');
     let rest = text::after(line, b' ');
     let g = text::numbers(text::before(rest, b'/'));
-    let d = lent_for(word, g, before);
+    let d = lent_for(word, rest, g, before);
+    let config = d.config;
     let size = d.size;
     let room = d.room;
     if memory.len() < size {
@@ -204,6 +241,7 @@ fn answer_line(
     }
     let t = d.tally;
     let tally = answer_call(
+        config,
         word,
         g,
         rest,
@@ -212,12 +250,18 @@ fn answer_line(
         space,
         t,
     );
-    Lent { size, room, tally }
+    Lent {
+        config,
+        size,
+        room,
+        tally,
+    }
 }
 
 fn answer_lines(input: &[u8], memory: &mut [u8], area: &mut [u8], space: &mut [u8]) {
     let mut at: usize = 0;
     let mut d = Lent {
+        config: engine::config_for(false),
         size: 0,
         room: 1302,
         tally: Tally {
@@ -238,7 +282,7 @@ fn answer_lines(input: &[u8], memory: &mut [u8], area: &mut [u8], space: &mut [u
 }
 
 fn main() {
-    let mut input = [0u8; 262144];
+    let mut input = [0u8; 524288];
     let n = io::read_full(0, &mut input);
     let mut memory = [0u8; 340000];
     let mut area = [0u8; 2048];

@@ -4,37 +4,49 @@ use native.Mathlib.Omega.{arith}
 use mathlib.Core.Path.{_≡_, sym, ap, _∙_}
 use mathlib.Core.Bool.{Bool}
 use mathlib.Core.List.{List}
-use lib.ListN.{length, drop}
+use mathlib.Core.Option.{none, some}
+use lib.ListN.{length, getD}
 use Rattle.octets.specs.Parts.{part}
-use Rattle.document.specs.Documents.{Key}
+use Rattle.document.specs.Documents.{Key, Entry}
 use Rattle.document.specs.Stored.{metadataOf}
 use Rattle.document.specs.declared.Metadata.{Metadata}
 use Rattle.document.specs.declared.Stored.the-variants.{Used}
+use Rattle.engine.specs.declared.Config.{Config}
+use Rattle.engine.specs.declared.EngineKind.{EngineKind}
+use Rattle.engine.specs.declared.EngineKind.the-variants.{Plain, Ordered}
 use Rattle.engine.specs.declared.Place.{Place}
 use Rattle.engine.specs.declared.Place.the-variants.{Over}
-use Rattle.rows.specs.Row.{slotOf, docOf}
+use Rattle.rows.specs.Row.{Row, slotOf, docOf}
 use Rattle.rows.specs.Table.{rowCount, tableOf, rowAt}
 use Rattle.rows.proofs.OneRow.{row-size, row-at, row-entry, key-inside, row-there}
-use Rattle.plain.specs.Lookup.{placeBy}
 use Rattle.plain.proofs.Places.{find-place}
 use Rattle.plain.proofs.Placing.{over-found}
-use Rattle.plain.proofs.TableLaws.{length-rows}
+use Rattle.plain.proofs.TableLaws.{count-rows}
+use Rattle.ordered_lookup.proofs.PlaceLaws.{over-keyed}
 use Rattle.table.specs.declared.Lookup.{Lookup}
-use Rattle.table.specs.Calls.{lookupOver, lookupAt, lookupOf}
+use Rattle.table.specs.Calls.{lookupOver, lookupAt, placeWith, placeFor, lookupOf}
 
-count : (b : List ℕ) → length (tableOf b .rows) ≡ rowCount b
-unfolding tableOf
-count b = length-rows (rowCount b) (drop 16 b)
+-- the row that a document goes over is there and has its key, whatever the rows
+abbrev Keyed : Key → List Row → ℕ → Type 0
+Keyed key ws i = (i < length ws) × ((e : Entry) × ((getD ws i none ≡ some e) × (e .key ≡ key)))
 
-module _ (b : List ℕ) (key : Key) (new : Bool) (i : ℕ) (e : placeBy new key (tableOf b .rows) ≡ Over i) where
+over-in : (k : EngineKind) (key : Key) (ws : List Row) (new : Bool) (i : ℕ) → placeWith k new key ws ≡ Over i → Keyed key ws i
+over-in Plain key ws new i e = let h = find-place key ws i (over-found key ws new i e) in (h .below, (h .entry, (h .there, h .named)))
+over-in Ordered key ws new i e = over-keyed ws key new i e
+
+module _ (config : Config) (b : List ℕ) (key : Key) (new : Bool) (i : ℕ) (e : placeFor config new key (tableOf b .rows) ≡ Over i) where
+  over-row : Keyed key (tableOf b .rows) i
+  unfolding placeFor
+  over-row = over-in (config .engine) key (tableOf b .rows) new i e
+
   pub place-below : i < rowCount b
-  place-below = let h = find-place key (tableOf b .rows) i (over-found key (tableOf b .rows) new i e) in omega (arith, h .below, count b)
+  place-below = omega (arith, over-row .0, count-rows b)
 
   pub place-short : length key ≤ 1280
   place-short =
-      let h = find-place key (tableOf b .rows) i (over-found key (tableOf b .rows) new i e) in
-      let q = row-entry (rowAt b i) (h .entry) (sym (row-at b i) ∙ h .there) in
-      let l = ap length (q .0 ∙ h .named) in
+      let h = over-row .1 in
+      let q = row-entry (rowAt b i) (h .0) (sym (row-at b i) ∙ h .1 .0) in
+      let l = ap length (q .0 ∙ h .1 .1) in
       omega (arith, l, key-inside (rowAt b i) (omega (arith, row-size b i place-below)))
 
 -- what is read of the row
@@ -51,6 +63,7 @@ row-held b r k i vallen m h e p q =
     }
 
 -- by the place that was found
-pub looked : (b : List ℕ) (key : Key) (new : Bool) (p : Place) (l : Lookup) → p ≡ placeBy new key (tableOf b .rows) → l ≡ lookupAt b (length key) p → l ≡ lookupOf new b key
+pub looked : (config : Config) (b : List ℕ) (key : Key) (new : Bool) (p : Place) (l : Lookup) → p ≡ placeFor config new key (tableOf b .rows)
+    → l ≡ lookupAt b (length key) p → l ≡ lookupOf config new b key
 unfolding lookupOf
-looked b key new p l e f = f ∙ ap (lookupAt b (length key)) e
+looked config b key new p l e f = f ∙ ap (lookupAt b (length key)) e

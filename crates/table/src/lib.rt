@@ -1,23 +1,23 @@
-// The six calls by which serving and the owner's calls reach a table's rows: checked, find, store, join, purge and put_keys. Which engine
-// keeps the rows is decided here and nowhere above. Every function is total on any bytes; what it means on a table that is
+// The six calls by which serving and the owner's calls reach a table's rows: checked, find, store, join, purge and put_keys. The engine
+// that a call is for is chosen here and nowhere above. Every function is total on any bytes; what it means on a table that is
 // not damaged is in specs/Claims.antt.
 ghost use mathlib.Core.Path.{_≡_};
 ghost use Prim.Native.Nat.{_≤_, _<_};
 ghost use lib.ListN.{length};
 ghost use Rattle.octets.specs.Parts.{written};
-ghost use Rattle.document.specs.Stored.{goneDoc};
-ghost use Rattle.rows.specs.Table.{rowCount};
-ghost use Rattle.plain.specs.Damage.{sound, checkedOf};
-ghost use Rattle.plain_writer.specs.Change.{purgedRows, freedRows};
-ghost use Rattle.plain_listing.specs.Places.{fittingKeys};
-ghost use Rattle.table.specs.Calls.{hasPlace, lookupAt, lookupOf, rowPlace, storedBy, joinedBy};
+ghost use Rattle.document.specs.Stored.{entryOf, goneDoc};
+ghost use Rattle.rows.specs.Table.{rowCount, tableOf};
+ghost use Rattle.plain_writer.specs.Change.{freedRows};
+ghost use Rattle.engines.specs.Damage.{soundBy, checkedBy};
+ghost use Rattle.table.specs.Calls.{isOrdered, hasPlace, lookupAt, placeFor, lookupOf, storedNew, storedBy, joinedBy, purgedBy, keysFor};
 use document::Metadata;
 use document::Side;
 use document::Stored;
 use engine::Checked;
+use engine::Config;
+use engine::EngineKind;
 use engine::Place;
 use numbers::Cas;
-use plain::Found;
 use rows::FIXED;
 use rows::HEADER;
 use rows::ROW;
@@ -33,18 +33,44 @@ pub struct Lookup {
     pub len: usize,
 }
 
-// The head where the memory is a table that is not damaged.
-pub fn checked(b: &[u8]) -> Checked
-    ensures { λ r. ⌜ r ≡ checkedOf (now (b .entry)) ⌝ }
+// Whether an engine keeps its rows in key order.
+fn is_ordered(engine: EngineKind) -> bool
+    ensures { λ r. ⌜ r ≡ isOrdered engine ⌝ }
 {
-    plain_damage::checked(b)
+    match engine {
+        EngineKind::Plain => false,
+        EngineKind::Ordered => true,
+    }
+}
+
+// The head where the memory is a table that is not damaged. One walk for both engines; the keys of plain rows are compared after it.
+pub fn checked(config: Config, b: &[u8]) -> Checked
+    ensures { λ r. ⌜ r ≡ checkedBy config (now (b .entry)) ⌝ }
+{
+    let engine = config.engine;
+    let keyed = is_ordered(engine);
+    match row_damage::checked_rows(b, keyed) {
+        Checked::Damaged => Checked::Damaged,
+        Checked::Sound(h) => {
+            if keyed {
+                return Checked::Sound(h);
+            }
+            if !plain_damage::is_distinct(b) {
+                return Checked::Damaged;
+            }
+            Checked::Sound(h)
+        }
+    }
 }
 
 // Whether the memory is a table that is not damaged.
-pub fn is_sound(b: &[u8]) -> bool
-    ensures { λ r. ⌜ r ≡ sound (now (b .entry)) ⌝ }
+pub fn is_sound(config: Config, b: &[u8]) -> bool
+    ensures { λ r. ⌜ r ≡ soundBy config (now (b .entry)) ⌝ }
 {
-    plain_damage::is_sound(b)
+    match checked(config, b) {
+        Checked::Damaged => false,
+        Checked::Sound(_) => true,
+    }
 }
 
 // Whether there is such a place.
@@ -86,65 +112,101 @@ fn absent(place: Place) -> Lookup
     }
 }
 
-// Looks for a key. new: whether a place is looked for where the key has no row.
-pub fn find(b: &[u8], key: &[u8], new: bool) -> Lookup
-    ensures { λ r. ⌜ r ≡ lookupOf new (now (b .entry)) (now (key .entry)) ⌝ }
+// The place of a key's document: over its row, else a new row's.
+fn place_for(config: Config, b: &[u8], key: &[u8], new: bool) -> Place
+    ensures { λ r. ⌜ r ≡ placeFor config new (now (key .entry)) (tableOf (now (b .entry)) .rows) ⌝ }
 {
-    match plain::lookup::place(b, key, new) {
+    let engine = config.engine;
+    match engine {
+        EngineKind::Plain => plain::lookup::place(b, key, new),
+        EngineKind::Ordered => ordered_lookup::place(b, key, new),
+    }
+}
+
+// Looks for a key. new: whether a place is looked for where the key has no row.
+pub fn find(config: Config, b: &[u8], key: &[u8], new: bool) -> Lookup
+    ensures { λ r. ⌜ r ≡ lookupOf config new (now (b .entry)) (now (key .entry)) ⌝ }
+{
+    match place_for(config, b, key, new) {
         Place::Over(i) => held(b, key.len(), i),
         Place::Into(i) => absent(Place::Into(i)),
         Place::Full => absent(Place::Full),
     }
 }
 
-// The row of a place.
-fn row_place(p: Place) -> Found
-    ensures { λ r. ⌜ r ≡ rowPlace p ⌝ }
+// Stores a document for a key in a new row at a place.
+fn store_new(config: Config, b: &mut [u8], i: usize, key: &[u8], m: Metadata, value: &[u8])
+    ensures { λ _. ⌜ now (b .exit) ≡ storedNew config (now (b .entry)) i (entryOf (now (key .entry)) m (now (value .entry))) ⌝ }
 {
-    match p {
-        Place::Over(i) => Found::At(i),
-        Place::Into(i) => Found::At(i),
-        Place::Full => Found::Nothing,
+    let engine = config.engine;
+    match engine {
+        EngineKind::Plain => plain_writer::store(b, i, key, m, value, 0),
+        EngineKind::Ordered => ordered_writer::insert(b, i, key, m, value),
     }
 }
 
 // Stores a document for a key where a lookup of it said. Nothing changes where there is no place.
-pub fn store(b: &mut [u8], l: Lookup, key: &[u8], m: Metadata, value: &[u8])
-    ensures { λ _. ⌜ now (b .exit) ≡ storedBy (now (b .entry)) l (record { key = now (key .entry); doc = record { tomb = m .tomb; value = now (value .entry); numbers = m .numbers } }) ⌝ }
+pub fn store(config: Config, b: &mut [u8], l: Lookup, key: &[u8], m: Metadata, value: &[u8])
+    ensures { λ _. ⌜ now (b .exit) ≡ storedBy config (now (b .entry)) l (entryOf (now (key .entry)) m (now (value .entry))) ⌝ }
 {
     let old = l.len;
     let place = l.place;
-    match row_place(place) {
-        Found::At(i) => plain_writer::store(b, i, key, m, value, old),
-        Found::Nothing => {}
+    match place {
+        Place::Over(i) => plain_writer::store(b, i, key, m, value, old),
+        Place::Into(i) => store_new(config, b, i, key, m, value),
+        Place::Full => {}
     }
 }
 
 // Stores for a key the value that a lookup of it found with another one joined to it, in place. Nothing changes where there is no
 // place or the two don't fit together.
-pub fn join(b: &mut [u8], l: Lookup, key: &[u8], m: Metadata, side: Side, value: &[u8])
-    ensures { λ _. ⌜ now (b .exit) ≡ joinedBy (now (b .entry)) l (now (key .entry)) m side (now (value .entry)) ⌝ }
+pub fn join(
+    config: Config,
+    b: &mut [u8],
+    l: Lookup,
+    key: &[u8],
+    m: Metadata,
+    side: Side,
+    value: &[u8],
+)
+    ensures { λ _. ⌜ now (b .exit) ≡ joinedBy config (now (b .entry)) l (now (key .entry)) m side (now (value .entry)) ⌝ }
 {
     let old = l.len;
     let place = l.place;
-    match row_place(place) {
-        Found::At(i) => plain_writer::join(b, i, key, m, side, value, old),
-        Found::Nothing => {}
+    match place {
+        Place::Over(i) => plain_writer::join(b, i, key, m, side, value, old),
+        Place::Into(i) => store_new(config, b, i, key, m, value),
+        Place::Full => {}
     }
 }
 
 // Frees the tombstones and expired documents with CAS at or below the bound, and says how many.
-pub fn purge(b: &mut [u8], clock: u32, bound: Cas) -> usize
-    ensures { λ r. ⌜ (r ≡ freedRows (goneDoc clock (bound .0)) (now (b .entry))) × (now (b .exit) ≡ purgedRows (goneDoc clock (bound .0)) (now (b .entry))) ⌝ }
+pub fn purge(config: Config, b: &mut [u8], clock: u32, bound: Cas) -> usize
+    ensures { λ r. ⌜ (r ≡ freedRows (goneDoc clock (bound .0)) (now (b .entry))) × (now (b .exit) ≡ purgedBy config (goneDoc clock (bound .0)) (now (b .entry))) ⌝ }
 {
-    plain_writer::purge(b, clock, bound)
+    let engine = config.engine;
+    match engine {
+        EngineKind::Plain => plain_writer::purge(b, clock, bound),
+        EngineKind::Ordered => ordered_writer::purge(b, clock, bound),
+    }
 }
 
 // Writes a listing's value from byte 24 on and answers its length. Nothing where the room is under 1,302 bytes or the rows are over
 // 256.
-pub fn put_keys(b: &[u8], clock: u32, start: &[u8], count: u32, out: &mut [u8]) -> usize
-    ensures { λ r. ⌜ (r ≡ length (fittingKeys (length (now (out .entry))) (now (b .entry)) clock (now (start .entry)) count))
-        × (now (out .exit) ≡ written (now (out .entry)) 24 (fittingKeys (length (now (out .entry))) (now (b .entry)) clock (now (start .entry)) count)) ⌝ }
+pub fn put_keys(
+    config: Config,
+    b: &[u8],
+    clock: u32,
+    start: &[u8],
+    count: u32,
+    out: &mut [u8],
+) -> usize
+    ensures { λ r. ⌜ (r ≡ length (keysFor config (length (now (out .entry))) (now (b .entry)) clock (now (start .entry)) count))
+        × (now (out .exit) ≡ written (now (out .entry)) 24 (keysFor config (length (now (out .entry))) (now (b .entry)) clock (now (start .entry)) count)) ⌝ }
 {
-    plain_listing::put_keys(b, clock, start, count, out)
+    let engine = config.engine;
+    match engine {
+        EngineKind::Plain => plain_listing::put_keys(b, clock, start, count, out),
+        EngineKind::Ordered => ordered_listing::put_keys(b, clock, start, count, out),
+    }
 }

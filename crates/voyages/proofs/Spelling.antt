@@ -4,12 +4,13 @@ use Prim.Native.Nat.{ℕ, zero, suc, _+_, _≤_, _<_}
 use mathlib.Core.Path.{_≡_, refl, sym, ap, subst, _∙_}
 use mathlib.Core.Bool.{Bool, true, false, cond, _&&_, _||_, false≢true}
 use mathlib.Core.List.{List, [], _∷_, _++_}
-use mathlib.Core.Logic.{_⊎_, inl, inr}
-use mathlib.Core.Option.{Option, none}
+use mathlib.Core.Logic.{_⊎_, inl, inr, ⊎-elim}
+use mathlib.Core.Option.{Option}
 use lib.ListN.{length, take, drop, length-drop}
 use lib.Dec.{ltb, eqb}
 use lib.Seq.{drop-drop}
 use borrow.Author.Tests.{ltb-true, ltb-false, eqb-true, eqb-false, le-ltb, eq-eqb, ne-eqb}
+use Rattle.engine.specs.declared.Config.{Config}
 use Rattle.octets.specs.Parts.{part}
 use Rattle.octets.specs.BigEndian.{be, num}
 use Rattle.octets.proofs.Choices.{cases, both}
@@ -26,34 +27,38 @@ use Rattle.voyages.specs.Spelling.{WellOpened, BadOpeningStops, OtherSiz
 use Rattle.voyages.proofs.Serving.{opened-serves}
 
 -- ---- the opening
-opening-read : (trace : List ℕ) → WellOpened trace → openingOf trace ≡ Opened (num trace 0 1) (num trace 1 2)
+pub opening-read : (trace : List ℕ) → WellOpened trace → openingOf trace ≡ Opened (num trace 0 1) (num trace 1 2)
 unfolding openingOf
 opening-read trace w =
     rw (le-ltb 65536 (length trace) (w .most), le-ltb (length trace) 3 (w .least), known-mode (num trace 0 1) (w .mode)) refl
 
-opening-bad : (trace : List ℕ) → (WellOpened trace → ⊥) → openingOf trace ≡ NotOpened
+pub opened-or-not : (trace : List ℕ) → WellOpened trace ⊎ (openingOf trace ≡ NotOpened)
 unfolding openingOf
-opening-bad trace f =
-    cases (ltb 65536 (length trace)) (λ t. rw t refl)
-    (λ t. cases (ltb (length trace) 3) (λ u. rw (t, u) refl)
+opened-or-not trace =
+    cases (ltb 65536 (length trace)) (λ t. inr (rw t refl))
+    (λ t. cases (ltb (length trace) 3) (λ u. inr (rw (t, u) refl))
     (λ u. cases (eqb (num trace 0 1) 1 || eqb (num trace 0 1) 2)
-    (λ v. absurd (f (record {
+    (λ v. inl (record {
       least = ltb-false _ _ u;
       most = ltb-false _ _ t;
       mode = mode-known (num trace 0 1) v;
-    })))
-    (λ v. rw (t, u, v) refl)))
+    }))
+    (λ v. inr (rw (t, u, v) refl))))
 
-pub bad-opening-stops : BadOpeningStops
+pub unopened : (config : Config) (b trace : List ℕ) → length b ≡ 42000 → openingOf trace ≡ NotOpened
+    → (replayed config b trace .answer ≡ Stopped 0) × (replayed config b trace .table ≡ b)
 unfolding replayed
-bad-opening-stops b trace n f = rw (eq-eqb (length b) 42000 n, opening-bad trace f) (refl, refl)
+unopened config b trace n e = rw (eq-eqb (length b) 42000 n, e) (refl, refl)
 
-pub other-size-refused : OtherSizeRefused
+pub bad-opening-stops : (config : Config) → BadOpeningStops config
+bad-opening-stops config b trace n f = unopened config b trace n (⊎-elim (λ w. absurd (f w)) (λ e. e) (opened-or-not trace))
+
+pub other-size-refused : (config : Config) → OtherSizeRefused config
 unfolding replayed
-other-size-refused b trace f = rw (ne-eqb (length b) 42000 f) (refl, refl)
+other-size-refused config b trace f = rw (ne-eqb (length b) 42000 f) (refl, refl)
 
-pub replay-serves : ReplayServes
-replay-serves b trace n w = opened-serves b trace (num trace 0 1) (num trace 1 2) n (opening-read trace w)
+pub replay-serves : (config : Config) → ReplayServes config
+replay-serves config b trace n w = opened-serves config b trace (num trace 0 1) (num trace 1 2) n (opening-read trace w)
 
 -- ---- what is read from a place on, counted from the trace's start
 module _ (trace : List ℕ) (at : ℕ) where
@@ -78,6 +83,14 @@ unknown (suc (suc zero)) a b c d = absurd (b refl)
 unknown (suc (suc (suc zero))) a b c d = absurd (c refl)
 unknown (suc (suc (suc (suc zero)))) a b c d = absurd (d refl)
 unknown (suc (suc (suc (suc (suc n))))) a b c d = inr (omega arith)
+
+-- what holds of no fields, and of those that come after a field, holds of all after it
+pub after : (P : List Placed → Type 0) → P [] → (f : Field) (ps : List Placed) (X : Type 0) → (X → P ps) → NextOf f ps X → P ps
+after P end Broken ps X go e = subst P (sym e) end
+after P end (Clock n) ps X go x = go x
+after P end (Frame len) ps X go x = go x
+after P end (Reply len) ps X go x = go x
+after P end (Purge bound) ps X go x = go x
 
 module _ (trace : List ℕ) where
   module _ (at : ℕ) where
@@ -164,39 +177,32 @@ module _ (trace : List ℕ) where
   AllWithin [] = Unit {0}
   AllWithin (p ∷ ps) = Within (p .at) × AllWithin ps
 
-  after : (f : Field) (ps : List Placed) (X : Type 0) → (X → AllWithin ps) → NextOf f ps X → AllWithin ps
-  after Broken ps X go e = subst AllWithin (sym e) tt
-  after (Clock n) ps X go x = go x
-  after (Frame len) ps X go x = go x
-  after (Reply len) ps X go x = go x
-  after (Purge bound) ps X go x = go x
-
   all-within : (at : ℕ) (ps : List Placed) → 3 ≤ at → SpeltFrom trace at ps → AllWithin ps
   all-within at [] h w = tt
   all-within at (p ∷ ps) h w = (
     (omega (arith, h, w .1 .0), omega (arith, w .0, w .1 .0)),
-    after (p .field) ps (SpeltFrom trace (at + (3 + saidAt trace at)) ps) (all-within (at + (3 + saidAt trace at)) ps (omega (arith, h))) (w .1 .1 .1 .1),
+    after AllWithin tt (p .field) ps (SpeltFrom trace (at + (3 + saidAt trace at)) ps) (all-within (at + (3 + saidAt trace at)) ps (omega (arith, h))) (w .1 .1 .1 .1),
   )
 
   suffix : (xs ys : List Placed) → AllWithin (xs ++ ys) → AllWithin ys
   suffix [] ys w = w
   suffix (x ∷ xs) ys w = suffix xs ys (w .1)
 
-  ends-within : (b : List ℕ) (clock : ℕ) (last : Option (List ℕ)) (n : ℕ) (ps : List Placed) (r : Ending) → AllWithin ps → EndsAt b clock last n ps r → EndsWithin trace r
-  ends-within b clock last n ps (Replayed m) w e = tt
-  ends-within b clock last n [] (Differs at) w e = absurd e
-  ends-within b clock last n [] (Stopped at) w e = absurd e
-  ends-within b clock last n [] Damaged w e = e
-  ends-within b clock last n (p ∷ ps) (Differs at) w e = subst Within (sym (e .0)) (w .0)
-  ends-within b clock last n (p ∷ ps) (Stopped at) w e = subst Within (sym (e .0)) (w .0)
-  ends-within b clock last n (p ∷ ps) Damaged w e = e
+  ends-within : (config : Config) (b : List ℕ) (clock : ℕ) (last : Option (List ℕ)) (n : ℕ) (ps : List Placed) (r : Ending) → AllWithin ps → EndsAt config b clock last n ps r → EndsWithin trace r
+  ends-within config b clock last n ps (Replayed m) w e = tt
+  ends-within config b clock last n [] (Differs at) w e = absurd e
+  ends-within config b clock last n [] (Stopped at) w e = absurd e
+  ends-within config b clock last n [] Damaged w e = e
+  ends-within config b clock last n (p ∷ ps) (Differs at) w e = subst Within (sym (e .0)) (w .0)
+  ends-within config b clock last n (p ∷ ps) (Stopped at) w e = subst Within (sym (e .0)) (w .0)
+  ends-within config b clock last n (p ∷ ps) Damaged w e = e
 
 pub fields-spelt : FieldsSpelt
 unfolding fieldsFrom
 fields-spelt trace = spelt-from trace (length (drop 3 trace)) 3 (drop 3 trace) refl (omega arith)
 
-pub places-within : PlacesWithin
-places-within b trace n w =
-    let r = replay-serves b trace n w in
+pub places-within : (config : Config) → PlacesWithin config
+places-within config b trace n w =
+    let r = replay-serves config b trace n w in
     let all = all-within trace 3 (fieldsIn trace) (omega arith) (fields-spelt trace) in
-    ends-within trace _ _ _ _ (r .rest) (replayed b trace .answer) (suffix trace (r .done) (r .rest) (subst (AllWithin trace) (r .split) all)) (r .ends)
+    ends-within trace config _ _ _ _ (r .rest) (replayed config b trace .answer) (suffix trace (r .done) (r .rest) (subst (AllWithin trace) (r .split) all)) (r .ends)

@@ -4,6 +4,7 @@ use mathlib.Core.Path.{_≡_}
 use mathlib.Core.List.{List, [], _∷_, _++_}
 use mathlib.Core.Option.{Option, none, some}
 use lib.ListN.{length, replicate}
+use Rattle.engine.specs.declared.Config.{Config}
 use Rattle.octets.specs.Parts.{Bytes, part}
 use Rattle.serving.specs.declared.Served.the-variants.{Done}
 use Rattle.serving.specs.Serve.{served, servedReply}
@@ -48,33 +49,33 @@ framesIn [] = 0
 framesIn (p ∷ ps) = framesBy (p .field) + framesIn ps
 
 -- the last frame's reply, none before any frame
-abbrev pub lastBy : List ℕ → ℕ → Option (List ℕ) → Field → List ℕ → Option (List ℕ)
-lastBy b clock last (Clock n) bytes = last
-lastBy b clock last (Frame len) bytes = some (sentReply b clock bytes)
-lastBy b clock last (Reply len) bytes = last
-lastBy b clock last (Purges bound) bytes = last
-lastBy b clock last Broken bytes = last
+abbrev pub lastBy : Config → List ℕ → ℕ → Option (List ℕ) → Field → List ℕ → Option (List ℕ)
+lastBy config b clock last (Clock n) bytes = last
+lastBy config b clock last (Frame len) bytes = some (sentReply config b clock bytes)
+lastBy config b clock last (Reply len) bytes = last
+lastBy config b clock last (Purges bound) bytes = last
+lastBy config b clock last Broken bytes = last
 
 -- ---- on a table's memory b, at a clock, after a frame with this reply or none
 -- "exactly one frame with outcome 0": it is served with some status and a reply of so many bytes, and all bytes are consumed
-pub record OneFrame (b : List ℕ) (clock : ℕ) (bytes : List ℕ) (len : ℕ) : Type 0 where
+pub record OneFrame (config : Config) (b : List ℕ) (clock : ℕ) (bytes : List ℕ) (len : ℕ) : Type 0 where
   pub status : ℕ
   pub sent : ℕ
-  pub answer : served b clock bytes 1302 ≡ Done status len sent
+  pub answer : served config b clock bytes 1302 ≡ Done status len sent
 
 -- a field that doesn't end the replay
-abbrev pub LeadsOn : List ℕ → ℕ → Option (List ℕ) → Field → List ℕ → Type 0
-LeadsOn b clock last (Clock n) bytes = Unit {0}
-LeadsOn b clock last (Frame len) bytes = OneFrame b clock bytes len
-LeadsOn b clock last (Reply len) bytes = last ≡ some bytes
-LeadsOn b clock last (Purges bound) bytes = Unit {0}
-LeadsOn b clock last Broken bytes = ⊥
+abbrev pub LeadsOn : Config → List ℕ → ℕ → Option (List ℕ) → Field → List ℕ → Type 0
+LeadsOn config b clock last (Clock n) bytes = Unit {0}
+LeadsOn config b clock last (Frame len) bytes = OneFrame config b clock bytes len
+LeadsOn config b clock last (Reply len) bytes = last ≡ some bytes
+LeadsOn config b clock last (Purges bound) bytes = Unit {0}
+LeadsOn config b clock last Broken bytes = ⊥
 
-abbrev pub AllLeadOn : List ℕ → ℕ → Option (List ℕ) → List Placed → Type 0
-AllLeadOn b clock last [] = Unit {0}
-AllLeadOn b clock last (p ∷ ps) =
-    LeadsOn b clock last (p .field) (p .bytes)
-    × AllLeadOn (memoryAfter b (callBy clock (p .field) (p .bytes))) (clockBy clock (p .field)) (lastBy b clock last (p .field) (p .bytes)) ps
+abbrev pub AllLeadOn : Config → List ℕ → ℕ → Option (List ℕ) → List Placed → Type 0
+AllLeadOn config b clock last [] = Unit {0}
+AllLeadOn config b clock last (p ∷ ps) =
+    LeadsOn config b clock last (p .field) (p .bytes)
+    × AllLeadOn config (memoryAfter config b (callBy clock (p .field) (p .bytes))) (clockBy clock (p .field)) (lastBy config b clock last (p .field) (p .bytes)) ps
 
 -- the field that ends it: an expected reply that isn't the last frame's, or what stops it
 abbrev pub DiffersAt : List ℕ → ℕ → Option (List ℕ) → Field → List ℕ → Type 0
@@ -84,48 +85,48 @@ DiffersAt b clock last (Frame len) bytes = ⊥
 DiffersAt b clock last (Purges bound) bytes = ⊥
 DiffersAt b clock last Broken bytes = ⊥
 
-abbrev pub StopsAt : List ℕ → ℕ → Option (List ℕ) → Field → List ℕ → Type 0
-StopsAt b clock last (Reply len) bytes = last ≡ none
-StopsAt b clock last (Clock n) bytes = ⊥
-StopsAt b clock last (Frame len) bytes = OneFrame b clock bytes len → ⊥
-StopsAt b clock last (Purges bound) bytes = ⊥
-StopsAt b clock last Broken bytes = Unit {0}
+abbrev pub StopsAt : Config → List ℕ → ℕ → Option (List ℕ) → Field → List ℕ → Type 0
+StopsAt config b clock last (Reply len) bytes = last ≡ none
+StopsAt config b clock last (Clock n) bytes = ⊥
+StopsAt config b clock last (Frame len) bytes = OneFrame config b clock bytes len → ⊥
+StopsAt config b clock last (Purges bound) bytes = ⊥
+StopsAt config b clock last Broken bytes = Unit {0}
 
 -- where a replay of these fields ended, after some that lead on
-abbrev pub EndsAt : List ℕ → ℕ → Option (List ℕ) → ℕ → List Placed → Ending → Type 0
-EndsAt b clock last n [] (Replayed m) = m ≡ n
-EndsAt b clock last n [] (Differs at) = ⊥
-EndsAt b clock last n [] (Stopped at) = ⊥
-EndsAt b clock last n [] Damaged = ⊥
-EndsAt b clock last n (p ∷ ps) (Replayed m) = ⊥
-EndsAt b clock last n (p ∷ ps) (Differs at) = (at ≡ p .at) × DiffersAt b clock last (p .field) (p .bytes)
-EndsAt b clock last n (p ∷ ps) (Stopped at) = (at ≡ p .at) × StopsAt b clock last (p .field) (p .bytes)
-EndsAt b clock last n (p ∷ ps) Damaged = ⊥
+abbrev pub EndsAt : Config → List ℕ → ℕ → Option (List ℕ) → ℕ → List Placed → Ending → Type 0
+EndsAt config b clock last n [] (Replayed m) = m ≡ n
+EndsAt config b clock last n [] (Differs at) = ⊥
+EndsAt config b clock last n [] (Stopped at) = ⊥
+EndsAt config b clock last n [] Damaged = ⊥
+EndsAt config b clock last n (p ∷ ps) (Replayed m) = ⊥
+EndsAt config b clock last n (p ∷ ps) (Differs at) = (at ≡ p .at) × DiffersAt b clock last (p .field) (p .bytes)
+EndsAt config b clock last n (p ∷ ps) (Stopped at) = (at ≡ p .at) × StopsAt config b clock last (p .field) (p .bytes)
+EndsAt config b clock last n (p ∷ ps) Damaged = ⊥
 
 -- after fields that lead on: the clock, and the last frame's reply
 abbrev pub clockPast : ℕ → List Placed → ℕ
 clockPast clock [] = clock
 clockPast clock (p ∷ ps) = clockPast (clockBy clock (p .field)) ps
 
-abbrev pub lastAfter : List ℕ → ℕ → Option (List ℕ) → List Placed → Option (List ℕ)
-lastAfter b clock last [] = last
-lastAfter b clock last (p ∷ ps) =
-    lastAfter (memoryAfter b (callBy clock (p .field) (p .bytes))) (clockBy clock (p .field)) (lastBy b clock last (p .field) (p .bytes)) ps
+abbrev pub lastAfter : Config → List ℕ → ℕ → Option (List ℕ) → List Placed → Option (List ℕ)
+lastAfter config b clock last [] = last
+lastAfter config b clock last (p ∷ ps) =
+    lastAfter config (memoryAfter config b (callBy clock (p .field) (p .bytes))) (clockBy clock (p .field)) (lastBy config b clock last (p .field) (p .bytes)) ps
 
 -- ---- the replay of fields
-pub record ReplaysAs (b : List ℕ) (clock : ℕ) (last : Option (List ℕ)) (n : ℕ) (fields : List Placed) (e : After) : Type 0 where
+pub record ReplaysAs (config : Config) (b : List ℕ) (clock : ℕ) (last : Option (List ℕ)) (n : ℕ) (fields : List Placed) (e : After) : Type 0 where
   -- those before the place where it ended, and the others
   pub done : List Placed
   pub rest : List Placed
   pub split : fields ≡ done ++ rest
   -- each of their frames was served with outcome 0, and each reply that they expect was sent
-  pub goes : AllLeadOn b clock last done
+  pub goes : AllLeadOn config b clock last done
   -- "what was replayed before is the same as serving those frames and purging one by one"
-  pub table : e .table ≡ memoryAfter b (callsOf clock done)
-  pub ends : EndsAt (memoryAfter b (callsOf clock done)) (clockPast clock done) (lastAfter b clock last done) (n + framesIn done) rest (e .answer)
+  pub table : e .table ≡ memoryAfter config b (callsOf clock done)
+  pub ends : EndsAt config (memoryAfter config b (callsOf clock done)) (clockPast clock done) (lastAfter config b clock last done) (n + framesIn done) rest (e .answer)
 
 -- the reply that is compared is the one that serving puts at the start of the reply area
-abbrev pub SentIsReply : Type 0
-SentIsReply =
-    (b : List ℕ) (clock : ℕ) (s out : List ℕ) (status used len : ℕ) → Bytes b → length out ≡ 1302 → served b clock s (length out) ≡ Done status used len
-    → sentReply b clock s ≡ part (servedReply b clock s out) 0 len
+abbrev pub SentIsReply : Config → Type 0
+SentIsReply config =
+    (b : List ℕ) (clock : ℕ) (s out : List ℕ) (status used len : ℕ) → Bytes b → length out ≡ 1302 → served config b clock s (length out) ≡ Done status used len
+    → sentReply config b clock s ≡ part (servedReply config b clock s out) 0 len

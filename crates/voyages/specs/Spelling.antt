@@ -5,6 +5,7 @@ use mathlib.Core.List.{List, [], _∷_}
 use mathlib.Core.Logic.{_⊎_}
 use mathlib.Core.Option.{none}
 use lib.ListN.{length}
+use Rattle.engine.specs.declared.Config.{Config}
 use Rattle.octets.specs.Parts.{part}
 use Rattle.octets.specs.BigEndian.{num}
 use Rattle.rows.specs.Table.{tableBytes, fresh}
@@ -25,20 +26,20 @@ pub record WellOpened (trace : List ℕ) : Type 0 where
 
 -- "0 for a bad opening or a trace over 65,536 bytes": the lent memory stays as it is
 -- it rules out a replay that takes mode 3, an opening of two bytes or a trace of 65,537, and one that makes its table first
-abbrev pub BadOpeningStops : Type 0
-BadOpeningStops =
-    (b trace : List ℕ) → length b ≡ 42000 → (WellOpened trace → ⊥) → (replayed b trace .answer ≡ Stopped 0) × (replayed b trace .table ≡ b)
+abbrev pub BadOpeningStops : Config → Type 0
+BadOpeningStops config =
+    (b trace : List ℕ) → length b ≡ 42000 → (WellOpened trace → ⊥) → (replayed config b trace .answer ≡ Stopped 0) × (replayed config b trace .table ≡ b)
 
 -- memory of another size than a table of 32 rows takes is refused, unchanged, whatever the trace
-abbrev pub OtherSizeRefused : Type 0
-OtherSizeRefused = (b trace : List ℕ) → (length b ≡ 42000 → ⊥) → (replayed b trace .answer ≡ Damaged) × (replayed b trace .table ≡ b)
+abbrev pub OtherSizeRefused : Config → Type 0
+OtherSizeRefused config = (b trace : List ℕ) → (length b ≡ 42000 → ⊥) → (replayed config b trace .answer ≡ Damaged) × (replayed config b trace .table ≡ b)
 
 -- any other trace is replayed, "on a fresh active table of 32 rows", of the mode and the vbucket that its first three bytes say; "The clock is 0 until a tag 1."
 -- it rules out a replay that refuses a trace of 65,536 bytes or reads the vbucket with its low byte first; that leaves a purge out, takes another clock, serves a frame with bytes behind it, or compares with an earlier frame's reply
-abbrev pub ReplayServes : Type 0
-ReplayServes =
+abbrev pub ReplayServes : Config → Type 0
+ReplayServes config =
     (b trace : List ℕ) → length b ≡ 42000 → WellOpened trace
-    → ReplaysAs (tableBytes (fresh 32 1 (num trace 0 1) (num trace 1 2))) 0 none 0 (fieldsIn trace) (replayed b trace)
+    → ReplaysAs config (tableBytes (fresh 32 1 (num trace 0 1) (num trace 1 2))) 0 none 0 (fieldsIn trace) (replayed config b trace)
 
 -- ---- the fields
 -- "one-byte tag and two-byte length"
@@ -102,5 +103,5 @@ EndsWithin trace (Replayed n) = Unit {0}
 EndsWithin trace Damaged = ⊥
 
 -- so place 0 tells a bad opening or a trace that is too long, and nothing else
-abbrev pub PlacesWithin : Type 0
-PlacesWithin = (b trace : List ℕ) → length b ≡ 42000 → WellOpened trace → EndsWithin trace (replayed b trace .answer)
+abbrev pub PlacesWithin : Config → Type 0
+PlacesWithin config = (b trace : List ℕ) → length b ≡ 42000 → WellOpened trace → EndsWithin trace (replayed config b trace .answer)

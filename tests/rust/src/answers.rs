@@ -140,7 +140,19 @@ pub struct Fields<'a> {
     pub value: &'a [u8],
 }
 
-/// A contact store: every call of the library's interface.
+/// What keeps a table's rows. Order 7: "Keep used rows first, in ascending key byte order [...]. Keep the old table as the
+/// plain engine".
+#[derive(Clone, Copy, Debug, PartialEq, Eq, PartialOrd, Ord)]
+pub enum Engine {
+    Plain,
+    Ordered,
+}
+
+impl Engine {
+    pub const BOTH: [Engine; 2] = [Engine::Plain, Engine::Ordered];
+}
+
+/// A contact store of one engine: every call of the library's interface.
 pub trait Store {
     fn size(&self, rows: usize) -> usize;
     fn make(&self, table: &mut [u8], rows: usize, state: u8, mode: u8, vbucket: u16) -> u8;

@@ -1,21 +1,22 @@
-//! Two stores compared over random sessions.
+//! Stores compared over random sessions.
 
-use crate::answers::Store;
 use crate::coverage::Coverage;
+use crate::engines::{difference, failing_call, Engines, Stores};
 use crate::generate::{Generator, Start};
-use crate::session::{difference, failing_call, Pair, Session};
+use crate::session::Session;
 use crate::shrink::shrink;
 
 pub struct Comparison<'s> {
-    stores: [&'s dyn Store; 2],
+    stores: Stores<'s>,
     pub generator: Generator,
     pub coverage: Coverage,
-    pub pair: Pair<'s>,
+    pub engines: Engines<'s>,
 }
 
 impl<'s> Comparison<'s> {
-    pub fn new(stores: [&'s dyn Store; 2], seed: u64) -> Comparison<'s> {
-        Comparison { stores, generator: Generator::new(seed), coverage: Coverage::default(), pair: Pair::new(stores) }
+    pub fn new(stores: Stores<'s>, seed: u64) -> Comparison<'s> {
+        let (generator, coverage) = (Generator::new(seed), Coverage::default());
+        Comparison { stores, generator, coverage, engines: Engines::new(stores) }
     }
 
     /// Whole sessions with at least so many calls together; the session that fails is given up to its failing call.
@@ -28,18 +29,20 @@ impl<'s> Comparison<'s> {
 
     fn session(&mut self) -> Result<(), Session> {
         let start = self.generator.start();
-        self.coverage.start(&start);
-        let Start { table, tally, calls, .. } = start;
-        self.pair.start(&table, tally);
-        let mut session = Session { table, tally, calls: Vec::with_capacity(calls) };
-        let mut before = Vec::new();
+        self.engines.start(&start.session);
+        self.coverage.start(self.engines.tables(), &start);
+        let Start { mut session, calls, .. } = start;
+        let mut before = [Vec::new(), Vec::new()];
         for _ in 0..calls {
-            before.clear();
-            before.extend_from_slice(self.pair.table());
-            let call = self.generator.call(&before);
-            let result = self.pair.call(&call);
-            if let Ok(answer) = &result {
-                self.coverage.count(&before, &call, answer);
+            for (before, table) in before.iter_mut().zip(self.engines.tables()) {
+                before.clear();
+                before.extend_from_slice(table);
+            }
+            let tables = [before[0].as_slice(), &before[1]];
+            let call = self.generator.call(tables);
+            let result = self.engines.call(&call);
+            if let Ok(answers) = &result {
+                self.coverage.count(tables, &call, answers);
             }
             session.calls.push(call);
             if result.is_err() {

@@ -2,7 +2,7 @@
 //!
 //! The replies are the rendering's. Beside each frame stands what document 01 answers it, by which they are checked.
 
-use crate::answers::Tally;
+use crate::answers::{Engine, Tally};
 use crate::frame::{counter_extras, meta_extras, plain_extras, touch_extras, Frame};
 use crate::rendering::bytes::{u16_at, u64_at};
 use crate::rendering::serving::ROOM;
@@ -54,7 +54,7 @@ impl Told {
     }
 
     fn purge(&mut self, bound: u64, freed: usize, note: &str) {
-        assert_eq!(purge(&mut self.table, self.clock, bound).freed, freed, "{note}");
+        assert_eq!(purge(Engine::Ordered, &mut self.table, self.clock, bound).freed, freed, "{note}");
         self.push(Field::bound(bound), note);
     }
 
@@ -62,7 +62,7 @@ impl Told {
     fn frame(&mut self, frame: Frame, note: &str, Answer(status, cas): Answer, replied: &str) {
         let frame = Frame { vbucket: VBUCKET, ..frame }.bytes();
         let mut reply = vec![0; ROOM];
-        let served = serve(&mut self.table, self.clock, &frame, &mut reply, &mut Tally::default());
+        let served = serve(Engine::Ordered, &mut self.table, self.clock, &frame, &mut reply, &mut Tally::default());
         reply.truncate(served.reply);
         assert_eq!((u16_at(&reply, 6), u64_at(&reply, 16)), (u16::from(status), cas), "{note}");
         self.push(Field::frame(&frame), note);

@@ -1,8 +1,9 @@
-//! The proved contact store compared with an independent rendering of document 01.
+//! The proved contact store compared with an independent rendering of document 01, on both engines.
 
 pub mod answers;
 pub mod comparison;
 pub mod coverage;
+pub mod engines;
 pub mod failures;
 pub mod frame;
 pub mod generate;

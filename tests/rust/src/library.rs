@@ -1,18 +1,33 @@
 //! The proved library, `libcontacts.a`, behind the same calls.
 
-use crate::answers::{Document, Fields, Purged, Ran, Replayed, Request, Served, Store, Tally, Written};
+use crate::answers::{Document, Engine, Fields, Purged, Ran, Replayed, Request, Served, Store, Tally, Written};
 
-/// The library as a store.
+/// The library's engine as a store.
 #[derive(Clone, Copy, Debug)]
-pub struct Library;
+pub struct Library(pub Engine);
+
+impl Library {
+    /// The argument that names the engine.
+    fn plain(self) -> bool {
+        self.0 == Engine::Plain
+    }
+}
 
 extern "C" {
     fn contacts_size(rows: usize) -> usize;
     fn contacts_make(table: *mut u8, table_len: usize, rows: usize, state: u8, mode: u8, vbucket: u16) -> u8;
-    fn contacts_sound(table: *const u8, table_len: usize) -> bool;
-    fn contacts_read(table: *const u8, table_len: usize, clock: u32, key: *const u8, key_len: usize) -> Document;
-    fn contacts_purge(table: *mut u8, table_len: usize, clock: u32, bound: u64) -> Purged;
+    fn contacts_sound(plain: bool, table: *const u8, table_len: usize) -> bool;
+    fn contacts_read(
+        plain: bool,
+        table: *const u8,
+        table_len: usize,
+        clock: u32,
+        key: *const u8,
+        key_len: usize,
+    ) -> Document;
+    fn contacts_purge(plain: bool, table: *mut u8, table_len: usize, clock: u32, bound: u64) -> Purged;
     fn contacts_serve(
+        plain: bool,
         table: *mut u8,
         table_len: usize,
         clock: u32,
@@ -23,6 +38,7 @@ extern "C" {
         tally: *mut Tally,
     ) -> Served;
     fn contacts_serve_run(
+        plain: bool,
         table: *mut u8,
         table_len: usize,
         clock: u32,
@@ -48,7 +64,7 @@ extern "C" {
         out: *mut u8,
         out_len: usize,
     ) -> Written;
-    fn contacts_replay(table: *mut u8, table_len: usize, trace: *const u8, trace_len: usize) -> Replayed;
+    fn contacts_replay(plain: bool, table: *mut u8, table_len: usize, trace: *const u8, trace_len: usize) -> Replayed;
 }
 
 // Each call lends whole slices: the pointer is never null and the length is that of the slice, so the library may read
@@ -63,20 +79,21 @@ impl Store for Library {
     }
 
     fn sound(&self, table: &[u8]) -> bool {
-        unsafe { contacts_sound(table.as_ptr(), table.len()) }
+        unsafe { contacts_sound(self.plain(), table.as_ptr(), table.len()) }
     }
 
     fn read(&self, table: &[u8], clock: u32, key: &[u8]) -> Document {
-        unsafe { contacts_read(table.as_ptr(), table.len(), clock, key.as_ptr(), key.len()) }
+        unsafe { contacts_read(self.plain(), table.as_ptr(), table.len(), clock, key.as_ptr(), key.len()) }
     }
 
     fn purge(&self, table: &mut [u8], clock: u32, bound: u64) -> Purged {
-        unsafe { contacts_purge(table.as_mut_ptr(), table.len(), clock, bound) }
+        unsafe { contacts_purge(self.plain(), table.as_mut_ptr(), table.len(), clock, bound) }
     }
 
     fn serve(&self, table: &mut [u8], clock: u32, received: &[u8], reply: &mut [u8], tally: &mut Tally) -> Served {
         unsafe {
             contacts_serve(
+                self.plain(),
                 table.as_mut_ptr(),
                 table.len(),
                 clock,
@@ -92,6 +109,7 @@ impl Store for Library {
     fn serve_run(&self, table: &mut [u8], clock: u32, received: &[u8], reply: &mut [u8], tally: &mut Tally) -> Ran {
         unsafe {
             contacts_serve_run(
+                self.plain(),
                 table.as_mut_ptr(),
                 table.len(),
                 clock,
@@ -129,6 +147,6 @@ impl Store for Library {
     }
 
     fn replay(&self, table: &mut [u8], trace: &[u8]) -> Replayed {
-        unsafe { contacts_replay(table.as_mut_ptr(), table.len(), trace.as_ptr(), trace.len()) }
+        unsafe { contacts_replay(self.plain(), table.as_mut_ptr(), table.len(), trace.as_ptr(), trace.len()) }
     }
 }

@@ -1,6 +1,7 @@
 //! The merge tried: boats that hear the same with-meta writes, in whatever order, end with the greatest of each key.
 
-use crate::answers::{Store, Tally};
+use crate::answers::{Engine, Store, Tally};
+use crate::engines::{arranged, Stores};
 use crate::frame::{meta_extras, Frame};
 use crate::random::Random;
 use crate::rendering::numbers::{Cas, Mode, Numbers, Revision};
@@ -254,23 +255,31 @@ fn stored_rows(random: &mut Random, keys: &[&'static [u8]], writes: &[Document],
     rows
 }
 
-/// A table after these calls, and what it came to.
-fn served(store: &dyn Store, list: &List, calls: &[(u32, Vec<u8>)]) -> (Vec<u8>, End) {
-    let mut memory = list.table();
-    let mut tally = Tally::default();
+/// A boat after these calls: what its list came to, all its replies, its tally and its table's memory.
+struct Heard {
+    end: End,
+    replies: Vec<u8>,
+    tally: Tally,
+    memory: Vec<u8>,
+}
+
+fn served(engine: Engine, store: &dyn Store, list: &List, calls: &[(u32, Vec<u8>)]) -> Heard {
+    let mut memory = arranged(engine, &list.table());
+    let (mut tally, mut replies) = (Tally::default(), Vec::new());
     let mut reply = [0; ROOM];
     let mut statuses = Vec::with_capacity(calls.len());
     for (clock, frame) in calls {
         let served = store.serve(&mut memory, *clock, frame, &mut reply, &mut tally);
         statuses.push(if served.outcome == 0 { served.status } else { u8::MAX });
+        replies.extend_from_slice(&reply[..served.reply]);
     }
-    let end = end_of(&memory, statuses);
-    (memory, end)
+    let end = end_of(engine, &memory, statuses);
+    Heard { end, replies, tally, memory }
 }
 
 /// What a table holds after calls with these statuses, the documents in the order of [`KEYS`].
-fn end_of(memory: &[u8], statuses: Vec<u8>) -> End {
-    let Ok(table) = Table::read(memory) else {
+fn end_of(engine: Engine, memory: &[u8], statuses: Vec<u8>) -> End {
+    let Ok(table) = Table::read(engine, memory) else {
         return End { statuses, documents: Vec::new(), mark: 0, kept: 0 };
     };
     let stored = |key: &&'static [u8]| {
@@ -357,8 +366,8 @@ fn has_met(met: Met, list: &List, end: &End) -> bool {
     }
 }
 
-/// Tries random lists in many orders on both boats; the first that ends otherwise than demand 3 says is told.
-pub fn try_lists(boats: [&dyn Store; 2], lists: usize, seed: u64) -> Result<Tried, String> {
+/// Tries random lists in many orders on both boats by both engines; the first that ends otherwise than demand 3 says is told.
+pub fn try_lists(boats: Stores, lists: usize, seed: u64) -> Result<Tried, String> {
     let mut random = Random::new(seed);
     let mut tried = Tried::default();
     for number in 0..lists {
@@ -375,19 +384,34 @@ pub fn try_lists(boats: [&dyn Store; 2], lists: usize, seed: u64) -> Result<Trie
     Ok(tried)
 }
 
-/// One order on both boats. Where rows are too few for the new keys demand 3 says nothing, and the first boat is gone by.
-fn try_order(boats: [&dyn Store; 2], list: &List, ordered: &List, random: &mut Random) -> Result<End, String> {
+/// One order on both boats by both engines. Where rows are too few for the new keys demand 3 says nothing, and the first boat
+/// is gone by.
+fn try_order(boats: Stores, list: &List, ordered: &List, random: &mut Random) -> Result<End, String> {
     let calls = ordered.calls(random);
-    let [(memory, first), (other_memory, second)] = boats.map(|boat| served(boat, ordered, &calls));
-    same("the boats' ends", &first, &second)?;
-    same("the boats' tables", &memory, &other_memory)?;
+    let [first, second] = Engine::BOTH.map(|engine| {
+        try_boats(engine, boats[engine as usize], ordered, &calls).map_err(|what| format!("by {engine:?}, {what}"))
+    });
+    let (first, second) = (first?, second?);
+    same("the engines' ends", &first.end, &second.end)?;
+    same("the engines' replies", &first.replies, &second.replies)?;
+    same("the engines' tallies", &first.tally, &second.tally)?;
     let (new_keys, free) = list.new_keys_and_free_rows();
     if new_keys <= free {
-        same("what demand 3 says and the boats' end", &ordered.end(&calls), &second)?;
+        same("what demand 3 says and the boats' end", &ordered.end(&calls), &second.end)?;
         let agreed = list.agreed();
-        let kept: Vec<Document> = second.documents.iter().filter(|kept| agreed.contains(kept)).cloned().collect();
+        let kept: Vec<Document> = second.end.documents.iter().filter(|kept| agreed.contains(kept)).cloned().collect();
         same("the greatest in any order and what the boats hold", &agreed, &kept)?;
     }
+    Ok(second.end)
+}
+
+/// The same calls on both boats of one engine.
+fn try_boats(engine: Engine, boats: [&dyn Store; 2], list: &List, calls: &[(u32, Vec<u8>)]) -> Result<Heard, String> {
+    let [first, second] = boats.map(|boat| served(engine, boat, list, calls));
+    same("the boats' ends", &first.end, &second.end)?;
+    same("the boats' replies", &first.replies, &second.replies)?;
+    same("the boats' tallies", &first.tally, &second.tally)?;
+    same("the boats' tables", &first.memory, &second.memory)?;
     Ok(second)
 }
 

@@ -1,6 +1,6 @@
 //! Sessions as text, to be printed and replayed: one line for the table, one for the tally, one for each call.
 //!
-//! Bytes are hexadecimal; `(n)` stands for n zero bytes and `-` for none at all.
+//! The rows of a `table` are lent to each engine as it keeps them, those of a `memory` to both as they are. Bytes are hexadecimal; `(n)` stands for n zero bytes and `-` for none at all.
 
 use crate::answers::Tally;
 use crate::frame::Frame;
@@ -9,7 +9,8 @@ use std::str::FromStr;
 
 pub fn to_text(session: &Session) -> String {
     let Tally { served, refused, silent } = session.tally;
-    let mut lines = vec![format!("table {}", hex(&session.table)), format!("tally {served} {refused} {silent}")];
+    let table = if session.arranged { "table" } else { "memory" };
+    let mut lines = vec![format!("{table} {}", hex(&session.table)), format!("tally {served} {refused} {silent}")];
     lines.extend(session.calls.iter().map(call_line));
     lines.join("\n")
 }
@@ -44,7 +45,8 @@ pub fn from_text(text: &str) -> Result<Session, String> {
 fn read_line(session: &mut Session, line: &str) -> Option<()> {
     let mut words = Words(line.split_whitespace());
     let call = match words.word()? {
-        "table" => {
+        word @ ("table" | "memory") => {
+            session.arranged = word == "table";
             session.table = words.bytes()?;
             return Some(());
         }

@@ -46,6 +46,8 @@ pub enum Answer {
 #[derive(Clone, Debug, Default, PartialEq, Eq)]
 pub struct Session {
     pub table: Vec<u8>,
+    /// Whether each engine is lent the rows as it keeps them, where the memory is a sound table, or both these very bytes.
+    pub arranged: bool,
     pub tally: Tally,
     pub calls: Vec<Call>,
 }
@@ -109,6 +111,25 @@ impl<'s> Pair<'s> {
         &self.states[0].table
     }
 
+    pub fn tally(&self) -> Tally {
+        self.states[0].tally
+    }
+
+    /// The reply area or the output of the last call.
+    pub fn out(&self) -> &[u8] {
+        &self.states[0].out
+    }
+
+    /// The table and the tally before the last call.
+    pub fn before(&self) -> (&[u8], Tally) {
+        (&self.before.table, self.before.tally)
+    }
+
+    /// Whether the last call changed the table.
+    pub fn changed(&self) -> bool {
+        self.before.table != self.states[0].table
+    }
+
     /// One call on both, or how they differ or which promise is broken.
     pub fn call(&mut self, call: &Call) -> Result<Answer, String> {
         self.before.table.clone_from(&self.states[0].table);
@@ -136,22 +157,7 @@ impl<'s> Pair<'s> {
     }
 }
 
-/// The first difference of two stores over a session: the call's number, counted from 0, and what differs.
-pub fn difference(stores: [&dyn Store; 2], session: &Session) -> Option<(usize, String)> {
-    let mut pair = Pair::new(stores);
-    pair.start(&session.table, session.tally);
-    session.calls.iter().enumerate().find_map(|(number, call)| pair.call(call).err().map(|what| (number, what)))
-}
-
-/// A failing session's last call alone, on the table and tally as they were by then.
-pub fn failing_call(stores: [&dyn Store; 2], session: &Session) -> Option<Session> {
-    let mut pair = Pair::new(stores);
-    pair.start(&session.table, session.tally);
-    let call = session.calls.iter().find(|call| pair.call(call).is_err())?;
-    Some(Session { table: pair.before.table, tally: pair.before.tally, calls: vec![call.clone()] })
-}
-
-fn same<T: PartialEq + std::fmt::Debug>(what: &str, first: &T, second: &T) -> Result<(), String> {
+pub fn same<T: PartialEq + std::fmt::Debug>(what: &str, first: &T, second: &T) -> Result<(), String> {
     if first == second {
         Ok(())
     } else {
@@ -159,12 +165,14 @@ fn same<T: PartialEq + std::fmt::Debug>(what: &str, first: &T, second: &T) -> Re
     }
 }
 
-fn same_bytes(what: &str, first: &[u8], second: &[u8]) -> Result<(), String> {
+pub fn same_bytes(what: &str, first: &[u8], second: &[u8]) -> Result<(), String> {
     if first == second {
         return Ok(());
     }
-    let at = first.iter().zip(second).position(|(one, two)| one != two).unwrap_or(0);
-    Err(format!("{what} differs at byte {at}: {:#04x} and {:#04x}", first[at], second[at]))
+    match first.iter().zip(second).position(|(one, two)| one != two) {
+        Some(at) => Err(format!("{what} differs at byte {at}: {:#04x} and {:#04x}", first[at], second[at])),
+        None => Err(format!("{what} differs in length: {} and {}", first.len(), second.len())),
+    }
 }
 
 /// A refused call changes nothing, another status than 0 and a Get nothing of the table but the kept clock, and what a

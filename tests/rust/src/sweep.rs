@@ -1,6 +1,6 @@
-//! Every bit of a small table flipped: both stores refuse the memory, or both read it alike.
+//! Every bit of a small table flipped: both stores of an engine refuse the memory, or both read it alike.
 
-use crate::answers::{Store, Tally};
+use crate::answers::{Engine, Store, Tally};
 use crate::frame::{meta_extras, Frame};
 use crate::rendering::numbers::{Cas, Numbers, Revision};
 use crate::rendering::serving::ROOM;
@@ -22,7 +22,7 @@ pub struct Flips {
     pub calls: usize,
 }
 
-/// Two documents whose keys are one bit apart, a free row and a tombstone.
+/// Two documents whose keys are one bit apart, a free row and a tombstone whose key is between theirs: sound for the plain engine.
 pub fn table(mode: u8) -> Vec<u8> {
     let mut memory = vec![0; HEADER + 4 * ROW];
     write_head(&mut memory, 1, mode, VBUCKET, Cas(30));
@@ -35,9 +35,9 @@ pub fn table(mode: u8) -> Vec<u8> {
     memory
 }
 
-/// Flips every bit in turn; the first flip that fails is given as a session with its difference.
-pub fn sweep(stores: [&dyn Store; 2], mode: u8) -> Result<Flips, (Session, String)> {
-    let mut memory = table(mode);
+/// Flips every bit of a table in this mode in turn; the first flip that fails is given as a session with its difference.
+pub fn sweep(stores: [&dyn Store; 2], table: &[u8], mode: u8) -> Result<Flips, (Session, String)> {
+    let mut memory = table.to_vec();
     let mut pair = Pair::new(stores);
     let mut flips = Flips::default();
     for bit in 0..memory.len() * 8 {
@@ -53,7 +53,7 @@ pub fn sweep(stores: [&dyn Store; 2], mode: u8) -> Result<Flips, (Session, Strin
 }
 
 fn session(memory: &[u8], calls: &[Call]) -> Session {
-    Session { table: memory.to_vec(), tally: Tally::default(), calls: calls.to_vec() }
+    Session { table: memory.to_vec(), arranged: false, tally: Tally::default(), calls: calls.to_vec() }
 }
 
 /// Makes the calls on both, and says whether the memory was refused as damaged, by all of them or by none.
@@ -80,7 +80,7 @@ fn refuses(answer: &Answer) -> bool {
 /// All keys listed, every key read at every clock, then a Get and a set-with-meta served for each.
 fn calls(memory: &[u8], mode: u8) -> Vec<Call> {
     let mut keys: Vec<&[u8]> = vec![b"contact-1", b"contact-2", b"contact-3"];
-    let found = Table::read(memory).map(|table| table.rows).unwrap_or_default();
+    let found = Table::read(Engine::Plain, memory).map(|table| table.rows).unwrap_or_default();
     keys.extend(found.iter().flatten().map(|row| row.key));
     keys.sort_unstable();
     keys.dedup();

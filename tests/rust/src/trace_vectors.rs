@@ -4,6 +4,7 @@
 //! two hexadecimal digits for each of its bytes, then maybe `*` and how often it comes. It is answered by the line of its
 //! replay.
 
+use crate::answers::Engine;
 use crate::rendering::replay;
 use crate::rendering::size;
 use crate::rendering::voyage::{line, ROWS};
@@ -23,7 +24,11 @@ fn answer(text: &str) -> String {
         return text.to_string();
     }
     match spelled(text) {
-        Some(trace) => line(&replay(&mut vec![0; size(ROWS)], &trace)),
+        Some(trace) => {
+            let [plain, ordered] = Engine::BOTH.map(|engine| line(&replay(engine, &mut vec![0; size(ROWS)], &trace)));
+            assert_eq!(plain, ordered, "the engines replay a trace alike");
+            ordered
+        }
         None => NOT_UNDERSTOOD.to_string(),
     }
 }

@@ -1,12 +1,15 @@
-//! The lines that drive `crates/store_vectors`, answered by the rendering: what that program must print.
+//! The lines that drive `crates/store_vectors`, answered by the rendering: what that program must print. The library answers
+//! them too.
 //!
-//! The lines are described at the head of `crates/store_vectors/src/main.rt`.
+//! The lines are described at the head of `crates/store_vectors/src/main.rt`. `engine plain` and `engine ordered` name the engine
+//! of the lines that follow; before the first it is rows in key order.
 
-use crate::answers::{lifetime, Document, Served, Tally};
+use crate::answers::{lifetime, Document, Engine, Served, Store, Tally};
 use crate::rendering::bytes::u16_at;
 use crate::rendering::numbers::{Cas, Numbers, Revision};
-use crate::rendering::table::{row_at, write_mark, write_row, Kind, Row, HEADER, KEY_AT, ROW};
-use crate::rendering::{make, purge, read, serve, size, sound};
+use crate::rendering::table::{open_row, write_mark, write_row, Kind, Row, HEADER, KEY_AT, ROW};
+use crate::rendering::Rendering;
+use crate::Library;
 use std::fmt::Write;
 
 /// What the memory holds before a table is made in it, and the reply area before a frame is served.
@@ -22,7 +25,18 @@ pub(crate) const NOT_UNDERSTOOD: &str = "what?";
 
 /// What the program prints for these lines.
 pub fn expected(lines: &str) -> String {
-    let mut driver = Driver { memory: vec![0; MEMORY], lent: 0, room: 1_302, tally: Tally::default() };
+    answered(|engine| Box::new(Rendering(engine)), lines)
+}
+
+/// What the library answers these lines.
+pub fn by_library(lines: &str) -> String {
+    answered(|engine| Box::new(Library(engine)), lines)
+}
+
+fn answered(store_of: fn(Engine) -> Box<dyn Store>, lines: &str) -> String {
+    let (engine, memory) = (Engine::Ordered, vec![0; MEMORY]);
+    let mut driver =
+        Driver { store_of, engine, store: store_of(engine), memory, lent: 0, room: 1_302, tally: Tally::default() };
     lines.lines().map(|line| driver.answer(line) + "\n").collect()
 }
 
@@ -44,6 +58,10 @@ impl<'l> Line<'l> {
 }
 
 struct Driver {
+    store_of: fn(Engine) -> Box<dyn Store>,
+    /// What serves the lines that follow.
+    engine: Engine,
+    store: Box<dyn Store>,
     memory: Vec<u8>,
     lent: usize,
     room: usize,
@@ -55,7 +73,21 @@ impl Driver {
         if line.is_empty() || line.starts_with('#') {
             return line.to_string();
         }
+        if let Some(name) = line.strip_prefix("engine ") {
+            return self.choose(name).unwrap_or(NOT_UNDERSTOOD.to_string());
+        }
         Line::read(line).and_then(|line| self.call(&line)).unwrap_or(NOT_UNDERSTOOD.to_string())
+    }
+
+    /// The engine is told again; none where no engine has this name.
+    fn choose(&mut self, name: &str) -> Option<String> {
+        self.engine = match name {
+            "plain" => Engine::Plain,
+            "ordered" => Engine::Ordered,
+            _ => return None,
+        };
+        self.store = (self.store_of)(self.engine);
+        Some(format!("engine {name}"))
     }
 
     /// None where the line isn't understood.
@@ -69,7 +101,7 @@ impl Driver {
             }
             ("serve", &[clock]) => return Some(self.step(clock as u32, &spelled(line.spelled)?).1),
             ("run", &[clock]) => return Some(self.run(clock as u32, &spelled(line.spelled)?)),
-            ("size", &[rows]) => format!("size {}", size(rows as usize)),
+            ("size", &[rows]) => format!("size {}", self.store.size(rows as usize)),
             ("make", &[lent, rows, state, mode, vbucket]) => {
                 self.lend(lent as usize)?;
                 self.make(rows as usize, state as u8, mode as u8, vbucket as u16)
@@ -79,7 +111,9 @@ impl Driver {
                 format!("lent {lent}")
             }
             ("dump", &[at, length]) => self.dump(at as usize, length as usize),
-            ("sound", &[]) => (if sound(self.table()) { "sound" } else { "damaged" }).to_string(),
+            ("sound", &[]) => {
+                (if self.store.sound(&self.memory[..self.lent]) { "sound" } else { "damaged" }).to_string()
+            }
             ("purge", &[clock, bound]) => self.purge(clock as u32, bound),
             ("poke", &[at]) => self.poke(at as usize, &spelled(line.spelled)?),
             ("store", numbers @ &[_, _, _, _, _, _]) => self.store(numbers, line.spelled)?,
@@ -109,9 +143,9 @@ impl Driver {
     }
 
     fn make(&mut self, rows: usize, state: u8, mode: u8, vbucket: u16) -> String {
-        let table = self.table();
+        let table = &mut self.memory[..self.lent];
         table.fill(FILL);
-        let outcome = make(table, rows, state, mode, vbucket);
+        let outcome = self.store.make(table, rows, state, mode, vbucket);
         let left = if outcome == 0 { "fresh" } else { "unchanged" };
         format!("outcome {outcome} {left}")
     }
@@ -123,7 +157,7 @@ impl Driver {
     }
 
     fn purge(&mut self, clock: u32, bound: u64) -> String {
-        let purged = purge(self.table(), clock, bound);
+        let purged = self.store.purge(&mut self.memory[..self.lent], clock, bound);
         match purged.outcome {
             0 => format!("freed {}", purged.freed),
             outcome => format!("outcome {outcome}"),
@@ -141,9 +175,12 @@ impl Driver {
     fn store(&mut self, numbers: &[u64], spelling: &str) -> Option<String> {
         let (key, value) = spelling.split_once('/').unwrap_or((spelling, ""));
         let (key, value) = (spelled(key)?, spelled(value)?);
-        let Some(place) = self.place(&key) else {
+        let Some((place, new)) = self.place(&key) else {
             return Some("no place".to_string());
         };
+        if new {
+            open_row(self.table(), place);
+        }
         let kind = if numbers[0] == 1 { Kind::Tombstone } else { Kind::Document };
         let stored = Numbers {
             flags: numbers[1] as u32,
@@ -156,20 +193,27 @@ impl Driver {
         Some(format!("place {place}"))
     }
 
-    /// The key's row, or the lowest free one; the table may be damaged.
-    fn place(&mut self, key: &[u8]) -> Option<usize> {
-        let table = self.table();
-        let row = |place: usize| &table[row_at(place)..][..ROW];
-        let rows = table.len().saturating_sub(HEADER) / ROW;
-        let holds =
-            |place: usize| usize::from(u16_at(row(place), 2)) == key.len() && row(place)[KEY_AT..].starts_with(key);
-        let is_free = |place: usize| u16_at(row(place), 0) == 0;
-        (0..rows).find(|&place| !is_free(place) && holds(place)).or_else(|| (0..rows).find(|&place| is_free(place)))
+    /// The key's row, or the place of a new key where a row is free, and whether it is new. The table may be damaged, but with
+    /// rows in key order not in that.
+    fn place(&mut self, key: &[u8]) -> Option<(usize, bool)> {
+        let engine = self.engine;
+        let rows: Vec<Option<&[u8]>> = self.table()[HEADER..].chunks_exact(ROW).map(key_of).collect();
+        if let Some(place) = rows.iter().position(|row| *row == Some(key)) {
+            return Some((place, false));
+        }
+        let free = rows.iter().position(Option::is_none)?;
+        match engine {
+            Engine::Plain => Some((free, true)),
+            Engine::Ordered => {
+                assert!(rows.iter().flatten().is_sorted(), "a line stores among rows out of order");
+                Some((rows.iter().flatten().filter(|&&other| other < key).count(), true))
+            }
+        }
     }
 
     fn read(&mut self, clock: u32, key: &[u8]) -> String {
-        let table = self.table();
-        match read(table, clock, key) {
+        let table = &self.memory[..self.lent];
+        match self.store.read(table, clock, key) {
             document @ Document { outcome: 0, status: 0, flags, expiry, revision, cas, value, .. } => {
                 let numbers = format!("flags={flags} expiry={expiry} revision={revision} cas={cas}");
                 let left = left(&document);
@@ -197,7 +241,8 @@ impl Driver {
     /// Serves the frame at the start of the bytes.
     fn step(&mut self, clock: u32, received: &[u8]) -> (Served, String) {
         let mut reply = vec![FILL; self.room];
-        let served = serve(&mut self.memory[..self.lent], clock, received, &mut reply, &mut self.tally);
+        let table = &mut self.memory[..self.lent];
+        let served = self.store.serve(table, clock, received, &mut reply, &mut self.tally);
         let Served { outcome, status, used, reply: sent, needed } = served;
         let answer = match outcome {
             0 => format!("status {status:02x} used {used} reply {sent} {}", hexadecimal(&reply[..sent])),
@@ -209,6 +254,11 @@ impl Driver {
     fn digest(&mut self) -> String {
         format!(" table={:016x}", digest(self.table()))
     }
+}
+
+/// A used row's key.
+fn key_of(row: &[u8]) -> Option<&[u8]> {
+    (u16_at(row, 0) != 0).then(|| row[KEY_AT..].get(..usize::from(u16_at(row, 2)))).map(Option::unwrap_or_default)
 }
 
 /// What a read tells of the document's time, if anything.

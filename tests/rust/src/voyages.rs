@@ -1,7 +1,8 @@
-//! Traces replayed by two stores and compared, in the answer and in every byte of the memory.
+//! Traces replayed by the stores of both engines and compared, in the answer and in every byte of the memory.
 
-use crate::answers::{Replayed, Store};
+use crate::answers::{end, Replayed, Store};
 use crate::coverage::voyages::{sailed, Met, Voyages};
+use crate::engines::{same_contents, Stores};
 use crate::generate::Generator;
 use crate::trace::{Field, Trace};
 use std::time::{Duration, Instant};
@@ -12,7 +13,7 @@ const CHANGES: usize = 3;
 /// How many traces are tried at most to make a failing one small.
 const TRIES: usize = 20_000;
 
-/// A trace on memory that two stores answer differently, and how.
+/// A trace on memory that stores answer differently, and how.
 #[derive(Clone, Debug)]
 pub struct Difference {
     pub trace: Vec<u8>,
@@ -20,17 +21,17 @@ pub struct Difference {
     pub what: String,
 }
 
-/// Traces compared; the first store is the one to go by, and the second one's calls are held to its replay.
+/// Traces compared; of an engine the first store is the one to go by, and the second one's calls are held to its replay.
 pub struct TraceComparison<'s> {
-    stores: [&'s dyn Store; 2],
+    stores: Stores<'s>,
     generator: Generator,
     pub met: Voyages,
-    /// The time spent in each store's replays.
+    /// The time spent in the replays of each engine's first store, and of its second.
     pub spent: [Duration; 2],
 }
 
 impl<'s> TraceComparison<'s> {
-    pub fn new(stores: [&'s dyn Store; 2], seed: u64) -> TraceComparison<'s> {
+    pub fn new(stores: Stores<'s>, seed: u64) -> TraceComparison<'s> {
         TraceComparison { stores, generator: Generator::new(seed), met: Voyages::default(), spent: Default::default() }
     }
 
@@ -60,16 +61,43 @@ impl<'s> TraceComparison<'s> {
 }
 
 /// What a trace met on memory like this, or how the stores differ.
-pub fn compared(stores: [&dyn Store; 2], trace: &[u8], lent: &[u8]) -> Result<Vec<Met>, String> {
+pub fn compared(stores: Stores, trace: &[u8], lent: &[u8]) -> Result<Vec<Met>, String> {
     difference(stores, &mut Default::default(), trace, lent)
 }
 
-fn difference(
-    stores: [&dyn Store; 2],
-    spent: &mut [Duration; 2],
-    trace: &[u8],
-    lent: &[u8],
-) -> Result<Vec<Met>, String> {
+fn difference(stores: Stores, spent: &mut [Duration; 2], trace: &[u8], lent: &[u8]) -> Result<Vec<Met>, String> {
+    let [plain, ordered] = stores.map(|stores| by_engine(stores, spent, trace, lent));
+    let (plain, ordered) = (
+        plain.map_err(|what| format!("plain engine: {what}"))?,
+        ordered.map_err(|what| format!("rows in key order: {what}"))?,
+    );
+    same_answers(plain.answer, ordered.answer).map_err(|what| format!("plain first, key order second: {what}"))?;
+    if plain.met != ordered.met {
+        return Err(format!("the engines came to {:?} and {:?}", plain.met, ordered.met));
+    }
+    if plain.is_table() {
+        same_contents([&plain.memory, &ordered.memory])?;
+    }
+    Ok(ordered.met)
+}
+
+/// A trace replayed: its answer, the memory that it leaves, and what it met.
+struct Sailed {
+    answer: Replayed,
+    memory: Vec<u8>,
+    met: Vec<Met>,
+}
+
+impl Sailed {
+    /// Whether a table was made of the memory.
+    fn is_table(&self) -> bool {
+        let Replayed { outcome, end, place, .. } = self.answer;
+        outcome == 0 && (end != end::STOPPED || place != 0)
+    }
+}
+
+/// The replays of an engine's two stores.
+fn by_engine(stores: [&dyn Store; 2], spent: &mut [Duration; 2], trace: &[u8], lent: &[u8]) -> Result<Sailed, String> {
     let [(first, memory), (second, other)] = [0, 1].map(|which| {
         let mut memory = lent.to_vec();
         let start = Instant::now();
@@ -82,7 +110,8 @@ fn difference(
         let at = memory.iter().zip(&other).position(|(one, two)| one != two).unwrap_or(0);
         return Err(format!("table differs at byte {at}: {:#04x} and {:#04x}, after {first:?}", memory[at], other[at]));
     }
-    sailed(stores[1], trace, lent, &memory, &first)
+    let met = sailed(stores[1], trace, lent, &memory, &first)?;
+    Ok(Sailed { answer: first, memory, met })
 }
 
 fn same_answers(first: Replayed, second: Replayed) -> Result<(), String> {
@@ -94,7 +123,7 @@ fn same_answers(first: Replayed, second: Replayed) -> Result<(), String> {
 }
 
 /// The smallest trace found that still differs, by dropping fields and bytes of them while any of it helps.
-fn shrunk(stores: [&dyn Store; 2], trace: Vec<u8>, lent: Vec<u8>) -> Difference {
+fn shrunk(stores: Stores, trace: Vec<u8>, lent: Vec<u8>) -> Difference {
     let mut tries = TRIES;
     let mut fails = |trace: &Trace| {
         tries = tries.saturating_sub(1);

@@ -1,21 +1,28 @@
 //! A fault injected into the rendering is found, and its session or its trace is made small.
 
-use contact_tests::answers::{end, Document, Fields, Purged, Ran, Replayed, Request, Served, Store, Tally, Written};
+use contact_tests::answers::{
+    end, Document, Engine, Fields, Purged, Ran, Replayed, Request, Served, Store, Tally, Written,
+};
 use contact_tests::comparison::Comparison;
-use contact_tests::rendering::Rendering;
+use contact_tests::engines::{difference, Stores};
+use contact_tests::rendering::{size, Rendering};
 use contact_tests::replay::{from_text, to_text};
-use contact_tests::session::{difference, Call};
+use contact_tests::session::Call;
 use contact_tests::trace::Trace;
 use contact_tests::voyages::{compared, TraceComparison};
 
 /// The rendering, but for a Delete's reply, which carries CAS 0, and the place of a reply that differs, which is its end.
-struct Faulty;
+struct Faulty(Engine);
 
 const DELETE: u8 = 0x04;
 
+/// The fault is in one of the engines.
+const STORES: Stores =
+    [[&Rendering(Engine::Plain), &Rendering(Engine::Plain)], [&Rendering(Engine::Ordered), &Faulty(Engine::Ordered)]];
+
 impl Store for Faulty {
     fn serve(&self, table: &mut [u8], clock: u32, received: &[u8], reply: &mut [u8], tally: &mut Tally) -> Served {
-        let served = Rendering.serve(table, clock, received, reply, tally);
+        let served = Rendering(self.0).serve(table, clock, received, reply, tally);
         if served.outcome == 0 && received[1] == DELETE {
             reply[16..24].fill(0);
         }
@@ -23,39 +30,39 @@ impl Store for Faulty {
     }
 
     fn size(&self, rows: usize) -> usize {
-        Rendering.size(rows)
+        Rendering(self.0).size(rows)
     }
 
     fn make(&self, table: &mut [u8], rows: usize, state: u8, mode: u8, vbucket: u16) -> u8 {
-        Rendering.make(table, rows, state, mode, vbucket)
+        Rendering(self.0).make(table, rows, state, mode, vbucket)
     }
 
     fn sound(&self, table: &[u8]) -> bool {
-        Rendering.sound(table)
+        Rendering(self.0).sound(table)
     }
 
     fn read(&self, table: &[u8], clock: u32, key: &[u8]) -> Document {
-        Rendering.read(table, clock, key)
+        Rendering(self.0).read(table, clock, key)
     }
 
     fn purge(&self, table: &mut [u8], clock: u32, bound: u64) -> Purged {
-        Rendering.purge(table, clock, bound)
+        Rendering(self.0).purge(table, clock, bound)
     }
 
     fn serve_run(&self, table: &mut [u8], clock: u32, received: &[u8], reply: &mut [u8], tally: &mut Tally) -> Ran {
-        Rendering.serve_run(table, clock, received, reply, tally)
+        Rendering(self.0).serve_run(table, clock, received, reply, tally)
     }
 
     fn read_request(&self, received: &[u8]) -> Request {
-        Rendering.read_request(received)
+        Rendering(self.0).read_request(received)
     }
 
     fn write_request(&self, fields: &Fields, out: &mut [u8]) -> Written {
-        Rendering.write_request(fields, out)
+        Rendering(self.0).write_request(fields, out)
     }
 
     fn replay(&self, table: &mut [u8], trace: &[u8]) -> Replayed {
-        let replayed = Rendering.replay(table, trace);
+        let replayed = Rendering(self.0).replay(table, trace);
         match replayed.end {
             end::DIFFERS => Replayed { place: replayed.place + 3, ..replayed },
             _ => replayed,
@@ -65,28 +72,37 @@ impl Store for Faulty {
 
 #[test]
 fn a_failing_session_is_made_small() {
-    let stores: [&dyn Store; 2] = [&Rendering, &Faulty];
-    let mut comparison = Comparison::new(stores, 1);
+    let mut comparison = Comparison::new(STORES, 1);
     let session = comparison.run(100_000).expect_err("the fault is found");
     let (small, what) = comparison.shrunk(session);
 
-    assert!(what.starts_with("call 0: reply or output differs at byte "), "{what}");
-    assert_eq!(small.table.len(), Rendering.size(1));
+    assert!(what.starts_with("call 0: rows in key order: reply or output differs at byte "), "{what}");
+    assert_eq!(small.table.len(), size(1));
     assert_eq!(small.tally, Tally::default());
     assert!(matches!(&small.calls[..], [Call::Serve { clock: 0, room: 1_302, received }] if received[1] == DELETE));
 
     let replayed = from_text(&to_text(&small)).expect("the text reads back");
     assert_eq!(replayed, small);
-    assert!(difference(stores, &replayed).is_some());
+    assert!(difference(STORES, &replayed).is_some());
+}
+
+#[test]
+fn a_fault_that_both_stores_of_an_engine_share_is_found_by_the_other_engine() {
+    let stores: Stores =
+        [[&Rendering(Engine::Plain), &Rendering(Engine::Plain)], [&Faulty(Engine::Ordered), &Faulty(Engine::Ordered)]];
+    let mut comparison = Comparison::new(stores, 1);
+    let session = comparison.run(100_000).expect_err("the fault is found");
+    let (small, what) = comparison.shrunk(session);
+    assert!(what.starts_with("call 0: plain first, key order second: reply or output differs"), "{what}");
+    assert!(matches!(&small.calls[..], [Call::Serve { received, .. }] if received[1] == DELETE));
 }
 
 #[test]
 fn a_failing_trace_is_made_small() {
-    let stores: [&dyn Store; 2] = [&Rendering, &Faulty];
-    let found = TraceComparison::new(stores, 1).run(10_000).expect_err("the fault is found");
-    assert!(found.what.starts_with("answer differs:"), "{}", found.what);
+    let found = TraceComparison::new(STORES, 1).run(10_000).expect_err("the fault is found");
+    assert!(found.what.starts_with("rows in key order: answer differs:"), "{}", found.what);
     let small = Trace::read(&found.trace);
     assert_eq!(small.fields.iter().map(|field| field.tag).collect::<Vec<_>>(), [2, 3]);
     assert!(small.fields[1].value.is_empty() && small.rest.is_empty());
-    assert!(compared(stores, &found.trace, &found.lent).is_err());
+    assert!(compared(STORES, &found.trace, &found.lent).is_err());
 }

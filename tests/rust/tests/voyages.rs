@@ -4,6 +4,7 @@ mod boat;
 
 use boat::{count, keyed, set, Boat, LAST_WRITE_WINS, REVISION, STORES};
 use contact_tests::answers::{end, Replayed};
+use contact_tests::engines::same_contents;
 use contact_tests::failures::three_failures;
 use contact_tests::frame::{meta_extras, Frame};
 use contact_tests::rendering::voyage::line;
@@ -15,16 +16,17 @@ const MOST: usize = 65_536;
 const VBUCKET: u16 = 7;
 const FILLING: u8 = 0xee;
 
-/// What both answer to a trace, and the memory as it is then.
+/// What all answer to a trace, and the memory of rows in key order as it is then; the plain engine's holds the same.
 fn replayed(trace: &[u8]) -> (String, Vec<u8>) {
-    let [first, second] = STORES.map(|store| {
+    let [first, second, plain, other] = STORES.map(|store| {
         let mut memory = vec![FILLING; TABLE];
         let replayed = store.replay(&mut memory, trace);
         assert_eq!(replayed.outcome, 0);
         (replayed, memory)
     });
-    assert_eq!(first.0, second.0);
-    assert!(first.1 == second.1, "the tables differ");
+    assert_eq!([first.0, first.0, first.0], [second.0, plain.0, other.0]);
+    assert!(first.1 == second.1 && plain.1 == other.1, "the tables differ");
+    same_contents([&plain.1, &first.1]).unwrap();
     (line(&first.0), first.1)
 }
 

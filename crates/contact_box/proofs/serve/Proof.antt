@@ -6,7 +6,7 @@ use mathlib.Core.List.{List}
 use mathlib.Core.Path.{_≡_, sym, _∙_}
 use lib.ListN.{length}
 use lib.Seq.{length-take-le}
-use Rattle.owner.specs.Owner.{sizeOf}
+use Rattle.owning.specs.Owner.{sizeOf}
 use Rattle.contact_box.proofs.Tables.{size-most}
 use Rattle.contact_box.proofs.serve.Statement.{statement}
 use Rattle.contact_box.proofs.serve.Tie as tie

@@ -22,7 +22,8 @@ returns : tie.Need-returns
 returns c =
     let c2 = c .before .before in
     let start = c2 .before .before .before .before .before .before .before .before .before in
-    (c2 .put-line .ensures ∙ ap lineOf (c2 .before .before .before .replay .ensures .0), answers (start .args .table .now) (start .args .trace .now) (start .pre .0))
+    let a = start .args in
+    (c2 .put-line .ensures ∙ ap lineOf (c2 .before .before .before .replay .ensures .0), answers (a .config) (a .table .now) (a .trace .now) (start .pre .0))
 
 pub answer-spec : {M : Type 1} → statement M
 answer-spec =

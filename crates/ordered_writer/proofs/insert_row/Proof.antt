@@ -34,17 +34,18 @@ returns-3 c =
     let e : Entry = record { key = a .key .now; doc = record { tomb = a .m .tomb; value = a .value .now; numbers = a .m .numbers } } in
     insert-unfit (a .b .now) (a .i) (a .free) e (sym (c .before .fits2 .ensures) ∙ not-true _ (c .if3 .taken))
 
-mul-move-up : tie.Need-mul-move-up
-mul-move-up c = search needs
+mul-move-rows : tie.Need-mul-move-rows
+mul-move-rows c = search needs
 
-add-move-up : tie.Need-add-move-up
-add-move-up c = search needs
+add-move-rows : tie.Need-add-move-rows
+add-move-rows c = search needs
 
-mul-move-up-2 : tie.Need-mul-move-up-2
-mul-move-up-2 c = search needs
-
-move-up-requires : tie.Need-move-up-requires
-move-up-requires c κs = search needs
+move-rows-requires : tie.Need-move-rows-requires
+move-rows-requires c κs =
+    let at5 = c .before .before .before .before .before in
+    let a = at5 .before .before .before .before .args in
+    let k : a .free < rowCount (a .b .now) = rw (c .before .before .before .before .rows-in .ensures) at (c .before .before .before .if2 .left) in
+    omega arith
 
 sub-store : tie.Need-sub-store
 sub-store c =
@@ -67,7 +68,7 @@ returns-4 c =
     let e : Entry = record { key = a .key .now; doc = record { tomb = a .m .tomb; value = a .value .now; numbers = a .m .numbers } } in
     let h : length (a .key .now) + length (a .value .now) ≤ 1280 = leb-true _ _ (sym (f .before .fits2 .ensures) ∙ not-false _ (f .if3 .left)) in
     let k : a .free < rowCount (a .b .now) = rw (f .before .before .before .rows-in .ensures) at (f .before .before .if2 .left) in
-    insert-done e h (a .b .now) (a .i) (a .free) (f .before .before .before .before .if1 .left) k _ _ (v .move-up .ensures) (c .before .before .store .ensures)
+    insert-done e h (a .b .now) (a .i) (a .free) (f .before .before .before .before .if1 .left) k _ _ (v .move-rows .ensures) (c .before .before .store .ensures)
 
 pub insert-row-spec : {M : Type 1} → statement M
 insert-row-spec =
@@ -78,10 +79,9 @@ insert-row-spec =
     returns-2
     fits-requires
     returns-3
-    mul-move-up
-    add-move-up
-    mul-move-up-2
-    move-up-requires
+    mul-move-rows
+    add-move-rows
+    move-rows-requires
     sub-store
     store-requires
     same-length

@@ -1,4 +1,4 @@
-use Rattle.owner.specs.Owner.{makeOk}
+use Rattle.owning.specs.Owner.{makeOk}
 use borrow.Author.Needs.{needs}
 use Rattle.owner.proofs.make_ok.Statement.{statement}
 use Rattle.owner.proofs.make_ok.Tie as tie

@@ -1,6 +1,6 @@
 use mathlib.Core.Path.{sym, _∙_}
 use Rattle.octets.specs.Parts.{Bytes}
-use Rattle.plain.proofs.Checks.{checked-damaged, checked-sound}
+use Rattle.engines.proofs.Checks.{damaged-by, sound-by}
 use Rattle.owner.proofs.Reading.{later-at, purge-refused, purge-done}
 use borrow.Author.Needs.{needs}
 use Rattle.owner.proofs.purge.Statement.{statement}
@@ -29,7 +29,7 @@ same-length c = search needs
 
 returns : tie.Need-returns
 returns c = let a = (c .before .before .before .before .before .args) in
-    purge-refused (a .s .now) (a .clock) (a .bound .0) (checked-damaged _ (sym ((c .before .before .checked) .ensures) ∙ (c .enum-told) .given .1))
+    purge-refused (a .config) (a .s .now) (a .clock) (a .bound .0) (damaged-by _ _ (sym ((c .before .before .checked) .ensures) ∙ (c .enum-told) .given .1))
 
 same-length-2 : tie.Need-same-length-2
 same-length-2 c = search needs
@@ -45,8 +45,8 @@ returns-2 c =
     let start = at14 .before in
     let a = (start .args) in
     let y : Bytes (a .s .now) = λ k. at14 .slice-known .given k .fits in
-    let whole = checked-sound _ _ (sym (at12 .checked .ensures) ∙ at10 .head .given .1) in
-    purge-done (a .s .now) (a .clock) (a .bound .0) _ _ _ _ y (start .fits .clock .fits) (whole .0) (later-at (a .s .now) (a .clock) _ _ (whole .1) (at8 .later .ensures))
+    let whole = sound-by _ _ _ (sym (at12 .checked .ensures) ∙ at10 .head .given .1) in
+    purge-done (a .config) (a .s .now) (a .clock) (a .bound .0) _ _ _ _ y (start .fits .clock .fits) (whole .0) (later-at (a .s .now) (a .clock) _ _ (whole .1) (at8 .later .ensures))
     (at6 .put-clock .ensures) (at2 .purge .ensures .0) (at2 .purge .ensures .1)
 
 pub purge-spec : {M : Type 1} → statement M

@@ -1,6 +1,6 @@
 use mathlib.Core.Path.{sym, _∙_}
 use Rattle.octets.specs.Parts.{Bytes}
-use Rattle.plain.proofs.Checks.{checked-damaged, checked-sound}
+use Rattle.engines.proofs.Checks.{damaged-by, sound-by}
 use Rattle.owner.proofs.Reading.{later-at, read-damaged, read-found}
 use borrow.Author.Needs.{needs}
 use Rattle.owner.proofs.read.Statement.{statement}
@@ -26,7 +26,7 @@ shown-requires c κs = search needs
 
 returns : tie.Need-returns
 returns c = let a = (c .before .before .before .before .before .args) in
-    sym (read-damaged (a .s .now) (a .clock) (a .key .now) (checked-damaged _ (sym ((c .before .before .checked) .ensures) ∙ (c .enum-told) .given .1)))
+    sym (read-damaged (a .config) (a .s .now) (a .clock) (a .key .now) (damaged-by _ _ (sym ((c .before .before .checked) .ensures) ∙ (c .enum-told) .given .1)))
 
 returns-2 : tie.Need-returns-2
 returns-2 c =
@@ -35,8 +35,8 @@ returns-2 c =
     let at8 = at6 .before .before in
     let a = (at8 .before .args) in
     let y : Bytes (a .s .now) = λ k. at8 .shared-slice-known .given k .fits in
-    let whole = checked-sound _ _ (sym (at6 .checked .ensures) ∙ at4 .head .given .1) in
-    read-found (a .s .now) (a .clock) (a .key .now) _ _ _ y (whole .0) (later-at (a .s .now) (a .clock) _ _ (whole .1) (c .before .later .ensures))
+    let whole = sound-by _ _ _ (sym (at6 .checked .ensures) ∙ at4 .head .given .1) in
+    read-found (a .config) (a .s .now) (a .clock) (a .key .now) _ _ _ y (whole .0) (later-at (a .s .now) (a .clock) _ _ (whole .1) (c .before .later .ensures))
     (c .before .before .find .ensures) (c .shown .ensures)
 
 pub read-spec : {M : Type 1} → statement M

@@ -1,4 +1,4 @@
-use Rattle.owner.specs.Owner.{sizeOf}
+use Rattle.owning.specs.Owner.{sizeOf}
 use mathlib.Core.Bool.{and-false}
 use borrow.Author.Tests.{lt-leb, le-leb}
 use borrow.Author.Needs.{needs}

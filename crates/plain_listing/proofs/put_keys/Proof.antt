@@ -1,4 +1,4 @@
-use Rattle.plain_listing.proofs.Writing.{nothing-written}
+use Rattle.listing.proofs.Writing.{nothing-written}
 use Rattle.plain_listing.proofs.Listed.{fitting-none, fitting-all}
 use Rattle.listing.specs.Listing.{taken, keysBytes}
 use Rattle.document.specs.Documents.{Key}

@@ -6,7 +6,9 @@ use Rattle.replay.proofs.replay.Statement.{statement}
 use Rattle.replay.proofs.replay.Tie as tie
 
 returns : tie.Need-returns
-returns c = other-size (c .before .before .before .args .b .now) (c .before .before .before .args .trace .now) (ne-eqb _ _ (c .if1 .taken))
+returns c =
+    let a = c .before .before .before .args in
+    other-size (a .config) (a .b .now) (a .trace .now) (ne-eqb _ _ (c .if1 .taken))
 
 opening-of-requires : tie.Need-opening-of-requires
 opening-of-requires c κs = tt
@@ -34,7 +36,8 @@ replay-fields-requires c κs =
 returns-2 : tie.Need-returns-2
 returns-2 c =
     let c6 = c .before .before .before .before .before .before in
-    unopened (c6 .args .b .now) (c6 .args .trace .now) (c .before .before .before .if1 .left) (sym (c .before .before .opening-of .ensures) ∙ c .enum-told .given .1)
+    unopened (c6 .args .config) (c6 .args .b .now) (c6 .args .trace .now) (c .before .before .before .if1 .left)
+    (sym (c .before .before .opening-of .ensures) ∙ c .enum-told .given .1)
 
 same-length : tie.Need-same-length
 same-length c = search needs
@@ -46,7 +49,7 @@ returns-3 c =
     let c13 = c11 .before .before in
     let c14 = c13 .before in
     let c17 = c14 .before .before .before in
-    opened (c17 .args .b .now) (c17 .args .trace .now) (c14 .if1 .left) _ _ _ _ _ (sym (c13 .opening-of .ensures) ∙ c11 .mode .given .1)
+    opened (c17 .args .config) (c17 .args .b .now) (c17 .args .trace .now) (c14 .if1 .left) _ _ _ _ _ (sym (c13 .opening-of .ensures) ∙ c11 .mode .given .1)
     (c8 .make .ensures .1) (c .before .before .before .replay-fields .ensures)
 
 pub replay-spec : {M : Type 1} → statement M

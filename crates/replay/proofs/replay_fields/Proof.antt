@@ -12,12 +12,13 @@ use Rattle.replay.proofs.replay_fields.Statement.{statement}
 use Rattle.replay.proofs.replay_fields.Tie as tie
 
 abbrev Inv-loop : tie.InvT-loop
-Inv-loop b₀ trace out₀ p₀ b out p =
+Inv-loop config b₀ trace out₀ p₀ b out p =
     (length b ≡ length b₀) × ((length out ≡ length out₀) × ((p .at ≤ length trace) × ((p .frames ≤ p .at)
-    × (walked (voyageOf b out p) (fieldsFrom (p .at) (drop (p .at) trace)) ≡ walked (record { table = b₀; clock = 0; frames = 0; reply = [] }) (fieldsIn trace)))))
+    × (walked config (voyageOf b out p) (fieldsFrom (p .at) (drop (p .at) trace))
+    ≡ walked config (record { table = b₀; clock = 0; frames = 0; reply = [] }) (fieldsIn trace)))))
 
 abbrev μ-loop : tie.MeasureT-loop
-μ-loop b₀ trace out₀ p₀ b out p = length trace - p .at
+μ-loop config b₀ trace out₀ p₀ b out p = length trace - p .at
 
 loop-holds : tie.Need-loop-holds Inv-loop μ-loop
 loop-holds c = (refl, (refl, (c .before .before .before .pre .1 .0, (omega arith, refl))))
@@ -31,7 +32,8 @@ same-length-2 c = c .before .loop .inv .1 .0
 returns : tie.Need-returns Inv-loop μ-loop
 returns c =
     let l = c .before .loop in
-    record { end = sym (walk-end (c .before .before .before .before .before .args .trace .now) (l .b) (l .out) (l .p) (c .if1 .taken)) ∙ l .inv .1 .1 .1 .1 }
+    let a = c .before .before .before .before .before .args in
+    record { end = sym (walk-end (a .config) (a .trace .now) (l .b) (l .out) (l .p) (c .if1 .taken)) ∙ l .inv .1 .1 .1 .1 }
 
 rest-requires : tie.Need-rest-requires Inv-loop μ-loop
 rest-requires c κs = tt
@@ -56,8 +58,8 @@ loop-less c =
     let c16 = c12 .before .before .before .before in
     let l = c12 .loop in
     let a = c16 .args in
-    let t = turned (a .trace .now) (l .b) (l .out) (l .p) _ _ _ _ _ (c9 .rest .ensures) (c .before .next .given .1) (c7 .turn .ensures) in
-    let w = turn-inside (a .trace .now) (l .b) (l .out) (l .p) (c11 .if1 .left) _ _ _ t in
+    let t = turned (a .config) (a .trace .now) (l .b) (l .out) (l .p) _ _ _ _ _ (c9 .rest .ensures) (c .before .next .given .1) (c7 .turn .ensures) in
+    let w = turn-inside (a .config) (a .trace .now) (l .b) (l .out) (l .p) (c11 .if1 .left) _ _ _ t in
     omega (arith, w .0, w .1)
 
 loop-again : tie.Need-loop-again Inv-loop μ-loop
@@ -71,9 +73,9 @@ loop-again c =
     let c16 = c12 .before .before .before .before in
     let l = c12 .loop in
     let a = c16 .args in
-    let t = turned (a .trace .now) (l .b) (l .out) (l .p) _ _ _ _ _ (c9 .rest .ensures) (c .before .next .given .1) (c7 .turn .ensures) in
-    let w = turn-inside (a .trace .now) (l .b) (l .out) (l .p) (c11 .if1 .left) _ _ _ t in
-    let on = walk-on (a .trace .now) (l .b) (l .out) (l .p) (c11 .if1 .left) _ _ _ t in (
+    let t = turned (a .config) (a .trace .now) (l .b) (l .out) (l .p) _ _ _ _ _ (c9 .rest .ensures) (c .before .next .given .1) (c7 .turn .ensures) in
+    let w = turn-inside (a .config) (a .trace .now) (l .b) (l .out) (l .p) (c11 .if1 .left) _ _ _ t in
+    let on = walk-on (a .config) (a .trace .now) (l .b) (l .out) (l .p) (c11 .if1 .left) _ _ _ t in (
       c6 .b .given ∙ l .inv .0,
       (
         c4 .out .given ∙ l .inv .1 .0,
@@ -99,8 +101,8 @@ returns-2 c =
     let c16 = c12 .before .before .before .before in
     let l = c12 .loop in
     let a = c16 .args in
-    let t = turned (a .trace .now) (l .b) (l .out) (l .p) _ _ _ _ _ (c9 .rest .ensures) (c .before .end .given .1) (c7 .turn .ensures) in
-    record { end = walk-ends (a .trace .now) (l .b) (l .out) (l .p) (c11 .if1 .left) _ _ _ t ∙ l .inv .1 .1 .1 .1 }
+    let t = turned (a .config) (a .trace .now) (l .b) (l .out) (l .p) _ _ _ _ _ (c9 .rest .ensures) (c .before .end .given .1) (c7 .turn .ensures) in
+    record { end = walk-ends (a .config) (a .trace .now) (l .b) (l .out) (l .p) (c11 .if1 .left) _ _ _ t ∙ l .inv .1 .1 .1 .1 }
 
 pub replay-fields-spec : {M : Type 1} → statement M
 replay-fields-spec =

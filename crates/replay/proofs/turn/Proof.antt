@@ -11,11 +11,11 @@ field-of-requires c κs = tt
 enum-known-clock : tie.Need-enum-known-clock
 enum-known-clock c = search needs
 
-add-t11 : tie.Need-add-t11
-add-t11 c = search needs
-
 add-t12 : tie.Need-add-t12
 add-t12 c = search needs
+
+add-t13 : tie.Need-add-t13
+add-t13 c = search needs
 
 enum-known-len : tie.Need-enum-known-len
 enum-known-len c = search needs
@@ -30,7 +30,7 @@ serve-field-requires c κs =
     let c10 = c6 .before .before .before .before in
     let a = c10 .args in
     let e = sym (c6 .field-of .ensures) ∙ c4 .len .given .1 in
-    let l = held-length (a .b .now) (a .s .now) (a .out .now) (a .p) _ _ _ e refl (says (a .s .now) _ e) (c .before .part .ensures) in
+    let l = held-length (a .s .now) _ _ _ e refl (says (a .s .now) _ e) (c .before .part .ensures) in
     (c10 .pre .0, (c10 .pre .1 .0, omega (arith, l, inside (a .s .now) _ e refl, c10 .pre .1 .1)))
 
 enum-known-len-2 : tie.Need-enum-known-len-2
@@ -46,7 +46,7 @@ compare-reply-requires : tie.Need-compare-reply-requires
 compare-reply-requires c κs =
     let a = c .before .before .before .before .before .before .before .before .before .before .args in
     let e = sym (c .before .before .before .before .before .before .field-of .ensures) ∙ c .before .before .before .before .len2 .given .1 in
-    let l = held-length (a .b .now) (a .s .now) (a .out .now) (a .p) _ _ _ e refl (says (a .s .now) _ e) (c .before .before .part2 .ensures) in
+    let l = held-length (a .s .now) _ _ _ e refl (says (a .s .now) _ e) (c .before .before .part2 .ensures) in
     omega (arith, l, inside (a .s .now) _ e refl, c .before .before .before .before .before .before .before .before .before .before .pre .1 .1)
 
 enum-known-bound : tie.Need-enum-known-bound
@@ -67,7 +67,7 @@ enum-told c = search needs
 returns : tie.Need-returns
 returns c =
     let a = c .before .before .before .before .before .before .before .before .args in
-    clock-turns (a .b .now) (a .s .now) (a .out .now) (a .p) _ (sym (c .before .before .before .before .field-of .ensures) ∙ c .before .before .clock .given .1)
+    clock-turns (a .config) (a .b .now) (a .s .now) (a .out .now) (a .p) _ (sym (c .before .before .before .before .field-of .ensures) ∙ c .before .before .clock .given .1)
 
 same-length : tie.Need-same-length
 same-length c = search needs
@@ -83,7 +83,8 @@ returns-2 c =
     let c11 = c9 .before .before in
     let c15 = c11 .before .before .before .before in
     let a = c15 .args in
-    frame-turns (a .b .now) (a .s .now) (a .out .now) (a .p) _ _ _ _ _ (sym (c11 .field-of .ensures) ∙ c9 .len .given .1) (c6 .part .ensures) (c4 .serve-field .ensures)
+    frame-turns (a .config) (a .b .now) (a .s .now) (a .out .now) (a .p) _ _ _ _ _
+    (sym (c11 .field-of .ensures) ∙ c9 .len .given .1) (c6 .part .ensures) (c4 .serve-field .ensures)
 
 same-length-3 : tie.Need-same-length-3
 same-length-3 c = search needs
@@ -94,7 +95,7 @@ returns-3 c =
     let c7 = c5 .before .before in
     let c11 = c7 .before .before .before .before in
     let a = c11 .args in
-    reply-turns (a .b .now) (a .s .now) (a .out .now) (a .p) _ _ _ _ (sym (c7 .field-of .ensures) ∙ c5 .len2 .given .1)
+    reply-turns (a .config) (a .b .now) (a .s .now) (a .out .now) (a .p) _ _ _ _ (sym (c7 .field-of .ensures) ∙ c5 .len2 .given .1)
     (c .before .before .before .part2 .ensures) (c .before .part3 .ensures) (c .compare-reply .ensures)
 
 same-length-4 : tie.Need-same-length-4
@@ -106,13 +107,13 @@ returns-4 c =
     let c8 = c6 .before .before in
     let c12 = c8 .before .before .before .before in
     let a = c12 .args in
-    purge-turns (a .b .now) (a .s .now) (a .out .now) (a .p) _ _ _ (sym (c8 .field-of .ensures) ∙ c6 .bound .given .1)
+    purge-turns (a .config) (a .b .now) (a .s .now) (a .out .now) (a .p) _ _ _ (sym (c8 .field-of .ensures) ∙ c6 .bound .given .1)
     (c .before .before .before .purge .ensures .1) (c .passed .ensures)
 
 returns-5 : tie.Need-returns-5
 returns-5 c =
     let a = c .before .before .before .before .before .before .args in
-    broken-turns (a .b .now) (a .s .now) (a .out .now) (a .p) (sym (c .before .before .field-of .ensures) ∙ c .enum-told .given .1)
+    broken-turns (a .config) (a .b .now) (a .s .now) (a .out .now) (a .p) (sym (c .before .before .field-of .ensures) ∙ c .enum-told .given .1)
 
 pub turn-spec : {M : Type 1} → statement M
 turn-spec =
@@ -120,8 +121,8 @@ turn-spec =
     (tie.spec
     field-of-requires
     enum-known-clock
-    add-t11
     add-t12
+    add-t13
     enum-known-len
     part-requires
     serve-field-requires

@@ -10,12 +10,12 @@ use Rattle.run.proofs.serve_run.Statement.{statement}
 use Rattle.run.proofs.serve_run.Tie as tie
 
 abbrev Inv-loop : tie.InvT-loop
-Inv-loop b₀ clock run out₀ cursor₀ filled₀ tally₀ b out cursor filled tally =
+Inv-loop config b₀ clock run out₀ cursor₀ filled₀ tally₀ b out cursor filled tally =
     (length b ≡ length b₀) × ((length out ≡ length out₀) × ((cursor .at ≤ length run) × ((filled ≤ length out) × (Bytes b
-    × (runEnd clock run (record { table = b; reply = out; tally = tally; at = cursor .at; filled = filled }) ≡ runEnd clock run (begun b₀ out₀ tally₀))))))
+    × (runEnd config clock run (record { table = b; reply = out; tally = tally; at = cursor .at; filled = filled }) ≡ runEnd config clock run (begun b₀ out₀ tally₀))))))
 
 abbrev μ-loop : tie.MeasureT-loop
-μ-loop b₀ clock run out₀ cursor₀ filled₀ tally₀ b out cursor filled tally = length run - cursor .at
+μ-loop config b₀ clock run out₀ cursor₀ filled₀ tally₀ b out cursor filled tally = length run - cursor .at
 
 loop-holds : tie.Need-loop-holds Inv-loop μ-loop
 loop-holds c = (refl, (refl, (omega arith, (omega arith, (λ k. c .before .before .slice-known .given k .fits, refl)))))
@@ -38,10 +38,11 @@ enum-known-r c = search needs
 add-filled : tie.Need-add-filled Inv-loop μ-loop
 add-filled c =
     let l = c .before .before .before .before .before .before .before .before .before .before .before .loop in
-    let a = c .before .before .before .before .before .before .before .before .before .before .before .before .before .before .before .args in
+    let start = c .before .before .before .before .before .before .before .before .before .before .before .before .before .before .before in
+    let a = start .args in
     let one = c .before .before .before .before .before .before .before .before .step .ensures in
-    let w = turn-told (a .clock) (a .run .now) (l .b) (l .out) (l .tally) (l .cursor .at) (l .filled) (l .inv .1 .1 .1 .0) _ _ _ (one .0) (one .1) _ _ _ (c .before .r .given .1) in
-    omega (arith, w .fits (l .inv .1 .1 .1 .1 .0), l .inv .1 .1 .1 .0, l .inv .1 .0)
+    let w = turn-told (a .config) (a .clock) (a .run .now) (l .b) (l .out) (l .tally) (l .cursor .at) (l .filled) (l .inv .1 .1 .1 .0) _ _ _ (one .0) (one .1) _ _ _ (c .before .r .given .1) in
+    omega (arith, w .fits (l .inv .1 .1 .1 .1 .0), l .inv .1 .1 .1 .0, l .inv .1 .0, start .good .1 .1 .1 .1 .0)
 
 counted-requires : tie.Need-counted-requires Inv-loop μ-loop
 counted-requires c κs = search needs
@@ -51,8 +52,8 @@ loop-less c =
     let l = c .before .before .before .before .before .before .before .before .before .before .before .before .loop in
     let a = c .before .before .before .before .before .before .before .before .before .before .before .before .before .before .before .before .args in
     let one = c .before .before .before .before .before .before .before .before .before .step .ensures in
-    let w = turn-told (a .clock) (a .run .now) (l .b) (l .out) (l .tally) (l .cursor .at) (l .filled) (l .inv .1 .1 .1 .0) _ _ _ (one .0) (one .1) _ _ _ (c .before .before .r .given .1) in
-    let p = turn-at (a .clock) (a .run .now) (l .b) (l .out) (l .tally) (l .cursor .at) (l .filled) (l .inv .1 .1 .1 .0) _ _ _ (one .0) (one .1) _ _ _ (c .before .before .r .given .1) in
+    let w = turn-told (a .config) (a .clock) (a .run .now) (l .b) (l .out) (l .tally) (l .cursor .at) (l .filled) (l .inv .1 .1 .1 .0) _ _ _ (one .0) (one .1) _ _ _ (c .before .before .r .given .1) in
+    let p = turn-at (a .config) (a .clock) (a .run .now) (l .b) (l .out) (l .tally) (l .cursor .at) (l .filled) (l .inv .1 .1 .1 .0) _ _ _ (one .0) (one .1) _ _ _ (c .before .before .r .given .1) in
     let d = length-drop (l .cursor .at) (a .run .now) in
     omega (arith, w .least, w .inside, p, d, l .inv .1 .1 .0)
 
@@ -61,9 +62,9 @@ loop-again c =
     let l = c .before .before .before .before .before .before .before .before .before .before .before .before .loop in
     let a = c .before .before .before .before .before .before .before .before .before .before .before .before .before .before .before .before .args in
     let one = c .before .before .before .before .before .before .before .before .before .step .ensures in
-    let w = turn-told (a .clock) (a .run .now) (l .b) (l .out) (l .tally) (l .cursor .at) (l .filled) (l .inv .1 .1 .1 .0) _ _ _ (one .0) (one .1) _ _ _ (c .before .before .r .given .1) in
-    let p = turn-at (a .clock) (a .run .now) (l .b) (l .out) (l .tally) (l .cursor .at) (l .filled) (l .inv .1 .1 .1 .0) _ _ _ (one .0) (one .1) _ _ _ (c .before .before .r .given .1) in
-    let more = turn-on (a .clock) (a .run .now) (l .b) (l .out) (l .tally) (l .cursor .at) (l .filled) (l .inv .1 .1 .1 .0) _ _ _ (one .0) (one .1)
+    let w = turn-told (a .config) (a .clock) (a .run .now) (l .b) (l .out) (l .tally) (l .cursor .at) (l .filled) (l .inv .1 .1 .1 .0) _ _ _ (one .0) (one .1) _ _ _ (c .before .before .r .given .1) in
+    let p = turn-at (a .config) (a .clock) (a .run .now) (l .b) (l .out) (l .tally) (l .cursor .at) (l .filled) (l .inv .1 .1 .1 .0) _ _ _ (one .0) (one .1) _ _ _ (c .before .before .r .given .1) in
+    let more = turn-on (a .config) (a .clock) (a .run .now) (l .b) (l .out) (l .tally) (l .cursor .at) (l .filled) (l .inv .1 .1 .1 .0) _ _ _ (one .0) (one .1)
     _ _ _ (c .before .before .r .given .1) _ (c .counted .ensures) in
     let d = length-drop (l .cursor .at) (a .run .now) in (
       c .before .before .before .before .before .before .before .before .b .given ∙ l .inv .0,
@@ -96,7 +97,7 @@ returns c =
     let l = c .before .before .before .before .before .before .before .before .before .before .loop in
     let a = c .before .before .before .before .before .before .before .before .before .before .before .before .before .before .args in
     let one = c .before .before .before .before .before .before .before .step .ensures in
-    turn-ends (a .clock) (a .run .now) (l .b) (l .out) (l .tally) (l .cursor .at) (l .filled) (l .inv .1 .1 .1 .0) _ _ _ (one .0) (one .1)
+    turn-ends (a .config) (a .clock) (a .run .now) (l .b) (l .out) (l .tally) (l .cursor .at) (l .filled) (l .inv .1 .1 .1 .0) _ _ _ (one .0) (one .1)
     _ _ (c .enum-told .given .1) (begun (a .b .now) (a .out .now) (a .t)) (l .inv .1 .1 .1 .1 .1)
 
 pub serve-run-spec : {M : Type 1} → statement M

@@ -1,4 +1,5 @@
 use native.Mathlib.Omega.{arith}
+use Rattle.octets.specs.Parts.{Bytes}
 use denote.Ref.{now}
 use borrow.Author.Needs.{needs}
 use Rattle.serve.proofs.Answers.{keys-short, silent-listing, listing-written}
@@ -10,7 +11,8 @@ returns c =
     let f = c .before .before .before .before in
     let a = f .args in
     let p = f .pre in
-    silent-listing (now (a .b)) (a .clock) (now (a .start)) (a .count) (now (a .out)) (p .0) (p .1 .0) (a .h) (a .d) (p .1 .1) (c .if1 .taken)
+    let y : Bytes (now (a .b)) = λ i. c .before .before .before .shared-slice-known .given i .fits in
+    silent-listing (a .config) (now (a .b)) (a .clock) (now (a .start)) (a .count) (now (a .out)) y (p .0) (p .1 .0) (a .h) (a .d) (p .1 .1) (c .if1 .taken)
 
 put-keys-requires : tie.Need-put-keys-requires
 put-keys-requires c κs = search needs
@@ -20,8 +22,9 @@ cast-put-value-header c =
     let f = c .before .before .before .before .before .before .before .before .before .before .before in
     let a = f .args in
     let p = f .pre in
+    let y : Bytes (now (a .b)) = λ i. c .before .before .before .before .before .before .before .before .before .before .shared-slice-known .given i .fits in
     let size = c .before .before .before .before .before .put-keys .ensures in
-    record { fits = omega (arith, size, keys-short (now (a .b)) (a .clock) (now (a .start)) (a .count) (now (a .out)) (p .0) (p .1 .0)) }
+    record { fits = omega (arith, size, keys-short (a .config) (now (a .b)) (a .clock) (now (a .start)) (a .count) (now (a .out)) y (p .0) (p .1 .0)) }
 
 put-value-header-requires : tie.Need-put-value-header-requires
 put-value-header-requires c κs = search needs
@@ -31,8 +34,9 @@ add-result c =
     let f = c .before .before .before .before .before .before .before .before .before .before .before .before .before .before in
     let a = f .args in
     let p = f .pre in
+    let y : Bytes (now (a .b)) = λ i. c .before .before .before .before .before .before .before .before .before .before .before .before .before .shared-slice-known .given i .fits in
     let size = c .before .before .before .before .before .before .before .before .put-keys .ensures in
-    record { fits = omega (arith, size, keys-short (now (a .b)) (a .clock) (now (a .start)) (a .count) (now (a .out)) (p .0) (p .1 .0)) }
+    record { fits = omega (arith, size, keys-short (a .config) (now (a .b)) (a .clock) (now (a .start)) (a .count) (now (a .out)) y (p .0) (p .1 .0)) }
 
 same-length : tie.Need-same-length
 same-length c = search needs
@@ -42,8 +46,9 @@ returns-2 c =
     let f = c .before .before .before .before .before .before .before .before .before .before .before .before .before .before in
     let a = f .args in
     let p = f .pre in
+    let y : Bytes (now (a .b)) = λ i. c .before .before .before .before .before .before .before .before .before .before .before .before .before .shared-slice-known .given i .fits in
     let k = c .before .before .before .before .before .before .before .before .put-keys .ensures in
-    listing-written (now (a .b)) (a .clock) (now (a .start)) (a .count) (now (a .out)) (p .0) (p .1 .0) (a .h) (a .d) (p .1 .1)
+    listing-written (a .config) (now (a .b)) (a .clock) (now (a .start)) (a .count) (now (a .out)) y (p .0) (p .1 .0) (a .h) (a .d) (p .1 .1)
     _ _ _ (c .before .before .before .before .before .before .before .before .before .before .if1 .left) (k .0) (k .1) (c .before .before .put-value-header .ensures)
 
 pub put-listing-spec : {M : Type 1} → statement M

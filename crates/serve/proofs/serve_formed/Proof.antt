@@ -32,7 +32,7 @@ put-answer-requires c κs =
     let found = c .before .before .before .before .before .find .ensures in
     let y : Bytes b = λ i. c .before .before .before .before .before .before .before .before .before .before .before .before .slice-known .given i .fits in (
       (r .pre .0 .0, r .pre .0 .1 .1),
-      shown-parts b (now (r .args .s)) (r .args .h) y (r .pre .0 .0) (p .0) (now (r .args .key)) _ _ _ (p .1 .1 .0) found (c .before .before .before .part .ensures),
+      shown-parts (r .args .config) b (now (r .args .s)) (r .args .h) y (r .pre .0 .0) (p .0) (now (r .args .key)) _ _ _ (p .1 .1 .0) found (c .before .before .before .part .ensures),
     )
 
 part-requires-2 : tie.Need-part-requires-2
@@ -60,7 +60,7 @@ returns c =
     let p = r .pre .1 in
     let y : Bytes b = λ i. l .before .before .before .before .before .before .before .slice-known .given i .fits in
     let z : Bytes s = λ i. l .before .before .before .before .before .before .shared-slice-known .given i .fits in
-    formed-by b s (r .args .clock) (r .args .h) y z (r .fits .clock .fits) (r .pre .0 .0) (p .1 .1 .1 .1) (p .0) _ _ _ _ _ _ _ (p .1 .1 .0)
+    formed-by (r .args .config) b s (r .args .clock) (r .args .h) y z (r .fits .clock .fits) (r .pre .0 .0) (p .1 .1 .1 .1) (p .0) _ _ _ _ _ _ _ (p .1 .1 .0)
     (l .before .writes .ensures) (l .find .ensures) (a .before .before .before .before .part .ensures)
     (a .before .before .before .at-clock .ensures ∙ ap (λ (x : Head). atClock x (r .args .clock)) (r .pre .0 .1 .0)) (p .1 .0)
     (a .before .before .decided .ensures) _ _ _ _ _ _ (c .before .before .before .before .part2 .ensures ∙ p .1 .1 .1 .0)

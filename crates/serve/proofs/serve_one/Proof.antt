@@ -1,5 +1,5 @@
 use Rattle.serve.proofs.Gates.{gate-damaged, gated}
-use Rattle.plain.proofs.Checks.{checked-sound, checked-damaged}
+use Rattle.engines.proofs.Checks.{damaged-by, sound-by}
 use lib.ListN.{length}
 use mathlib.Core.Path.{refl, sym, _∙_}
 use denote.Ref.{now}
@@ -19,7 +19,7 @@ enum-known-head c = search needs
 serve-sound-requires : tie.Need-serve-sound-requires
 serve-sound-requires c κs =
     let m = c .before .before .before in
-    checked-sound (now (m .before .before .before .before .before .before .before .args .b)) _ (sym (m .before .before .checked .ensures) ∙ m .head .given .1)
+    sound-by (m .before .before .before .before .before .before .before .args .config) _ _ (sym (m .before .before .checked .ensures) ∙ m .head .given .1)
 
 same-length : tie.Need-same-length
 same-length c = search needs
@@ -30,7 +30,8 @@ returns c =
     let b = now (a .b) in
     let s = now (a .s) in
     let out = now (a .out) in
-    gated b s out (a .clock) _ (gate-damaged b s (length out) (checked-damaged b (sym (c .before .before .checked .ensures) ∙ c .enum-told .given .1))) _ _ _ refl refl refl
+    gated (a .config) b s out (a .clock) _ (gate-damaged (a .config) b s (length out) (damaged-by (a .config) b (sym
+    (c .before .before .checked .ensures) ∙ c .enum-told .given .1))) _ _ _ refl refl refl
 
 same-length-2 : tie.Need-same-length-2
 same-length-2 c = search needs

@@ -123,7 +123,7 @@ returns c =
     let r = c .before .before .before .before .refused .ensures in
     let at8 = c .before .before .before .before .before .before .before .before in
     let y : Bytes (now (p .args .b)) = λ i. at8 .before .before .before .before .before .before .before .before .slice-known .given i .fits in
-    refused-by (now (p .args .b)) s (p .args .clock) h (ap reachesDecision (sym e)) 0x04 (p .args .head) _ _ _ _ y (p .pre .0 .0) e (p .pre .0 .1 .0) (r .0) (r .1 .0) (r .1 .1)
+    refused-by (p .args .config) (now (p .args .b)) s (p .args .clock) h (ap reachesDecision (sym e)) 0x04 (p .args .head) _ _ _ _ y (p .pre .0 .0) e (p .pre .0 .1 .0) (r .0) (r .1 .0) (r .1 .1)
 
 same-length-3 : tie.Need-same-length-3
 same-length-3 c = search needs

@@ -13,7 +13,7 @@ returns c =
     let b = now (f .args .b) in
     let s = now (f .args .s) in
     let out = now (f .args .out) in
-    gated b s out (f .args .clock) _ (gate-room b s (length out) (f .pre .0) (c .if1 .taken)) _ _ _ refl refl refl
+    gated (f .args .config) b s out (f .args .clock) _ (gate-room (f .args .config) b s (length out) (f .pre .0) (c .if1 .taken)) _ _ _ refl refl refl
 
 gate-of-requires : tie.Need-gate-of-requires
 gate-of-requires c κs = search needs
@@ -36,8 +36,8 @@ returns-2 c =
     let b = now (f .args .b) in
     let s = now (f .args .s) in
     let out = now (f .args .out) in
-    let opened = gate-open b s (length out) (f .pre .0) (c .before .before .before .before .if1 .left) in
-    gated b s out (f .args .clock) _ (opened ∙ sym (c .before .before .before .gate-of .ensures) ∙ c .before .outcome .given .1) _ _ _ refl refl refl
+    let opened = gate-open (f .args .config) b s (length out) (f .pre .0) (c .before .before .before .before .if1 .left) in
+    gated (f .args .config) b s out (f .args .clock) _ (opened ∙ sym (c .before .before .before .gate-of .ensures) ∙ c .before .outcome .given .1) _ _ _ refl refl refl
 
 same-length : tie.Need-same-length
 same-length c = search needs
@@ -53,8 +53,8 @@ returns-3 c =
     let s = now (f .args .s) in
     let out = now (f .args .out) in
     let done = c .before .before .before .before .serve-whole .ensures in
-    let opened = gate-open b s (length out) (f .pre .0) (m .before .before .before .if1 .left) in
-    gated b s out (f .args .clock) _ (opened ∙ sym (m .before .before .gate-of .ensures) ∙ m .h .given .1) _ _ _ (done .answer) (done .table) (done .reply)
+    let opened = gate-open (f .args .config) b s (length out) (f .pre .0) (m .before .before .before .if1 .left) in
+    gated (f .args .config) b s out (f .args .clock) _ (opened ∙ sym (m .before .before .gate-of .ensures) ∙ m .h .given .1) _ _ _ (done .answer) (done .table) (done .reply)
 
 pub serve-sound-spec : {M : Type 1} → statement M
 serve-sound-spec =

@@ -50,7 +50,8 @@ returns-2 c =
     let e = m .before .form-status .ensures ∙ ap (λ (x : Shape). formStatus x h) (m .before .before .shape-of .ensures) in
     let z : formStatus (shapeOf (h .opcode)) h ≡ 0 → ⊥ = λ q. m .if1 .left (e ∙ q) in
     let y : Bytes (now (f .args .b)) = λ i. m .before .before .before .before .before .slice-known .given i .fits in
-    refused-by (now (f .args .b)) s (f .args .clock) h (other-stops s h z) _ (f .args .head) _ _ _ _ y (f .pre .0) (e ∙ other-status s h z) (f .pre .1 .0) (done .0) (done .1 .0) (done .1 .1)
+    refused-by (f .args .config) (now (f .args .b)) s (f .args .clock) h (other-stops s h z) _ (f .args .head) _ _ _ _ y (f .pre .0) (e ∙ other-status s h z) (f .pre .1 .0)
+    (done .0) (done .1 .0) (done .1 .1)
 
 pub serve-whole-spec : {M : Type 1} → statement M
 serve-whole-spec =

@@ -54,8 +54,8 @@ slice-relend-prefix-answer-call c = search needs
 slice-aggregate-answer-call : tie.Need-slice-aggregate-answer-call
 slice-aggregate-answer-call c =
     let c10 = c .before .before .before .before .before .before .before .before .before .before in
-    let args = c10 .before .before .before .before .before .args in
-    sym (length-take-le ((c .before .before .before .before .lent-for) .result .size) (args .memory .now) (omega (arith, (c .before .before .before .if2) .left)))
+    let args = c10 .before .before .before .before .before .before .args in
+    sym (length-take-le ((c .before .before .before .before .before .lent-for) .result .size) (args .memory .now) (omega (arith, (c .before .before .before .if2) .left)))
 
 slice-relend-prefix-answer-call-2 : tie.Need-slice-relend-prefix-answer-call-2
 slice-relend-prefix-answer-call-2 c = search needs
@@ -63,8 +63,8 @@ slice-relend-prefix-answer-call-2 c = search needs
 slice-aggregate-answer-call-2 : tie.Need-slice-aggregate-answer-call-2
 slice-aggregate-answer-call-2 c =
     let c10 = c .before .before .before .before .before .before .before .before .before .before in
-    let args = c10 .before .before .before .before .before .before .args in
-    let lent-for = c .before .before .before .before .before .lent-for in
+    let args = c10 .before .before .before .before .before .before .before .args in
+    let lent-for = c .before .before .before .before .before .before .lent-for in
     sym (length-take-le (lent-for .result .room) (args .area .now) (omega (arith, (c .before .before .before .if3) .left)))
 
 answer-call-requires : tie.Need-answer-call-requires

@@ -3,6 +3,7 @@ use Prim.Native.Nat.{_-_}
 use borrow.Author.Needs.{needs}
 use lib.ListN.{length}
 use mathlib.Core.Path.{_≡_}
+use native.Mathlib.Omega.{arith}
 use Rattle.store_vectors.proofs.answer_lines.Statement.{statement}
 use Rattle.store_vectors.proofs.answer_lines.Tie as tie
 
@@ -11,6 +12,9 @@ Inv-loop input memory₀ area₀ space₀ at₀ d₀ t8 memory area space at d =
 
 abbrev μ-loop : tie.MeasureT-loop
 μ-loop input memory₀ area₀ space₀ at₀ d₀ t8 memory area space at d = length input - at
+
+config-for-requires : tie.Need-config-for-requires Inv-loop μ-loop
+config-for-requires c κs = search needs
 
 loop-holds : tie.Need-loop-holds Inv-loop μ-loop
 loop-holds c = search needs
@@ -49,7 +53,9 @@ add-at : tie.Need-add-at Inv-loop μ-loop
 add-at c = search needs
 
 add-at-2 : tie.Need-add-at-2 Inv-loop μ-loop
-add-at-2 c = search needs
+add-at-2 c =
+    let c11 = c .before .before .before .before .before .before .before .before .before .before .before in
+    omega (arith, c11 .before .before .before .before .before .before .before .before .before .before .before .good .0 .0)
 
 loop-less : tie.Need-loop-less Inv-loop μ-loop
 loop-less c = search needs
@@ -75,6 +81,7 @@ answer-lines-spec =
     (tie.spec
     Inv-loop
     μ-loop
+    config-for-requires
     loop-holds
     rest-requires
     before-requires

@@ -1,21 +1,16 @@
-//! Compares the library with the rendering, call by call: `compare`, or `compare replay FILE`.
+//! Compares the library with the rendering and the engines with each other, call by call: `compare`, or `compare replay FILE`.
 //!
 //! `CONTACTS_SEED` gives another seed, `CONTACTS_CALLS` another number of calls.
 
-use contact_tests::answers::Store;
 use contact_tests::comparison::Comparison;
-use contact_tests::rendering::Rendering;
+use contact_tests::engines::{difference, STORES};
 use contact_tests::replay::{from_text, to_text};
-use contact_tests::session::difference;
 use contact_tests::settings::{calls, seed};
-use contact_tests::Library;
 use std::process::ExitCode;
 use std::time::Duration;
 
 /// From so many calls on, everything expected must have been met often enough.
 const FULL: u64 = 500_000;
-
-const STORES: [&dyn Store; 2] = [&Rendering, &Library];
 
 fn main() -> ExitCode {
     let arguments: Vec<String> = std::env::args().skip(1).collect();
@@ -46,11 +41,11 @@ fn compare(seed: u64, calls: u64) -> Result<String, String> {
         ));
     }
     let made = comparison.coverage.calls();
-    let [rendering, library] = comparison.pair.spent.map(|spent| speed(made, spent));
+    let [rendering, library] = comparison.engines.spent().map(|spent| speed(2 * made, spent));
     println!("{}\nrendering {rendering}, library {library}", comparison.coverage.summary());
     let missing = if made < FULL { Vec::new() } else { comparison.coverage.missing(&comparison.generator) };
     if missing.is_empty() {
-        Ok(format!("{made} calls compared with seed {seed}: no difference"))
+        Ok(format!("{made} calls compared on both engines with seed {seed}: no difference"))
     } else {
         Err(format!("never met, or too seldom, in {made} calls with seed {seed}:\n  {}", missing.join("\n  ")))
     }

@@ -1,11 +1,10 @@
-//! Tries the merge on two boats, one with the rendering and one with the library.
+//! Tries the merge on two boats, one with the rendering and one with the library, by both engines.
 //!
 //! `CONTACTS_SEED` gives another seed, `CONTACTS_LISTS` another number of lists.
 
+use contact_tests::engines::STORES;
 use contact_tests::merge::try_lists;
-use contact_tests::rendering::Rendering;
 use contact_tests::settings::{lists, seed};
-use contact_tests::Library;
 use std::process::ExitCode;
 
 fn main() -> ExitCode {
@@ -22,11 +21,14 @@ fn main() -> ExitCode {
 }
 
 fn merge(lists: usize, seed: u64) -> Result<String, String> {
-    let tried = try_lists([&Rendering, &Library], lists, seed)
-        .map_err(|why| format!("rendering first, library second, {why}\n\nDIFFERENT"))?;
+    let tried =
+        try_lists(STORES, lists, seed).map_err(|why| format!("rendering first, library second, {why}\n\nDIFFERENT"))?;
     let missing = tried.missing(lists);
     if missing.is_empty() {
-        Ok(format!("merge: {} orders of {lists} lists in {} calls end as published", tried.orders, tried.calls))
+        Ok(format!(
+            "merge: {} orders of {lists} lists in {} calls by each engine end as published",
+            tried.orders, tried.calls
+        ))
     } else {
         Err(format!("too seldom met in {lists} lists:\n  {}", missing.join("\n  ")))
     }

@@ -1,22 +1,20 @@
-//! Compares the library's replays with the rendering's: `voyages`; or of the trace in a file: `voyages FILE`, which shows its
+//! Compares the library's replays with the rendering's, by both engines: `voyages`; or of the trace in a file: `voyages FILE`, which shows its
 //! fields too.
 //!
 //! `CONTACTS_SEED` gives another seed, `CONTACTS_TRACES` another number of traces.
 
-use contact_tests::answers::Store;
+use contact_tests::answers::Engine;
+use contact_tests::engines::STORES;
 use contact_tests::rendering::voyage::{line, ROWS};
-use contact_tests::rendering::{replay, size, Rendering};
+use contact_tests::rendering::{replay, size};
 use contact_tests::settings::{seed, traces};
 use contact_tests::voyages::{compared, hexadecimal, shown, TraceComparison};
-use contact_tests::Library;
 use std::process::ExitCode;
 use std::time::Duration;
 
 /// From so many traces on, everything expected must have been met, once in so many.
 const FULL: u64 = 100_000;
 const ONCE_IN: u64 = 2_000;
-
-const STORES: [&dyn Store; 2] = [&Rendering, &Library];
 
 fn main() -> ExitCode {
     let arguments: Vec<String> = std::env::args().skip(1).collect();
@@ -48,11 +46,11 @@ fn compare(seed: u64, traces: u64) -> Result<String, String> {
         ));
     }
     let made = comparison.met.traces;
-    let [rendering, library] = comparison.spent.map(|spent| speed(made, spent));
+    let [rendering, library] = comparison.spent.map(|spent| speed(2 * made, spent));
     println!("{}\nrendering {rendering}, library {library}", comparison.met.summary());
     let missing = if made < FULL { Vec::new() } else { comparison.met.missing(ONCE_IN) };
     if missing.is_empty() {
-        Ok(format!("{made} traces compared with seed {seed}: no difference"))
+        Ok(format!("{made} traces compared on both engines with seed {seed}: no difference"))
     } else {
         Err(format!("never met, or too seldom, in {made} traces with seed {seed}:\n  {}", missing.join("\n  ")))
     }
@@ -67,5 +65,5 @@ fn replay_file(file: &str) -> Result<String, String> {
     println!("{}", shown(&trace));
     let memory = vec![0; size(ROWS)];
     compared(STORES, &trace, &memory).map_err(|what| format!("rendering first, library second, {what}"))?;
-    Ok(line(&replay(&mut memory.clone(), &trace)))
+    Ok(line(&replay(Engine::Ordered, &mut memory.clone(), &trace)))
 }

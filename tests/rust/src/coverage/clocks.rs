@@ -1,6 +1,6 @@
 //! Order 2: what raised the kept clock and what left it, and what it decided against a call's earlier clock.
 
-use crate::answers::{Purged, Ran, Served};
+use crate::answers::{Engine, Purged, Ran, Served};
 use crate::rendering::bytes::u32_at;
 use crate::rendering::numbers::Numbers;
 use crate::rendering::request::{view, CounterExtras, PlainExtras, TouchExtras, View, HEADER as FRAME_HEADER};
@@ -320,7 +320,7 @@ fn decided(request: &View, numbers: Numbers, status: u8) -> Option<Decided> {
 
 /// Whether a listing of every live key leaves out one that the call's clock would list.
 fn leaves_out(before: &[u8], kept: u32, clock: u32, request: &View, served: &Served) -> bool {
-    let Ok(table) = Table::read(before) else {
+    let Ok(table) = Table::read(Engine::Plain, before) else {
         return false;
     };
     let from = || table.rows.iter().flatten().filter(|row| row.key >= request.key);
@@ -374,10 +374,10 @@ fn past_by_kept(row: &Row, kept: u32, clock: u32) -> bool {
 
 /// The numbers of the key's row, where it is such a one.
 fn row(memory: &[u8], key: &[u8], is_such: impl Fn(&Row) -> bool) -> Option<Numbers> {
-    let table = Table::read(memory).ok()?;
+    let table = Table::read(Engine::Plain, memory).ok()?;
     table.find(key).map(|(_, row)| row).filter(is_such).map(|row| row.numbers)
 }
 
 fn any_row(memory: &[u8], is_such: impl Fn(&Row) -> bool) -> bool {
-    Table::read(memory).is_ok_and(|table| table.rows.iter().flatten().any(is_such))
+    Table::read(Engine::Plain, memory).is_ok_and(|table| table.rows.iter().flatten().any(is_such))
 }

@@ -1,5 +1,6 @@
 //! Comparisons of with-meta writes with stored rows, by the number that decided them.
 
+use crate::answers::Engine;
 use crate::rendering::numbers::{Mode, Numbers};
 use crate::rendering::request::{is_with_meta, view, MetaExtras, FORCE, SKIP_CONFLICTS};
 use crate::rendering::shape::Command;
@@ -43,7 +44,7 @@ pub fn of_frame(before: &[u8], clock: u32, frame: &[u8], status: u8) -> Option<C
     if given.has(FORCE) || given.has(SKIP_CONFLICTS) {
         return None;
     }
-    let table = Table::read(before).ok()?;
+    let table = Table::read(Engine::Plain, before).ok()?;
     let (_, row) = table.find(request.key)?;
     let adds = request.shape.command == Command::AddWithMeta;
     if adds && row.live(clock) {

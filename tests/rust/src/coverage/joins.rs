@@ -2,7 +2,7 @@
 
 use super::forms::{fields, judged, Judge, Judged};
 use super::situations::{found, On};
-use crate::answers::Served;
+use crate::answers::{Engine, Served};
 use crate::frame::Frame;
 use crate::rendering::numbers::Revision;
 use crate::rendering::request::{view, TouchExtras, View};
@@ -277,7 +277,7 @@ struct Seen<'a> {
 
 /// A served frame, on the table as it was before, judged at this clock.
 pub fn of_frame(before: &[u8], clock: u32, frame: &[u8], served: &Served) -> Vec<Met> {
-    let (Some(opcode), Ok(table)) = (loud(frame[1]), Table::read(before)) else {
+    let (Some(opcode), Ok(table)) = (loud(frame[1]), Table::read(Engine::Plain, before)) else {
         return Vec::new();
     };
     let Ok(request) = view(frame) else {
@@ -451,7 +451,7 @@ pub fn joined(frame: &[u8], status: u8) -> Option<(u8, Vec<u8>)> {
 pub fn counted(after: &(u8, Vec<u8>), before: &[u8], clock: u32, frame: &[u8], status: u8) -> Option<Met> {
     let (opcode, key) = after;
     let request = view(frame).ok().filter(|request| request.key == key)?;
-    let table = Table::read(before).ok()?;
+    let table = Table::read(Engine::Plain, before).ok()?;
     table.find(key).filter(|(_, row)| row.live(clock))?;
     let counts = matches!(request.shape.command, Command::Increment | Command::Decrement);
     counts.then_some(Met::Counted { after: *opcode, status })

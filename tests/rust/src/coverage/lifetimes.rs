@@ -1,7 +1,7 @@
 //! Order 5: the seconds left that reads told, and those at which the other calls decided.
 
 use super::clocks::kept;
-use crate::answers::{lifetime, Document, Served};
+use crate::answers::{lifetime, Document, Engine, Served};
 use crate::rendering::numbers::Left;
 use crate::rendering::request::{view, View, HEADER as FRAME_HEADER};
 use crate::rendering::shape::Command;
@@ -173,7 +173,7 @@ fn seconds(kept: u32, clock: u32, left: i64) -> Vec<Told> {
 
 /// Why there is nothing to tell.
 fn nothing(before: &[u8], key: &[u8], document: &Document) -> Told {
-    let table = Table::read(before).ok();
+    let table = Table::read(Engine::Plain, before).ok();
     let is_tombstone = |table: &Table| table.find(key).is_some_and(|(_, row)| row.kind == Kind::Tombstone);
     match key.len() {
         _ if document.outcome != 0 => Told::Damaged,
@@ -223,12 +223,12 @@ fn user(request: &View, status: u8) -> Option<User> {
 fn lists_all(before: &[u8], clock: u32, request: &View, served: &Served) -> bool {
     let live = |row: &&Row| row.live(clock) && row.key >= request.key;
     let length = |table: Table| table.rows.iter().flatten().filter(live).map(|row| 4 + row.key.len()).sum::<usize>();
-    Table::read(before).is_ok_and(|table| served.reply == FRAME_HEADER + length(table))
+    Table::read(Engine::Plain, before).is_ok_and(|table| served.reply == FRAME_HEADER + length(table))
 }
 
 /// The seconds left of the documents that a call went by.
 fn decided(before: &[u8], clock: u32, user: User, goes_by: impl Fn(&Row) -> bool) -> Vec<Met> {
-    let Ok(table) = Table::read(before) else {
+    let Ok(table) = Table::read(Engine::Plain, before) else {
         return Vec::new();
     };
     let rows = table.rows.iter().flatten().filter(|row| goes_by(row));

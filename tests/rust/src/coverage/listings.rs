@@ -1,7 +1,7 @@
 //! Order 1: what Get Keys came to, and why it was refused.
 
 use super::forms::{fields, judged, Judge, Judged};
-use crate::answers::Served;
+use crate::answers::{Engine, Served};
 use crate::frame::Frame;
 use crate::generate::GET_KEYS;
 use crate::rendering::bytes::u16_at;
@@ -174,7 +174,7 @@ fn refused(judge: Judge, frame: &Frame) -> Option<Met> {
 }
 
 fn listed(before: &[u8], clock: u32, request: &View, served: &Served) -> Vec<Listing> {
-    let Ok(table) = Table::read(before) else {
+    let Ok(table) = Table::read(Engine::Plain, before) else {
         return Vec::new();
     };
     let rows: Vec<Row> = table.rows.into_iter().flatten().collect();

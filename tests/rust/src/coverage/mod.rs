@@ -6,10 +6,12 @@ mod forms;
 mod joins;
 mod lifetimes;
 mod listings;
+mod orders;
 mod searches;
 mod situations;
 pub mod voyages;
 
+use crate::answers::Engine;
 use crate::generate::faults::Fault;
 use crate::generate::tables::Damage;
 use crate::generate::{Generator, Start, BUILT};
@@ -36,8 +38,9 @@ pub struct Coverage {
     situations: BTreeMap<Situation, u64>,
     /// How many sessions began with a table of so many rows.
     sizes: BTreeMap<usize, u64>,
-    /// What is wrong with the session's table.
+    /// What is wrong with the session's table, and whether its rows are in key order but for that.
     damage: Option<Damage>,
+    in_order: bool,
     /// The append or prepend that the call before was, with its key.
     joined: Option<(u8, Vec<u8>)>,
 }
@@ -48,22 +51,29 @@ impl Coverage {
         self.calls
     }
 
-    /// Counts the table that a session starts with.
-    pub fn start(&mut self, start: &Start) {
+    /// Counts the tables that a session starts with, the plain engine's first.
+    pub fn start(&mut self, [table, ordered]: [&[u8]; 2], start: &Start) {
         self.damage = start.damage;
+        self.in_order = start.in_order;
         self.joined = None;
-        *self.sizes.entry(situations::rows(&start.table)).or_default() += 1;
-        self.meet(situations::of_start(&start.table, start.damage));
-        self.meet([Situation::Clock(clocks::of_start(&start.table))]);
+        *self.sizes.entry(situations::rows(table)).or_default() += 1;
+        self.meet(situations::of_start(table, start.damage));
+        self.meet([Situation::Clock(clocks::of_start(table))]);
+        self.meet(orders::of_start(ordered, start.damage).into_iter().map(Situation::Order));
     }
 
-    /// Counts a call on a table as it was before.
-    pub fn count(&mut self, before: &[u8], call: &Call, answer: &Answer) {
+    /// Counts a call on the engines' tables as they were before. Most is told from the plain one's: what it answers the other
+    /// does too, but where rows are out of order.
+    pub fn count(&mut self, [before, ordered]: [&[u8]; 2], call: &Call, [answer, by_order]: &[Answer; 2]) {
         self.calls += 1;
         *self.answers.entry(name(answer)).or_default() += 1;
         if let Some(damage) = self.damage {
-            self.meet(situations::of_damage(before, damage, answer));
+            self.meet(situations::of_damage(Engine::Plain, before, damage, answer));
+            if self.in_order {
+                self.meet(situations::of_damage(Engine::Ordered, ordered, damage, by_order));
+            }
         }
+        self.meet(orders::of_call(ordered, call, by_order).into_iter().map(Situation::Order));
         self.meet(listings::of_form(call, answer).map(Situation::GetKeys));
         self.meet(clocks::of_call(before, call, answer).into_iter().map(Situation::Clock));
         self.meet(searches::of_call(before, call, answer).into_iter().map(Situation::Search));

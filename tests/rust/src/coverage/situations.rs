@@ -1,7 +1,7 @@
 //! Situations that a run must come to, told from the table, the frame and the answer, whatever was aimed at.
 
-use super::{clocks, joins, lifetimes, listings, searches};
-use crate::answers::Served;
+use super::{clocks, joins, lifetimes, listings, orders, searches};
+use crate::answers::{Engine, Served};
 use crate::generate::keys::{bucket, fingerprint};
 use crate::generate::tables::Damage;
 use crate::generate::GET_KEYS;
@@ -81,11 +81,13 @@ pub enum Situation {
     SharedBucket(Size),
     /// One key twice among others that share a fingerprint.
     KeyTwiceAmongShared(Size),
+    /// Of rows in key order, where nothing else is wrong with them.
     Damaged {
+        engine: Engine,
         damage: Damage,
         finder: Finder,
     },
-    DamagedAbove12Rows(Damage),
+    DamagedAbove12Rows(Engine, Damage),
     /// A quiet command without reply bytes, and with them.
     Silent(u8),
     Sent(u8),
@@ -117,6 +119,7 @@ pub enum Situation {
     Search(searches::Met),
     Join(joins::Met),
     Lifetime(lifetimes::Met),
+    Order(orders::Met),
 }
 
 impl Situation {
@@ -127,11 +130,12 @@ impl Situation {
             | Situation::SharedFingerprint(_)
             | Situation::SharedBucket(_)
             | Situation::KeyTwiceAmongShared(_)
-            | Situation::DamagedAbove12Rows(_)
+            | Situation::DamagedAbove12Rows(..)
             | Situation::Search(_) => calls / 250_000,
             Situation::GetKeys(met) if met.is_rare() => calls / 250_000,
             Situation::Clock(met) if met.is_rare() => calls / 250_000,
             Situation::Join(met) if met.is_rare() => calls / 250_000,
+            Situation::Order(met) => calls / met.once_in(),
             _ => calls / 50_000,
         }
     }
@@ -144,7 +148,11 @@ pub fn expected() -> Vec<Situation> {
     expected.extend(sizes.map(Situation::FullOfLongKeys));
     expected.extend(sizes.map(Situation::SharedFingerprint));
     expected.extend(sizes.map(Situation::KeyTwiceAmongShared));
-    expected.extend(Damage::ALL.into_iter().flat_map(expected_of_damage));
+    for engine in Engine::BOTH {
+        expected.extend(Damage::OF_ANY.into_iter().flat_map(|damage| expected_of_damage(engine, damage)));
+    }
+    expected.extend(expected_of_damage(Engine::Plain, Damage::EqualNeighbours));
+    expected.extend(Damage::OF_ORDER.into_iter().flat_map(|damage| expected_of_damage(Engine::Ordered, damage)));
     expected.extend(QUIET.into_iter().flat_map(|opcode| [Situation::Silent(opcode), Situation::Sent(opcode)]));
     expected.extend((HIGH..u32::BITS).map(Situation::HighOptionBit));
     expected.extend(WITH_META.into_iter().flat_map(expected_with_meta));
@@ -155,14 +163,15 @@ pub fn expected() -> Vec<Situation> {
     expected.extend(searches::expected().into_iter().map(Situation::Search));
     expected.extend(joins::expected().into_iter().map(Situation::Join));
     expected.extend(lifetimes::expected().into_iter().map(Situation::Lifetime));
+    expected.extend(orders::expected().into_iter().map(Situation::Order));
     expected
 }
 
-fn expected_of_damage(damage: Damage) -> Vec<Situation> {
+fn expected_of_damage(engine: Engine, damage: Damage) -> Vec<Situation> {
     let finders = [Finder::Serve, Finder::Run, Finder::Read, Finder::Purge, Finder::Sound];
-    let mut expected = finders.map(|finder| Situation::Damaged { damage, finder }).to_vec();
+    let mut expected = finders.map(|finder| Situation::Damaged { engine, damage, finder }).to_vec();
     if !matches!(damage, Damage::NoBytes | Damage::HeaderOnly) {
-        expected.push(Situation::DamagedAbove12Rows(damage));
+        expected.push(Situation::DamagedAbove12Rows(engine, damage));
     }
     expected
 }
@@ -209,7 +218,7 @@ fn expected_add_with_meta(opcode: u8) -> Vec<Situation> {
 /// What a session's table is, where its keys can be read.
 pub fn of_start(memory: &[u8], damage: Option<Damage>) -> Vec<Situation> {
     let twice = damage == Some(Damage::OneKeyTwice);
-    if !twice && Table::read(memory).is_err() {
+    if !twice && Table::read(Engine::Plain, memory).is_err() {
         return Vec::new();
     }
     let (keys, size) = (keys(memory), size(memory));
@@ -228,7 +237,7 @@ pub fn rows(memory: &[u8]) -> usize {
     memory.len().saturating_sub(HEADER) / ROW
 }
 
-fn size(memory: &[u8]) -> Size {
+pub fn size(memory: &[u8]) -> Size {
     match rows(memory) {
         0..=12 => Size::Small,
         13..=255 => Size::Middle,
@@ -252,7 +261,7 @@ fn shared(keys: &[&[u8]]) -> [bool; 2] {
 }
 
 /// A damaged table found out by a call.
-pub fn of_damage(memory: &[u8], damage: Damage, answer: &Answer) -> Vec<Situation> {
+pub fn of_damage(engine: Engine, memory: &[u8], damage: Damage, answer: &Answer) -> Vec<Situation> {
     let finder = match answer {
         Answer::Served(served) if served.outcome == 5 => Finder::Serve,
         Answer::Ran(ran) if ran.outcome == 5 => Finder::Run,
@@ -261,9 +270,9 @@ pub fn of_damage(memory: &[u8], damage: Damage, answer: &Answer) -> Vec<Situatio
         Answer::Sound(false) => Finder::Sound,
         _ => return Vec::new(),
     };
-    let mut met = vec![Situation::Damaged { damage, finder }];
+    let mut met = vec![Situation::Damaged { engine, damage, finder }];
     if size(memory) != Size::Small {
-        met.push(Situation::DamagedAbove12Rows(damage));
+        met.push(Situation::DamagedAbove12Rows(engine, damage));
     }
     met
 }
@@ -393,7 +402,7 @@ fn add(before: &[u8], clock: u32, opcode: u8, request: &View, status: u8) -> Opt
     }
     let given = is_with_meta(command).then(|| MetaExtras::read(request.extras));
     let skips = given.is_some_and(|given| given.has(FORCE) || given.has(SKIP_CONFLICTS));
-    let table = Table::read(before).ok()?;
+    let table = Table::read(Engine::Plain, before).ok()?;
     let on = table.find(request.key).map_or(On::Nothing, |(_, row)| found(&row, clock));
     Some(Situation::Add { opcode, on, skips, status })
 }

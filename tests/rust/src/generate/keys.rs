@@ -3,6 +3,7 @@
 //! The damage test compares two keys in full only where their fingerprints agree. Document 01 knows nothing of it:
 //! `crates/fingerprint/specs/Fingerprint.antt` is rendered here to aim at keys that take that way.
 
+use super::orders::BYTES;
 use super::Generator;
 use crate::random::Random;
 use crate::rendering::bytes::u64_at;
@@ -119,7 +120,7 @@ impl Generator {
 }
 
 /// A key of 8 or 12 to 15 bytes with this fingerprint: its last four bytes make up for the others.
-fn sharing(print: u32, length: usize, random: &mut Random) -> Vec<u8> {
+pub fn sharing(print: u32, length: usize, random: &mut Random) -> Vec<u8> {
     let mut key = random.bytes(length);
     let last = length - 4;
     key[last..].fill(0);
@@ -130,7 +131,7 @@ fn sharing(print: u32, length: usize, random: &mut Random) -> Vec<u8> {
 
 /// A key of 64 bytes or more with the same fingerprint: where a number is added to a word of a lane, taken twice from the next
 /// and added to the one after it, the lane's two sums stay.
-fn sharing_long(key: &[u8], random: &mut Random) -> Vec<u8> {
+pub fn sharing_long(key: &[u8], random: &mut Random) -> Vec<u8> {
     let number = random.u64();
     let mut other = key.to_vec();
     for (at, added) in [(0, number), (16, number.wrapping_mul(2).wrapping_neg()), (32, number)] {
@@ -146,7 +147,7 @@ fn alike(first: &[u8], length: usize, random: &mut Random) -> Vec<u8> {
     let mut key = first[..length].to_vec();
     let at = *random.pick(&[0, length / 2, length - 1]);
     if random.percent(75) {
-        key[at] = random.byte();
+        key[at] = if random.percent(40) { *random.pick(&BYTES) } else { random.byte() };
     }
     key
 }

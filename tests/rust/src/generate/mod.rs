@@ -1,4 +1,4 @@
-//! Tables, calls and traces at random, biased to the limits of document 01 and of orders 1, 2, 4, 5 and 6.
+//! Tables, calls and traces at random, biased to the limits of document 01 and of orders 1, 2 and 4 to 7.
 
 mod clocks;
 pub mod faults;
@@ -6,19 +6,22 @@ mod joins;
 pub mod keys;
 mod lifetimes;
 mod listings;
+pub mod orders;
 mod parts;
 mod requests;
 pub mod tables;
 mod voyages;
 
-use crate::answers::Tally;
+use crate::answers::{Engine, Tally};
+use crate::engines::arranged;
 use crate::frame::Frame;
 use crate::random::Random;
 use crate::rendering::numbers::Mode;
+use crate::rendering::owner::sound;
 use crate::rendering::request::{HEADER as FRAME_HEADER, MAX_BODY};
 use crate::rendering::serving::ROOM;
 use crate::rendering::table::{Row, Table, HEADER, ROW};
-use crate::session::Call;
+use crate::session::{Call, Session};
 use faults::Fault;
 use std::collections::BTreeMap;
 use tables::Damage;
@@ -31,7 +34,7 @@ pub const BUILT: [u8; 31] = [
 
 pub const GET_KEYS: u8 = 0xb8;
 
-/// What of a table shapes the next call: its rows, and a stand-in for the header of a damaged one.
+/// What of a table shapes the next call: its rows, and a stand-in for the header of a damaged one. Rows in any order are seen.
 struct Sight<'t> {
     damaged: bool,
     mode: Mode,
@@ -43,8 +46,8 @@ struct Sight<'t> {
 
 impl<'t> Sight<'t> {
     fn of(memory: &'t [u8]) -> Sight<'t> {
-        match Table::read(memory) {
-            Ok(Table { head, rows }) => Sight {
+        match Table::read(Engine::Plain, memory) {
+            Ok(Table { head, rows, .. }) => Sight {
                 damaged: false,
                 mode: head.mode,
                 vbucket: head.vbucket,
@@ -76,24 +79,27 @@ pub struct Generator {
     clock: u32,
     lists: bool,
     ends: bool,
+    /// Whether it purges more often.
+    purges: bool,
     /// The key of the last append or prepend, until the next request.
     joined: Option<Vec<u8>>,
     /// How often each opcode met each fault.
     pub faults: BTreeMap<(u8, Fault), u64>,
 }
 
-/// Where a session starts, the rule that its table breaks, if one alone, and how many calls it has.
+/// Where a session starts, before its calls, the rule that its table breaks, if one alone, and how many calls it has.
 pub struct Start {
-    pub table: Vec<u8>,
+    pub session: Session,
     pub damage: Option<Damage>,
-    pub tally: Tally,
+    /// Whether its rows, but for that damage, are in key order.
+    pub in_order: bool,
     pub calls: usize,
 }
 
 impl Generator {
     pub fn new(seed: u64) -> Generator {
         let (random, keys, faults) = (Random::new(seed), Vec::new(), BTreeMap::new());
-        Generator { random, keys, clock: 0, lists: false, ends: false, joined: None, faults }
+        Generator { random, keys, clock: 0, lists: false, ends: false, purges: false, joined: None, faults }
     }
 
     pub fn start(&mut self) -> Start {
@@ -103,13 +109,29 @@ impl Generator {
         let rows = if self.lists { self.listed_row_count() } else { self.row_count() };
         self.clock = self.session_clock();
         self.keys = if self.lists { self.listed_keys(rows) } else { self.session_keys(rows) };
-        let mut table = self.table(rows);
-        if !self.lists && self.random.percent(if rows > 12 { 40 } else { 12 }) {
-            let damage = self.damage(&mut table);
-            return Start { table, damage, tally: self.tally(), calls: 8 };
+        let table = self.table(rows);
+        if !self.lists && self.random.percent(if rows > 12 { 40 } else { 14 }) {
+            return self.damaged(table);
         }
         let calls = if rows > 12 || self.lists { 8 } else { self.random.between(10, 60) };
-        Start { table, damage: None, tally: self.tally(), calls }
+        // now and then both engines are lent the rows out of order
+        let arranged = self.random.percent(98);
+        Start { session: self.session(table, arranged), damage: None, in_order: arranged, calls }
+    }
+
+    /// Memory with a rule broken that both engines are lent; the rows of some are in key order but for that.
+    fn damaged(&mut self, mut table: Vec<u8>) -> Start {
+        let orders = self.random.percent(20);
+        let in_order = orders || self.random.percent(60);
+        if in_order {
+            table = arranged(Engine::Ordered, &table);
+        }
+        let damage = if orders { self.order_damage(&mut table) } else { self.damage(&mut table) };
+        Start { session: self.session(table, false), damage, in_order, calls: 8 }
+    }
+
+    fn session(&mut self, table: Vec<u8>, arranged: bool) -> Session {
+        Session { table, arranged, tally: self.tally(), calls: Vec::new() }
     }
 
     fn tally(&mut self) -> Tally {
@@ -122,11 +144,15 @@ impl Generator {
         Tally { served: count(), refused: count(), silent: count() }
     }
 
-    /// The next call on a table.
-    pub fn call(&mut self, table: &[u8]) -> Call {
+    /// The next call on the engines' tables, the plain one's first. Where rows in key order alone are damaged, it is one of
+    /// those that find damage or any.
+    pub fn call(&mut self, [table, ordered]: [&[u8]; 2]) -> Call {
         let sight = Sight::of(table);
-        if sight.damaged {
+        if sight.damaged || (!sound(Engine::Ordered, ordered) && self.random.percent(60)) {
             return self.call_on_damage(table, &sight);
+        }
+        if self.purges && self.random.percent(30) {
+            return Call::Purge { clock: self.clock_near(&sight), bound: u64::MAX };
         }
         match self.random.below(100) {
             0..=67 => self.serve(&sight),

@@ -105,8 +105,12 @@ impl Generator {
 
     /// A key that a request may have, more often one with a row.
     pub(super) fn key_near(&mut self, sight: &Sight) -> Vec<u8> {
+        let large = sight.rows.len() > 12;
         match self.random.below(10) {
+            4 if large => self.key_at_an_end(sight),
             0..=4 if !sight.rows.is_empty() => self.random.pick(&sight.rows).key.to_vec(),
+            7 if large => self.key_beside(sight),
+            6 if !sight.rows.is_empty() && (large || self.random.percent(75)) => self.key_beside(sight),
             5 if self.random.percent(20) => {
                 let length = self.random.between(1, 250);
                 self.random.bytes(length)

@@ -2,6 +2,7 @@
 
 use super::faults::Fault;
 use super::joins::{COUNTERS, JOINS_AND_TOUCHES};
+use super::orders::STORING;
 use super::{Generator, Sight, BUILT, GET_KEYS};
 use crate::frame::{counter_extras, meta_extras, plain_extras, Frame};
 use crate::rendering::numbers::{Cas, Mode, Numbers, Revision};
@@ -48,6 +49,9 @@ impl Generator {
     fn opcode_and_key(&mut self, sight: &Sight, clock: u32) -> (u8, Vec<u8>) {
         if let Some(key) = self.counted_key() {
             return (*self.random.pick(&COUNTERS), key);
+        }
+        if sight.rows.len() > 12 && self.random.percent(15) {
+            return (*self.random.pick(&STORING), self.key_beside(sight));
         }
         let opcode = self.opcode();
         let live = if JOINS_AND_TOUCHES.contains(&opcode) { self.live_key(sight, clock) } else { None };

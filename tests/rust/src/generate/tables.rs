@@ -32,10 +32,17 @@ pub enum Damage {
     LastByte,
     FreeRowByte,
     OneKeyTwice,
+    /// Order 7's, which are no damage for the plain engine, but for the second.
+    OutOfOrder,
+    EqualNeighbours,
+    UsedAfterFree,
 }
 
 impl Damage {
-    pub const ALL: [Damage; 23] = [
+    pub const OF_ORDER: [Damage; 3] = [Damage::OutOfOrder, Damage::EqualNeighbours, Damage::UsedAfterFree];
+
+    /// Those of any table.
+    pub const OF_ANY: [Damage; 23] = [
         Damage::ByteShort,
         Damage::ByteLong,
         Damage::NoBytes,
@@ -64,7 +71,7 @@ impl Damage {
 
 /// A row's fields by no rule but the layout, to break one rule at a time.
 #[derive(Clone, Default)]
-struct RawRow {
+pub(super) struct RawRow {
     kind: u16,
     key: Vec<u8>,
     value: Vec<u8>,
@@ -73,13 +80,13 @@ struct RawRow {
     value_length_excess: u32,
     flags: u32,
     expiry: u32,
-    revision: u64,
+    pub(super) revision: u64,
     cas: u64,
 }
 
 impl RawRow {
     /// A sound row's fields.
-    fn read(row: &[u8]) -> RawRow {
+    pub(super) fn read(row: &[u8]) -> RawRow {
         let value_at = KEY_AT + usize::from(u16_at(row, 2));
         RawRow {
             kind: u16_at(row, 0),
@@ -94,7 +101,7 @@ impl RawRow {
         }
     }
 
-    fn write(&self, row: &mut [u8]) {
+    pub(super) fn write(&self, row: &mut [u8]) {
         row.fill(0);
         put(row, 0, &self.kind.to_be_bytes());
         put(row, 2, &(self.key.len() as u16 + self.key_length_excess).to_be_bytes());
@@ -118,23 +125,36 @@ impl Generator {
         }
     }
 
-    /// A sound table with any kept clock; some have no used row, some are full, and of a session that lists keys most
-    /// have live documents alone.
+    /// A sound table of the plain engine with any kept clock; some have no used row, some are full, and of a session that
+    /// lists keys most have live documents alone.
     pub(super) fn table(&mut self, rows: usize) -> Vec<u8> {
         let mut memory = vec![0; HEADER + rows * ROW];
         let state = if self.random.percent(80) { 1 } else { self.random.between(2, 4) as u8 };
         let mode = self.random.between(1, 2) as u8;
         let lives = self.lists && self.random.percent(70);
-        let free = if lives { 0 } else { *self.random.pick(&[0, 0, 20, 50, 100]) };
-        let mark = if free == 100 { 0 } else { self.mark() };
+        let places = if lives { (0..rows).collect() } else { self.used_places(rows) };
+        let mark = if places.is_empty() { 0 } else { self.mark() };
         write_head(&mut memory, state, mode, self.vbucket(), Cas(mark));
         write_kept(&mut memory, self.kept_clock());
-        for place in 0..rows {
-            if !self.random.percent(free) {
-                self.put_row(&mut memory, place, mark, lives);
-            }
+        let dead = if lives { Vec::new() } else { self.dead_places(&places) };
+        self.purges = !dead.is_empty();
+        for &place in &places {
+            let alive = if dead.contains(&place) { Some(false) } else { (lives || self.purges).then_some(true) };
+            self.put_row(&mut memory, place, mark, alive);
         }
         memory
+    }
+
+    /// The places that have a row: all, some, none, or all but one, more often of large tables.
+    fn used_places(&mut self, rows: usize) -> Vec<usize> {
+        let (free, spared) = match self.random.below(if rows > 12 { 8 } else { 6 }) {
+            0 | 1 => (0, rows),
+            2 => (20, rows),
+            3 => (50, rows),
+            4 => (100, rows),
+            _ => (0, self.random.below(rows)),
+        };
+        (0..rows).filter(|&place| place != spared && !self.random.percent(free)).collect()
     }
 
     fn mark(&mut self) -> u64 {
@@ -144,7 +164,8 @@ impl Generator {
         }
     }
 
-    fn put_row(&mut self, memory: &mut [u8], place: usize, mark: u64, lives: bool) {
+    /// A row that is alive for good, a tombstone, or any.
+    fn put_row(&mut self, memory: &mut [u8], place: usize, mark: u64, alive: Option<bool>) {
         let cas = match self.random.below(4) {
             0 => mark,
             1 => 1,
@@ -152,11 +173,11 @@ impl Generator {
         };
         let revision = self.number_near(mark);
         let key = self.keys[place].clone();
-        let tombstone = !lives && self.random.percent(25);
+        let tombstone = alive.map_or_else(|| self.random.percent(25), |alive| !alive);
         let (kind, flags, expiry, value) = if tombstone {
             (Kind::Tombstone, 0, 0, Vec::new())
         } else {
-            let expiry = if lives { 0 } else { self.absolute_expiry(self.clock) };
+            let expiry = if alive.is_some() { 0 } else { self.absolute_expiry(self.clock) };
             (Kind::Document, self.flags(), expiry, self.value())
         };
         let numbers = Numbers { flags, expiry, revision: Revision(revision), cas: Cas(cas) };
@@ -174,7 +195,7 @@ impl Generator {
         }
         loop {
             let twice = self.random.percent(20);
-            let damage = if twice { Damage::OneKeyTwice } else { *self.random.pick(&Damage::ALL) };
+            let damage = if twice { Damage::OneKeyTwice } else { *self.random.pick(&Damage::OF_ANY) };
             if damage.applied(memory, &mut self.random) {
                 return Some(damage);
             }
@@ -195,6 +216,9 @@ impl Damage {
             Damage::Mode => memory[1] = *random.pick(&[0, 3, 0x81, 0xff]),
             Damage::FreeRowByte => return in_free_row(memory, random),
             Damage::OneKeyTwice => return one_key_twice(memory, random),
+            Damage::OutOfOrder | Damage::EqualNeighbours | Damage::UsedAfterFree => {
+                return self.in_order(memory, random)
+            }
             _ => return self.in_used_row(memory, random),
         }
         true

@@ -1,7 +1,7 @@
 //! Order 6: voyages recorded by serving them, and their traces with one thing changed.
 
 use super::{Generator, Sight};
-use crate::answers::Tally;
+use crate::answers::{Engine, Tally};
 use crate::frame::{plain_extras, Frame};
 use crate::random::Random;
 use crate::rendering::request::first_frame;
@@ -36,13 +36,13 @@ impl Voyage {
     }
 
     fn purge(&mut self, bound: u64) {
-        purge(&mut self.table, self.clock, bound);
+        purge(Engine::Ordered, &mut self.table, self.clock, bound);
         self.trace.fields.push(Field::bound(bound));
     }
 
     fn frame(&mut self, frame: &[u8]) {
         let mut reply = vec![0; ROOM];
-        let served = serve(&mut self.table, self.clock, frame, &mut reply, &mut Tally::default());
+        let served = serve(Engine::Ordered, &mut self.table, self.clock, frame, &mut reply, &mut Tally::default());
         reply.truncate(served.reply);
         self.reply = Some(reply);
         self.trace.fields.push(Field::frame(frame));

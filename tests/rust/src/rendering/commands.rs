@@ -30,10 +30,12 @@ pub enum Effect<'t, 'f> {
     List(Vec<u8>),
 }
 
-/// A row stored at a place, by which the mark is raised to its CAS where lower.
+/// A row stored at a place, by which the mark is raised to its CAS where lower. With a new key other rows may stand there,
+/// which make room.
 #[derive(Debug)]
 pub struct Write<'f> {
     pub place: usize,
+    pub new: bool,
     pub kind: Kind,
     pub numbers: Numbers,
     pub key: &'f [u8],
@@ -223,9 +225,10 @@ impl<'a, 't, 'f> Key<'a, 't, 'f> {
 
     /// "0x82: the key has no row and no row is free."
     fn write(&self, kind: Kind, numbers: Numbers, content: Content<'f>) -> Result<Write<'f>, Status> {
+        let key = self.request.key;
         let own = self.row.map(|(place, _)| place);
-        let place = own.or_else(|| self.table.lowest_free()).ok_or(Status::NoRow)?;
-        Ok(Write { place, kind, numbers, key: self.request.key, content })
+        let place = own.or_else(|| self.table.place_for_new(key)).ok_or(Status::NoRow)?;
+        Ok(Write { place, new: own.is_none(), kind, numbers, key, content })
     }
 }
 

@@ -1,5 +1,5 @@
-//! Document 01 with orders 1, 2, 4, 5 and 6 of document 02 in plain Rust, written from the papers alone, to be read with them
-//! beside.
+//! Document 01 with orders 1, 2 and 4 to 7 of document 02 in plain Rust, written from the papers alone, to be read with them
+//! beside. What differs by order 7's two engines is told by an [`Engine`].
 //!
 //! | Section of 01 | Module |
 //! |---|---|
@@ -12,6 +12,8 @@
 //! | Order 2 of 02, the kept clock | [`table`], and what uses and raises it in [`owner`] and [`serving`] |
 //! | Order 4 of 02, append, prepend and touch | [`shape`], [`request`], [`commands`], and their writes in [`table`] |
 //! | Order 5 of 02, seconds left | [`numbers`], which decide what is expired, and what the read shows in [`owner`] |
+//! | Order 6 of 02, replay of a voyage | [`voyage`] |
+//! | Order 7 of 02, rows in key order | [`table`]: damage, the place of a key and of a new one; the purge in [`owner`] |
 
 pub mod bytes;
 pub mod commands;
@@ -31,11 +33,11 @@ pub use request::{read_request, write_request};
 pub use serving::{serve, serve_run};
 pub use voyage::replay;
 
-use crate::answers::{Document, Fields, Purged, Ran, Replayed, Request, Served, Store, Tally, Written};
+use crate::answers::{Document, Engine, Fields, Purged, Ran, Replayed, Request, Served, Store, Tally, Written};
 
-/// The rendering as a store.
+/// The rendering of an engine as a store.
 #[derive(Clone, Copy, Debug)]
-pub struct Rendering;
+pub struct Rendering(pub Engine);
 
 impl Store for Rendering {
     fn size(&self, rows: usize) -> usize {
@@ -47,23 +49,23 @@ impl Store for Rendering {
     }
 
     fn sound(&self, table: &[u8]) -> bool {
-        sound(table)
+        sound(self.0, table)
     }
 
     fn read(&self, table: &[u8], clock: u32, key: &[u8]) -> Document {
-        read(table, clock, key)
+        read(self.0, table, clock, key)
     }
 
     fn purge(&self, table: &mut [u8], clock: u32, bound: u64) -> Purged {
-        purge(table, clock, bound)
+        purge(self.0, table, clock, bound)
     }
 
     fn serve(&self, table: &mut [u8], clock: u32, received: &[u8], reply: &mut [u8], tally: &mut Tally) -> Served {
-        serve(table, clock, received, reply, tally)
+        serve(self.0, table, clock, received, reply, tally)
     }
 
     fn serve_run(&self, table: &mut [u8], clock: u32, received: &[u8], reply: &mut [u8], tally: &mut Tally) -> Ran {
-        serve_run(table, clock, received, reply, tally)
+        serve_run(self.0, table, clock, received, reply, tally)
     }
 
     fn read_request(&self, received: &[u8]) -> Request {
@@ -75,6 +77,6 @@ impl Store for Rendering {
     }
 
     fn replay(&self, table: &mut [u8], trace: &[u8]) -> Replayed {
-        replay(table, trace)
+        replay(self.0, table, trace)
     }
 }

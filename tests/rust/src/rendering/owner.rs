@@ -2,8 +2,10 @@
 
 use super::numbers::{Cas, Left, Mode};
 use super::status::Status;
-use super::table::{free_row, row_at, write_head, write_kept, Damaged, Row, Table, HEADER, KEY_AT, ROW, ROWS, STATES};
-use crate::answers::{lifetime, Document, Part, Purged};
+use super::table::{
+    close_gaps, free_row, row_at, write_head, write_kept, Damaged, Row, Table, HEADER, KEY_AT, ROW, ROWS, STATES,
+};
+use crate::answers::{lifetime, Document, Engine, Part, Purged};
 
 pub const DAMAGED: u8 = 5;
 
@@ -29,16 +31,16 @@ pub fn make(memory: &mut [u8], rows: usize, state: u8, mode: u8, vbucket: u16) -
     0
 }
 
-pub fn sound(memory: &[u8]) -> bool {
-    Table::read(memory).is_ok()
+pub fn sound(engine: Engine, memory: &[u8]) -> bool {
+    Table::read(engine, memory).is_ok()
 }
 
 /// "Reading a document takes a clock and a key: the live document's four numbers and where its value stands in the
 /// table memory, or status 0x01 exactly if there is none (so for a key of 0 or over 250 bytes too)." Order 2: it "uses
 /// the later of the two", and "document reads don't" raise the kept clock. Order 5: it shows the seconds left, "beside
 /// 0x01 for an expired document too".
-pub fn read(memory: &[u8], clock: u32, key: &[u8]) -> Document {
-    let Ok(table) = Table::read(memory) else {
+pub fn read(engine: Engine, memory: &[u8], clock: u32, key: &[u8]) -> Document {
+    let Ok(table) = Table::read(engine, memory) else {
         return Document { outcome: DAMAGED, ..Document::default() };
     };
     let Some((place, row)) = table.find(key) else {
@@ -82,9 +84,10 @@ fn told(left: Option<Left>) -> (u8, i64) {
 
 /// "Purge takes a clock and a CAS bound. It frees exactly the tombstones and expired documents with CAS at or below
 /// the bound, reports how many, and leaves the mark." On a damaged table it answers 5 and changes nothing. Order 2: "A
-/// purge [...] raise it", and one that frees no row is a purge too.
-pub fn purge(memory: &mut [u8], clock: u32, bound: u64) -> Purged {
-    let (later, places) = match Table::read(memory) {
+/// purge [...] raise it", and one that frees no row is a purge too. Order 7: "used rows first", so with rows in key order those
+/// that stay move together.
+pub fn purge(engine: Engine, memory: &mut [u8], clock: u32, bound: u64) -> Purged {
+    let (later, places) = match Table::read(engine, memory) {
         Ok(table) => {
             let later = table.head.later(clock);
             (later, purged(&table, later, Cas(bound)))
@@ -94,6 +97,9 @@ pub fn purge(memory: &mut [u8], clock: u32, bound: u64) -> Purged {
     write_kept(memory, later);
     for &place in &places {
         free_row(memory, place);
+    }
+    if engine == Engine::Ordered {
+        close_gaps(memory);
     }
     Purged { outcome: 0, freed: places.len() }
 }

@@ -7,9 +7,9 @@ use super::owner::DAMAGED;
 use super::request::{first_frame, view, Refusal, HEADER};
 use super::shape::shape;
 use super::status::Status;
-use super::table::{append, prepend, write_kept, write_mark, write_numbers, write_row, Damaged, Row, Table};
+use super::table::{append, open_row, prepend, write_kept, write_mark, write_numbers, write_row, Damaged, Row, Table};
 use super::tally::count;
-use crate::answers::{Ran, Served, Tally};
+use crate::answers::{Engine, Ran, Served, Tally};
 
 /// "reply room under 1,302 bytes"
 pub const ROOM: usize = 1_302;
@@ -21,8 +21,15 @@ const MAGIC: u8 = 0x81;
 const VERSION: &[u8] = b"4.0.0";
 
 /// One request: its outcome, and its frame counted where that is 0.
-pub fn serve(memory: &mut [u8], clock: u32, received: &[u8], reply: &mut [u8], tally: &mut Tally) -> Served {
-    match serve_frame(memory, clock, received, reply) {
+pub fn serve(
+    engine: Engine,
+    memory: &mut [u8],
+    clock: u32,
+    received: &[u8],
+    reply: &mut [u8],
+    tally: &mut Tally,
+) -> Served {
+    match serve_frame(engine, memory, clock, received, reply) {
         Ok(served) => {
             count(tally, served.status, served.reply);
             served
@@ -33,8 +40,14 @@ pub fn serve(memory: &mut [u8], clock: u32, received: &[u8], reply: &mut [u8], t
 
 /// The "outcomes of serving, in the order tested". Order 2: "serving a frame with any status" raises the kept clock, and
 /// "outcomes 1 to 5" don't.
-fn serve_frame(memory: &mut [u8], clock: u32, received: &[u8], reply: &mut [u8]) -> Result<Served, Refusal> {
-    let table = Table::read(memory).map_err(|Damaged| Refusal { outcome: DAMAGED, needed: 0 })?;
+fn serve_frame(
+    engine: Engine,
+    memory: &mut [u8],
+    clock: u32,
+    received: &[u8],
+    reply: &mut [u8],
+) -> Result<Served, Refusal> {
+    let table = Table::read(engine, memory).map_err(|Damaged| Refusal { outcome: DAMAGED, needed: 0 })?;
     if reply.len() < ROOM {
         return Err(Refusal { outcome: NO_ROOM, needed: 0 });
     }
@@ -115,7 +128,10 @@ impl Reply<'_> {
 
 /// Stores a row; "the mark is raised to it where lower."
 fn store(memory: &mut [u8], mark: Cas, write: &Write) {
-    let Write { place, kind, numbers, key, content } = *write;
+    let Write { place, new, kind, numbers, key, content } = *write;
+    if new {
+        open_row(memory, place);
+    }
     match content {
         Content::Bytes(value) => write_row(memory, place, &Row { kind, numbers, key, value }),
         // "Stored as decimal without leading zeros"
@@ -138,10 +154,17 @@ fn store(memory: &mut [u8], mark: Cas, write: &Write) {
 
 /// "A cursor over a run of received frames is handed back advanced by what was consumed": frame after frame is served
 /// until one is refused, each reply right after the one before.
-pub fn serve_run(memory: &mut [u8], clock: u32, received: &[u8], reply: &mut [u8], tally: &mut Tally) -> Ran {
+pub fn serve_run(
+    engine: Engine,
+    memory: &mut [u8],
+    clock: u32,
+    received: &[u8],
+    reply: &mut [u8],
+    tally: &mut Tally,
+) -> Ran {
     let mut ran = Ran::default();
     loop {
-        let served = serve(memory, clock, &received[ran.used..], &mut reply[ran.reply..], tally);
+        let served = serve(engine, memory, clock, &received[ran.used..], &mut reply[ran.reply..], tally);
         if served.outcome != 0 {
             return Ran { outcome: served.outcome, needed: served.needed, ..ran };
         }

@@ -2,6 +2,7 @@
 
 use super::bytes::{put, u16_at, u32_at, u64_at};
 use super::numbers::{Cas, Left, Mode, Numbers, Revision};
+use crate::answers::Engine;
 use std::ops::{Range, RangeInclusive};
 
 /// "The size is a fixed header plus a fixed row size times the rows."
@@ -27,7 +28,7 @@ pub const MAX_VALUE: usize = 1_024;
 const ZEROS: [u8; ROW] = [0; ROW];
 
 /// "Damaged: wrong size, a header field out of range, a row against these rules, a used row with CAS 0 or above the
-/// mark, or two used rows with one key."
+/// mark, or two used rows with one key." Order 7: with rows in key order, rows out of order and a used row after a free one too.
 #[derive(Clone, Copy, Debug, PartialEq, Eq)]
 pub struct Damaged;
 
@@ -40,7 +41,7 @@ fn require(kept: bool) -> Result<(), Damaged> {
     }
 }
 
-#[derive(Clone, Copy, Debug)]
+#[derive(Clone, Copy, Debug, PartialEq, Eq)]
 pub struct Head {
     pub state: u8,
     pub mode: Mode,
@@ -64,7 +65,7 @@ pub enum Kind {
 }
 
 /// A used row.
-#[derive(Clone, Copy, Debug)]
+#[derive(Clone, Copy, Debug, PartialEq, Eq)]
 pub struct Row<'a> {
     pub kind: Kind,
     pub numbers: Numbers,
@@ -84,31 +85,53 @@ impl Row<'_> {
     }
 }
 
-/// What sound memory holds; the rows by place, the free ones as `None`.
+/// What memory holds that is sound for an engine; the rows by place, the free ones as `None`.
 #[derive(Debug)]
 pub struct Table<'a> {
+    pub engine: Engine,
     pub head: Head,
     pub rows: Vec<Option<Row<'a>>>,
 }
 
 impl<'a> Table<'a> {
-    pub fn read(memory: &'a [u8]) -> Result<Table<'a>, Damaged> {
+    pub fn read(engine: Engine, memory: &'a [u8]) -> Result<Table<'a>, Damaged> {
         let head = read_head(memory)?;
         let rows = memory[HEADER..].chunks_exact(ROW).map(read_row).collect::<Result<Vec<_>, _>>()?;
         require(rows.iter().flatten().all(|row| Cas(1) <= row.numbers.cas && row.numbers.cas <= head.mark))?;
-        require(keys_differ(&rows))?;
-        Ok(Table { head, rows })
+        require(match engine {
+            Engine::Plain => keys_differ(&rows),
+            Engine::Ordered => in_key_order(&rows),
+        })?;
+        Ok(Table { engine, head, rows })
     }
 
-    /// The used row of a key, with its place.
+    /// The used row of a key, with its place. Order 7: "keys are found by halving".
     pub fn find(&self, key: &[u8]) -> Option<(usize, Row<'a>)> {
-        let place = self.rows.iter().position(|row| row.is_some_and(|row| row.key == key))?;
-        self.rows[place].map(|row| (place, row))
+        let place = match self.engine {
+            Engine::Plain => self.rows.iter().position(|row| row.is_some_and(|row| row.key == key))?,
+            Engine::Ordered => self.keys_before(key),
+        };
+        let row = (*self.rows.get(place)?)?;
+        (row.key == key).then_some((place, row))
     }
 
-    /// "A new key takes the lowest free row."
+    /// Where a new key goes: "A new key takes the lowest free row." Order 7: that reads accordingly, so with rows in key order
+    /// it is the key's place among them. None where no row is free.
+    pub fn place_for_new(&self, key: &[u8]) -> Option<usize> {
+        let lowest_free = self.lowest_free()?;
+        Some(match self.engine {
+            Engine::Plain => lowest_free,
+            Engine::Ordered => self.keys_before(key),
+        })
+    }
+
     pub fn lowest_free(&self) -> Option<usize> {
         self.rows.iter().position(Option::is_none)
+    }
+
+    /// How many keys come before this one, in a table in key order.
+    fn keys_before(&self, key: &[u8]) -> usize {
+        self.rows.partition_point(|row| row.is_some_and(|row| row.key < key))
     }
 }
 
@@ -144,6 +167,16 @@ fn read_row(row: &[u8]) -> Result<Option<Row<'_>>, Damaged> {
 
 fn is_zero(bytes: &[u8]) -> bool {
     bytes == &ZEROS[..bytes.len()]
+}
+
+/// Order 7: "used rows first, in ascending key byte order". Each row is held to the one before it: slices of bytes are compared
+/// byte by byte, unsigned, and a prefix comes first.
+fn in_key_order(rows: &[Option<Row>]) -> bool {
+    rows.windows(2).all(|pair| match pair {
+        [Some(one), Some(next)] => one.key < next.key,
+        [None, Some(_)] => false,
+        _ => true,
+    })
 }
 
 fn keys_differ(rows: &[Option<Row>]) -> bool {
@@ -221,4 +254,25 @@ fn grown(memory: &mut [u8], place: usize, by: usize) -> (&mut [u8], Range<usize>
 
 pub fn free_row(memory: &mut [u8], place: usize) {
     memory[row_at(place)..][..ROW].fill(0);
+}
+
+/// Makes a place free for a new key, in a table with a free row there or after it: the rows up to that one move by one.
+pub fn open_row(memory: &mut [u8], place: usize) {
+    let is_free = |place: &usize| u16_at(memory, row_at(*place)) == 0;
+    let free = (place..).find(is_free).expect("a row is free");
+    memory.copy_within(row_at(place)..row_at(free), row_at(place + 1));
+    free_row(memory, place);
+}
+
+/// Moves the used rows together, in their order; free ones follow.
+pub fn close_gaps(memory: &mut [u8]) {
+    let places = 0..(memory.len() - HEADER) / ROW;
+    let mut filled = 0;
+    for place in places {
+        if u16_at(memory, row_at(place)) != 0 {
+            memory.copy_within(row_at(place)..row_at(place + 1), row_at(filled));
+            filled += 1;
+        }
+    }
+    memory[row_at(filled)..].fill(0);
 }

@@ -5,7 +5,7 @@ use super::owner::{make, purge, size, DAMAGED};
 use super::request::first_frame;
 use super::serving::{serve, ROOM};
 use super::table::ACTIVE;
-use crate::answers::{end, Replayed, Tally};
+use crate::answers::{end, Engine, Replayed, Tally};
 
 /// "on a fresh active table of 32 rows"
 pub const ROWS: usize = 32;
@@ -32,11 +32,11 @@ enum Early {
 }
 
 /// Replays a trace on memory of a table of 32 rows, whatever is in it; other memory is refused with 5, as by [`make`].
-pub fn replay(memory: &mut [u8], trace: &[u8]) -> Replayed {
+pub fn replay(engine: Engine, memory: &mut [u8], trace: &[u8]) -> Replayed {
     if memory.len() != size(ROWS) {
         return Replayed { outcome: DAMAGED, ..Replayed::default() };
     }
-    match replay_fields(memory, trace) {
+    match replay_fields(engine, memory, trace) {
         Ok(frames) => Replayed { end: end::REPLAYED, frames, ..Replayed::default() },
         Err(Early::Differs { place }) => Replayed { end: end::DIFFERS, place, ..Replayed::default() },
         Err(Early::Stopped { place }) => Replayed { end: end::STOPPED, place, ..Replayed::default() },
@@ -54,7 +54,7 @@ pub fn line(replayed: &Replayed) -> String {
 }
 
 /// The number of frames.
-fn replay_fields(memory: &mut [u8], trace: &[u8]) -> Result<usize, Early> {
+fn replay_fields(engine: Engine, memory: &mut [u8], trace: &[u8]) -> Result<usize, Early> {
     if trace.len() > MOST || trace.len() < OPENING {
         return Err(Early::Stopped { place: 0 });
     }
@@ -63,7 +63,7 @@ fn replay_fields(memory: &mut [u8], trace: &[u8]) -> Result<usize, Early> {
     if make(memory, ROWS, ACTIVE, mode, vbucket) != 0 {
         return Err(Early::Stopped { place: 0 });
     }
-    let mut boat = Boat { memory, clock: 0, frames: 0, reply: None };
+    let mut boat = Boat { engine, memory, clock: 0, frames: 0, reply: None };
     let mut place = OPENING;
     while place < trace.len() {
         let (tag, value) = field(&trace[place..]).ok_or(Early::Stopped { place })?;
@@ -81,6 +81,7 @@ fn field(rest: &[u8]) -> Option<(u8, &[u8])> {
 }
 
 struct Boat<'m> {
+    engine: Engine,
     memory: &'m mut [u8],
     /// "The clock is 0 until a tag 1."
     clock: u32,
@@ -105,7 +106,7 @@ impl Boat<'_> {
             },
             // "tag 4 a purge bound (8 bytes)"
             (BOUND, 8) => {
-                purge(self.memory, self.clock, u64_at(value, 0));
+                purge(self.engine, self.memory, self.clock, u64_at(value, 0));
             }
             // "An unknown tag [...], wrong length"
             _ => return Err(Early::Stopped { place }),
@@ -115,7 +116,7 @@ impl Boat<'_> {
 
     fn serve(&mut self, frame: &[u8]) {
         let mut reply = vec![0; ROOM];
-        let served = serve(self.memory, self.clock, frame, &mut reply, &mut Tally::default());
+        let served = serve(self.engine, self.memory, self.clock, frame, &mut reply, &mut Tally::default());
         reply.truncate(served.reply);
         self.reply = Some(reply);
         self.frames += 1;

@@ -1,6 +1,7 @@
 //! A table on its store, with what a boat's software lends it.
 #![allow(dead_code)]
 
+use contact_tests::answers::Engine;
 use contact_tests::answers::{Document, Purged, Served, Store, Tally};
 use contact_tests::frame::{counter_extras, plain_extras, Frame};
 use contact_tests::rendering::Rendering;
@@ -8,7 +9,9 @@ use contact_tests::Library;
 
 pub const REVISION: u8 = 1;
 pub const LAST_WRITE_WINS: u8 = 2;
-pub const STORES: [&dyn Store; 2] = [&Rendering, &Library];
+/// Both engines, of each the rendering and the library.
+pub const STORES: [&dyn Store; 4] =
+    [&Rendering(Engine::Ordered), &Library(Engine::Ordered), &Rendering(Engine::Plain), &Library(Engine::Plain)];
 
 pub struct Boat {
     pub store: &'static dyn Store,

@@ -7,6 +7,7 @@ use mathlib.Core.List.{List}
 use mathlib.Core.Path.{_≡_, sym, ap, subst, _∙_}
 use lib.ListN.{length, take, drop, length-drop}
 use lib.Seq.{length-take-le}
+use Rattle.engine.specs.declared.Config.{Config}
 use Rattle.tally.specs.declared.Tally.{Tally}
 use Rattle.run.specs.declared.Ran.{Ran}
 use Rattle.run.specs.Run.{calledOn, begun, runEnd, ranOf}
@@ -18,24 +19,24 @@ use Rattle.contact_box.proofs.Waiting.{waits}
 use Rattle.contact_box.proofs.session.serve_held.Statement.{statement}
 use Rattle.contact_box.proofs.session.serve_held.Tie as tie
 
-goes : (clock held n : ℕ) (b b′ s s′ run out : List ℕ) (t : Tally) (r : Ran) (x : Next) (v : Recorder) (written : Bool) → held ≤ length s → run ≡ take held s
-    → r ≡ ranOf clock run (runEnd clock run (begun b out t)) → b′ ≡ runEnd clock run (begun b out t) .table
+goes : (config : Config) (clock held n : ℕ) (b b′ s s′ run out : List ℕ) (t : Tally) (r : Ran) (x : Next) (v : Recorder) (written : Bool)
+    → held ≤ length s → run ≡ take held s → r ≡ ranOf config clock run (runEnd config clock run (begun b out t)) → b′ ≡ runEnd config clock run (begun b out t) .table
     → (n ≡ held - r .cursor .at) × (take n s′ ≡ drop (r .cursor .at) (take held s)) → x ≡ cond written (nextOf (r .stop)) Close
-    → Goes (take held s) held (runEnd clock (take held s) (begun b out t)) b′ s′ (record { held = n; tally = r .tally; next = x; recorder = v })
+    → Goes (take held s) held (runEnd config clock (take held s) (begun b out t)) b′ s′ (record { held = n; tally = r .tally; next = x; recorder = v })
 unfolding ranOf
-goes clock held n b b′ s s′ run out t r x v written h e q w k f =
-    let z = runEnd clock (take held s) (begun b out t) in
-    let p : r ≡ ranOf clock (take held s) z = q ∙ ap (λ (y : List ℕ). ranOf clock y (runEnd clock y (begun b out t))) e in
+goes config clock held n b b′ s s′ run out t r x v written h e q w k f =
+    let z = runEnd config clock (take held s) (begun b out t) in
+    let p : r ≡ ranOf config clock (take held s) z = q ∙ ap (λ (y : List ℕ). ranOf config clock y (runEnd config clock y (begun b out t))) e in
     let left : n ≡ held - z .at = k .0 ∙ ap (λ (y : Ran). held - y .cursor .at) p in
     let rest = drop (z .at) (take held s) in
     let there : length rest ≡ n = omega (arith, length-drop (z .at) (take held s), length-take-le held s h) in
-    let next : cond written (nextOf (calledOn clock (take held s) z)) Close ≡ x = sym (f ∙ ap (λ (y : Ran). cond written (nextOf (y .stop)) Close) p) in
+    let next : cond written (nextOf (calledOn config clock (take held s) z)) Close ≡ x = sym (f ∙ ap (λ (y : Ran). cond written (nextOf (y .stop)) Close) p) in
     record {
-      stored = w ∙ ap (λ (y : List ℕ). runEnd clock y (begun b out t) .table) e;
+      stored = w ∙ ap (λ (y : List ℕ). runEnd config clock y (begun b out t) .table) e;
       counted = ap (λ (y : Ran). y .tally) p;
       left = left;
       kept = k .1 ∙ ap (λ (y : Ran). drop (y .cursor .at) (take held s)) p;
-      waits = subst (Waits x) there (subst (λ (y : Next). Waits y (length rest)) next (waits (z .table) clock rest (length (z .reply) - z .filled) written));
+      waits = subst (Waits x) there (subst (λ (y : Next). Waits y (length rest)) next (waits config (z .table) clock rest (length (z .reply) - z .filled) written));
     }
 
 part-requires : tie.Need-part-requires
@@ -77,7 +78,7 @@ returns c =
     let a = args in
     let ran = serve-run in
     let k = c .before .before .before .keep in
-    goes (a .clock) (a .held) (k .result) (a .table .now) (ran .last .0) (a .received .now) (k .last .0) (part .result .now) (a .replies .now) (a .t)
+    goes (a .config) (a .clock) (a .held) (k .result) (a .table .now) (ran .last .1 .0) (a .received .now) (k .last .0) (part .result .now) (a .replies .now) (a .t)
     (ran .result) (c .next-after .result) (a .recorder) (write-all .result) pre (part .ensures) (ran .ensures .0) (ran .ensures .1 .0) (k .ensures)
     (c .next-after .ensures)
 

@@ -1,4 +1,4 @@
--- `Cursor::serve` meets its contract: a walk of its MIR, by hand. The cursor, the table and the reply go to `step` and the tally to `count`,
+-- `Cursor::serve` meets its contract: a walk of its MIR, by hand. The cursor, the engine, the table and the reply go to `step` and the tally to `count`,
 -- each reference at its own lifetime for good; the run is copied, and the answer is read from what `step` gives. Assumes nothing.
 use mathlib.Core.Path.{_≡_, refl, ap, sym, subst}
 use Prim.Native.Nat.{ℕ, _<_, _^_}
@@ -39,6 +39,9 @@ use denote.Triple.Spec.{Meets, tripleOf}
 use denote.Triple.Table.{entered, cited}
 use denote.Triple.Walked.{says, Stays, gave-ref, gave-slice, stay-none, stay-none-slice, walkOf, goes-none, goes-none-slice, goes-gave-ref, goes-gave-slice, Walks, ends-at, walked, walk-meets}
 use denote.Exit.{yes}
+use Rattle.engine.specs.declared.Config.{Config}
+use Rattle.engine.proofs.Config as Co
+use Rattle.engine.proofs.Config.Laws as Co′
 use Rattle.serving.specs.Serves.{Serves}
 use Rattle.tally.specs.Counts.{countedOf}
 use Rattle.tally.specs.declared.Tally.{Tally}
@@ -70,15 +73,18 @@ abbrev stayed : Stays (f.ended .signature .params) (f.ended .kept)
 stayed = (
   stay-none (λ _. Cu.the-row) yes,
   (
-    gave-slice (0 ∷ []) tt (plain (λ _. u8)),
+    stay-none (λ _. Co.the-row) yes,
     (
-      stay-none (λ _. u32) yes,
+      gave-slice (0 ∷ []) tt (plain (λ _. u8)),
       (
-        stay-none-slice (1 ∷ []) tt (plain (λ _. u8)) yes,
+        stay-none (λ _. u32) yes,
         (
-          gave-slice (2 ∷ []) tt
-              (plain (λ _. u8)),
-          (gave-ref (3 ∷ []) tt (plain (λ _. T.the-row)), tt),
+          stay-none-slice (1 ∷ []) tt (plain (λ _. u8)) yes,
+          (
+            gave-slice (2 ∷ []) tt
+                (plain (λ _. u8)),
+            (gave-ref (3 ∷ []) tt (plain (λ _. T.the-row)), tt),
+          ),
         ),
       ),
     ),
@@ -93,10 +99,10 @@ abbrev Count : {M : Type 1} (𝓤 : URA M) (H : Heap 𝓤) (A : Atoms 𝓤) (mem
 Count 𝓤 H A mem run = tripleOf 𝓤 H A count.signature (count.spec 𝓤 H A mem run)
 
 abbrev Arg : Type 0
-Arg = Cursor × (RefT (List ℕ) × (ℕ × (RefT (List ℕ) × (RefT (List ℕ) × (RefT Tally × Unit {0})))))
+Arg = Cursor × (Config × (RefT (List ℕ) × (ℕ × (RefT (List ℕ) × (RefT (List ℕ) × (RefT Tally × Unit {0}))))))
 
 module _ {M : Type 1} (𝓤 : URA M) (H : Heap 𝓤) (A : Atoms 𝓤) (W : Given 𝓤 H A) (mem : Memory → SProp 𝓤) (run : Routine → Fun 𝓤) (κ₀ κ₁ κ₂ κ₃ : Lft)
-    (q₀ q₁ q₂ q₃ : Share) (k : Cursor) (b o : ℕ) (γ : GName) (ys : List ℕ) (fr : RefT (List ℕ)) (c : ℕ) (c-fits : c < 2 ^ 32) (b′ o′ : ℕ) (γ′ : GName) (rs : List
+    (q₀ q₁ q₂ q₃ : Share) (k : Cursor) (config : Config) (b o : ℕ) (γ : GName) (ys : List ℕ) (fr : RefT (List ℕ)) (c : ℕ) (c-fits : c < 2 ^ 32) (b′ o′ : ℕ) (γ′ : GName) (rs : List
     ℕ) (b″ o″ : ℕ) (γ″ : GName) (h : Tally) where
   -- the table, the reply, the tally
   abbrev x : RefT (List ℕ)
@@ -108,9 +114,12 @@ module _ {M : Type 1} (𝓤 : URA M) (H : Heap 𝓤) (A : Atoms 𝓤) (W : Given
   abbrev t : RefT Tally
   t = record { ptr = (b″, o″); name = γ″; now = h }
 
-  -- the machine values of the cursor and of the slices
+  -- the machine values of the cursor, of the engine and of the slices
   abbrev kv : Val
   kv = LL.val Cu.the-type Cu′.the-laws k
+
+  abbrev cv : Val
+  cv = LL.val Co.the-type Co′.the-laws config
 
   abbrev sx : Val
   sx = sliceVal (b, o) (length ys)
@@ -122,10 +131,10 @@ module _ {M : Type 1} (𝓤 : URA M) (H : Heap 𝓤) (A : Atoms 𝓤) (W : Given
   sy = sliceVal (b′, o′) (length rs)
 
   abbrev a : Arg
-  a = (k, (x, (c, (fr, (y, (t, tt))))))
+  a = (k, (config, (x, (c, (fr, (y, (t, tt)))))))
 
-  abbrev vals : List Val × (List Val × (List Val × (List Val × (List Val × (List Val × Unit {0})))))
-  vals = (kv ∷ [], (sx ∷ [], (vint w32 c ∷ [], (sf ∷ [], (sy ∷ [], (vptr b″ o″ ∷ [], tt))))))
+  abbrev vals : List Val × (List Val × (List Val × (List Val × (List Val × (List Val × (List Val × Unit {0}))))))
+  vals = (kv ∷ [], (cv ∷ [], (sx ∷ [], (vint w32 c ∷ [], (sf ∷ [], (sy ∷ [], (vptr b″ o″ ∷ [], tt)))))))
 
   abbrev bound : walkOf 𝓤 H A f.ended stayed (f.clauses 𝓤 H A mem run) .Ghost
   bound = (((κ₀, (κ₁, (κ₂, (κ₃, tt)))), (q₀, (q₁, (q₂, (q₃, tt)))), tt, a, vals), tt)
@@ -138,17 +147,26 @@ module _ {M : Type 1} (𝓤 : URA M) (H : Heap 𝓤) (A : Atoms 𝓤) (W : Given
 
   -- what `step` says of its result and of the last lists
   abbrev Said : Moved → List ℕ → List ℕ → Type 0
-  Said m zs ws = (m ≡ movedBy (k .at) (m .served)) × Serves ys c (dropN (k .at) (now fr)) rs (m .served) zs ws
+  Said m zs ws = (m ≡ movedBy (k .at) (m .served)) × Serves config ys c (dropN (k .at) (now fr)) rs (m .served) zs ws
 
   -- `step`: what it is passed, and what it asks
-  abbrev passed : Cursor × (RefT (List ℕ) × (ℕ × (RefT (List ℕ) × (RefT (List ℕ) × Unit {0}))))
-  passed = (k, (x, (c, (fr, (y, tt)))))
+  abbrev passed : Cursor × (Config × (RefT (List ℕ) × (ℕ × (RefT (List ℕ) × (RefT (List ℕ) × Unit {0})))))
+  passed = (k, (config, (x, (c, (fr, (y, tt))))))
 
   abbrev to-step : Step 𝓤 H A mem run .Ghost
-  to-step = (((κ₀, (κ₁, (κ₂, tt))), (q₀, (q₁, (q₂, tt))), tt, passed, (kv ∷ [], (sx ∷ [], (vint w32 c ∷ [], (sf ∷ [], (sy ∷ [], tt)))))), tt)
+  to-step = (((κ₀, (κ₁, (κ₂, tt))), (q₀, (q₁, (q₂, tt))), tt, passed, (kv ∷ [], (cv ∷ [], (sx ∷ [], (vint w32 c ∷ [], (sf ∷ [], (sy ∷ [], tt))))))), tt)
 
   abbrev own-step : Fml
-  own-step = owns (Cu.the-row ∷ MutSlice (named 0) κ₀ u8 ∷ u32 ∷ ShrSlice (named 1) κ₁ u8 ∷ MutSlice (named 2) κ₂ u8 ∷ []) passed (kv ∷ [], (sx ∷ [], (vint w32 c ∷ [], (sf ∷ [], (sy ∷ [], tt)))))
+  own-step = owns (Cu.the-row ∷ Co.the-row ∷ MutSlice (named 0) κ₀ u8 ∷ u32 ∷ ShrSlice (named 1) κ₁ u8 ∷ MutSlice (named 2) κ₂ u8 ∷ []) passed (
+    kv ∷ [],
+    (
+      cv ∷ [],
+      (
+        sx ∷ [],
+        (vint w32 c ∷ [], (sf ∷ [], (sy ∷ [], tt))),
+      ),
+    ),
+  )
 
   goes-step : ent 𝓤 (sep 𝓤 (sep 𝓤 (A .lft κ₀ q₀) (sep 𝓤 (A .lft κ₁ q₁) (sep 𝓤 (A .lft κ₂ q₂) (sem 𝓤 H A ftrue)))) (sem 𝓤 H A own-step)) (Step 𝓤 H A mem run .pre to-step)
   goes-step = qed W ((‵ (flft κ₀ q₀) ⊛ ‵ (flft κ₁ q₁) ⊛ ‵ (flft κ₂ q₂) ⊛ ‵ ftrue) ∷ ‵ own-step ∷ []) ∵ join ! $ frame ! $ done !
@@ -179,33 +197,35 @@ module _ {M : Type 1} (𝓤 : URA M) (H : Heap 𝓤) (A : Atoms 𝓤) (W : Given
   goes-count : (r : Served) (u : Val) → ent 𝓤 (sep 𝓤 (sep 𝓤 (A .lft κ₃ q₃) (sem 𝓤 H A ftrue)) (sem 𝓤 H A (own-count r u))) (Count 𝓤 H A mem run .pre (to-count r u))
   goes-count r u = qed W ((‵ (flft κ₃ q₃) ⊛ ‵ ftrue) ∷ ‵ (own-count r u) ∷ []) ∵ join ! $ frame ! $ done !
 
-  exits : Is Cu.the-row k (kv ∷ []) → (m : Moved) (zs ws : List ℕ) (w : Tally) → Is Mo.the-row m (mv m ∷ []) → Said m zs ws
+  exits : Is Cu.the-row k (kv ∷ []) → Is Co.the-row config (cv ∷ []) → (m : Moved) (zs ws : List ℕ) (w : Tally) → Is Mo.the-row m (mv m ∷ []) → Said m zs ws
       → length zs ≡ length ys → length ws ≡ length rs → w ≡ countedOf h (m .served)
       → ent 𝓤 (⋆ 𝓤 H A ((‵ (flft κ₃ q₃) ⊛ ‵ ftrue) ∷ ‵ (fres γ″ (T.the-row .coded .code w)) ∷ (‵ (flft κ₀ q₀) ⊛ ‵ (flft κ₁ q₁) ⊛ ‵ (flft κ₂ q₂) ⊛ ‵
       ftrue) ∷ ‵ (finally u8 γ′ ws) ∷ ‵ (finally u8 γ zs) ∷ ‵ OwnF ∷ [])) (Post (mv m))
-  exits is-k m zs ws w is e lz lw e′ =
+  exits is-k is-c m zs ws w is e lz lw e′ =
       qed W ((‵ (flft κ₃ q₃) ⊛ ‵ ftrue) ∷ ‵ (fres γ″ (T.the-row .coded .code w)) ∷ (‵ (flft κ₀ q₀) ⊛ ‵ (flft κ₁ q₁) ⊛ ‵ (flft κ₂ q₂) ⊛ ‵ ftrue) ∷ ‵
       (finally u8 γ′ ws) ∷ ‵ (finally u8 γ zs) ∷ ‵ OwnF ∷ []) ∵
-      suffices ! _ (ends-at 𝓤 H A f.ended stayed (f.clauses 𝓤 H A mem run) W bound (mv m) m (tt, (zs, (tt, (tt, (ws, (w, tt)))))) (tt, (lz, (tt, (tt, (lw, (tt, tt))))))) $
+      suffices ! _ (ends-at 𝓤 H A f.ended stayed (f.clauses 𝓤 H A mem run) W bound (mv m) m (tt, (tt, (zs, (tt, (tt, (ws, (w, tt))))))) (tt, (tt, (lz, (tt, (tt, (lw, (tt, tt)))))))) $
       says ! (e .0, record { serves = e .1; tally = e′ }) $
       move ! (2 ∷ []) $ split ! $ move ! (1 ∷ []) $ split ! $ move ! (1 ∷ []) $ split ! $ move ! (0 ∷ 4 ∷ []) $ join ! $ move ! (2 ∷ 0 ∷ []) $ join ! $ move ! (2 ∷ 0 ∷ []) $ join ! $ frame ! $
       -- [true; the tally's last value; the reply's; the table's; the frame's]
       move ! (1 ∷ 0 ∷ []) $ fjoin ! $ move ! (1 ∷ 0 ∷ []) $ fjoin ! $ move ! (2 ∷ 0 ∷ []) $ fjoin ! $ owned ! u32 (Is u32) (uint-makes 𝓤 H A W w32) c
       _ (refl, c-fits) $ fjoin ! $ move ! (1 ∷ 0 ∷ []) $ fjoin ! $
+      owned ! Co.the-row (Is Co.the-row) ((LL.makes Co.the-type Co′.the-plain) 𝓤 H A) config _ is-c $ fjoin ! $
       owned ! Cu.the-row (Is Cu.the-row) ((LL.makes Cu.the-type Cu′.the-plain) 𝓤 H A) k _ is-k $ fjoin ! $
       owned ! Mo.the-row (Is Mo.the-row) ((LL.makes Mo.the-type Mo′.the-plain) 𝓤 H A) m _ is $ move ! (1 ∷ 0 ∷ []) $ done !
 
   module _ (C : Calls 𝓤 H) (Λ : Loops 𝓤 H) (fm : FmC 𝓤 H (W .laws) C) (known-step : Triple 𝓤 (C #step) (Step 𝓤 H A mem run)) (known-count :
       Triple 𝓤 (C #tally·count) (Count 𝓤 H A mem run)) where
-    walk : Is Cu.the-row k (kv ∷ []) → Room u8 (length ys) → Room u8 (length rs) → Is (ShrSlice (named 1) κ₁ u8) fr (sf ∷ [])
-        → ent 𝓤 (onEntry 𝓤 H A f.signature (κ₀, (κ₁, (κ₂, (κ₃, tt)))) (q₀, (q₁, (q₂, (q₃, tt)))) a vals) (WpFn 𝓤 H C Λ code.function (kv ∷ sx ∷ vint w32 c ∷ sf ∷ sy ∷ vptr b″ o″ ∷ []) Post)
-    walk is-k room room′ p =
-        qed W ((‵ (flft κ₀ q₀) ⊛ ‵ (flft κ₁ q₁) ⊛ ‵ (flft κ₂ q₂) ⊛ ‵ (flft κ₃ q₃) ⊛ ‵ ftrue) ∷ ‵ (owns (Cu.the-row ∷ MutSlice (named 0) κ₀ u8 ∷ u32 ∷ ShrSlice
+    walk : Is Cu.the-row k (kv ∷ []) → Is Co.the-row config (cv ∷ []) → Room u8 (length ys) → Room u8 (length rs) → Is (ShrSlice (named 1) κ₁ u8) fr (sf ∷ [])
+        → ent 𝓤 (onEntry 𝓤 H A f.signature (κ₀, (κ₁, (κ₂, (κ₃, tt)))) (q₀, (q₁, (q₂, (q₃, tt)))) a vals) (WpFn 𝓤 H C Λ code.function (kv ∷ cv ∷ sx ∷ vint w32 c ∷ sf ∷ sy ∷ vptr b″ o″ ∷ []) Post)
+    walk is-k is-c room room′ p =
+        qed W ((‵ (flft κ₀ q₀) ⊛ ‵ (flft κ₁ q₁) ⊛ ‵ (flft κ₂ q₂) ⊛ ‵ (flft κ₃ q₃) ⊛ ‵ ftrue) ∷ ‵ (owns (Cu.the-row ∷ Co.the-row ∷ MutSlice (named 0) κ₀ u8 ∷ u32 ∷ ShrSlice
         (named 1) κ₁ u8 ∷ MutSlice (named 2) κ₂ u8 ∷ MutRef (named 3) κ₃ T.the-row ∷ []) a vals) ∷ []) ∵
-        enter ! C Λ code.function (kv ∷ sx ∷ vint w32 c ∷ sf ∷ sy ∷ vptr b″ o″ ∷ []) _ $
+        enter ! C Λ code.function (kv ∷ cv ∷ sx ∷ vint w32 c ∷ sf ∷ sy ∷ vptr b″ o″ ∷ []) _ $
         alloc1 ! (λ l₀. alloc1 ! (λ l₁. alloc1 ! (λ l₂. alloc1 ! (λ l₃. alloc1 ! (λ l₄. alloc1 ! (λ l₅. alloc1 ! (λ l₆. alloc1 ! (λ l₇. alloc1 ! (λ
-        l₈. alloc1 ! (λ l₉. alloc1 ! (λ lₐ. alloc1 ! (λ lᵦ. alloc1 ! (λ lᵧ. alloc1 ! (λ lᵟ. alloc0 ! $ params1 ! $
-        pass1 ! (init ! 24 refl (LL.lawful Cu.the-type Cu′.the-laws 𝓤 H A W .typed k _ is-k .0)) $
+        l₈. alloc1 ! (λ l₉. alloc1 ! (λ lₐ. alloc1 ! (λ lᵦ. alloc1 ! (λ lᵧ. alloc1 ! (λ lᵟ. alloc1 ! (λ lₑ. alloc0 ! $ params1 ! $
+        pass1 ! (init ! 26 refl (LL.lawful Cu.the-type Cu′.the-laws 𝓤 H A W .typed k _ is-k .0)) $
+        pass1 ! (init ! 24 refl (LL.lawful Co.the-type Co′.the-laws 𝓤 H A W .typed config _ is-c .0)) $
         pass1 ! (init ! 22 refl (tt, (tt, (record { fits = room .0 }, tt)))) $ pass1 ! (init ! 20 refl (tt, record { fits = c-fits })) $ pass1 ! (init
         ! 18 refl (shr-slice-lawful 𝓤 H A W (named 1) κ₁ u8 .typed fr (sf ∷ []) p .0)) $ pass1 ! (init ! 16 refl (
           tt,
@@ -220,30 +240,32 @@ module _ {M : Type 1} (𝓤 : URA M) (H : Heap 𝓤) (A : Atoms 𝓤) (W : Given
             ),
           ),
         )) $ pass1 ! (init ! 14 refl (tt, tt)) $ pass0 ! $
-        -- [_13; …; _12; …; _11; …; _10; …; _9; …; _8; …; _7; …; _6; …; _5; …; _4; …; _3; …; _2; …; _1; …; room for _0; …; the tokens; what the parameters own]
+        -- [_14; …; _13; …; _12; …; _11; …; _10; …; _9; …; _8; …; _7; …; _6; …; _5; …; _4; …; _3; …; _2; …; _1; …; room for _0; …; the tokens; what the parameters own]
         assigns ! (addr ! (from ! (fld ! refl (hop ! (look-in ! 22 (sub ! 0 refl (whole !))) (stop !))))) (from ! (stop !)) (init ! 10 refl (tt, tt)) $
         assigns ! (agg ! (and-then ! (load ! (from ! (stop !)) (look ! 10 refl)) (and-then ! (load ! (from ! (fld ! refl (stop !))) (look-in ! 22 (sub
         ! 1 refl (whole !)))) (no-more !)))) (from ! (stop !)) (init ! 8 refl (tt, (tt, (record { fits = room .0 }, tt)))) $
         assigns ! (addr ! (from ! (fld ! refl (hop ! (look-in ! 16 (sub ! 0 refl (whole !))) (stop !))))) (from ! (stop !)) (init ! 6 refl (tt, tt)) $
         assigns ! (agg ! (and-then ! (load ! (from ! (stop !)) (look ! 6 refl)) (and-then ! (load ! (from ! (fld ! refl (stop !))) (look-in ! 16 (sub
         ! 1 refl (whole !)))) (no-more !)))) (from ! (stop !)) (init ! 4 refl (tt, (tt, (record { fits = room′ .0 }, tt)))) $
-        move ! (29 ∷ []) $ fsplit ! $ drop ! $ fsplit ! $ move ! (1 ∷ []) $ fsplit ! $ drop ! $ fsplit ! $ use1 W (‵ OwnF ⊛ ‵ OwnF) (shr-slice-copy 𝓤 H A W (named 1) κ₁
+        move ! (31 ∷ []) $ fsplit ! $ drop ! $ fsplit ! $ drop ! $ fsplit ! $ move ! (1 ∷ []) $ fsplit ! $ drop ! $ fsplit ! $ use1 W (‵ OwnF ⊛ ‵ OwnF) (shr-slice-copy 𝓤 H A W (named 1) κ₁
         u8 .twice fr (sf ∷ [])) $ split ! $ move ! (2 ∷ []) $ fsplit ! $ move ! (1 ∷ []) $ fsplit ! $
         -- [t's; true; the reply's; the frame's; the frame's; the table's; _13; …; the tokens]
-        move ! (34 ∷ []) $ split ! $ move ! (1 ∷ []) $ split ! $ move ! (1 ∷ []) $ split ! $
-        -- [[κ₂]; [κ₃] and true; [κ₁]; [κ₀]; t's; true; the reply's; the frame's; the frame's; the table's; _13; …]
+        move ! (36 ∷ []) $ split ! $ move ! (1 ∷ []) $ split ! $ move ! (1 ∷ []) $ split ! $
+        -- [[κ₂]; [κ₃] and true; [κ₁]; [κ₀]; t's; true; the reply's; the frame's; the frame's; the table's; _14; …]
         nothing ! $ move ! (7 ∷ 0 ∷ []) $ fjoin ! $ move ! (7 ∷ 0 ∷ []) $ fjoin ! $ owned ! u32 (Is u32) (uint-makes 𝓤 H A W w32) c _ (refl, c-fits) $ fjoin ! $ move ! (8 ∷ 0 ∷ []) $ fjoin ! $
+        owned ! Co.the-row (Is Co.the-row) ((LL.makes Co.the-type Co′.the-plain) 𝓤 H A) config _ is-c $ fjoin ! $
         owned ! Cu.the-row (Is Cu.the-row) ((LL.makes Cu.the-type Cu′.the-plain) 𝓤 H A) k _ is-k $ fjoin ! $
         nothing ! $ move ! (2 ∷ 0 ∷ []) $ join ! $ move ! (3 ∷ 0 ∷ []) $ join ! $ move ! (3 ∷ 0 ∷ []) $ join ! $
         use2 W (raw (Step 𝓤 H A mem run .pre to-step)) goes-step $
-        -- [what `step` asks; [κ₃] and true; t's; true; the frame's; _13; …]
+        -- [what `step` asks; [κ₃] and true; t's; true; the frame's; _14; …]
         calls-at ! fm (Step 𝓤 H A mem run) known-step to-step
-        (and-then ! (load ! (from ! (stop !)) (look ! 29 refl)) (and-then ! (load ! (from ! (stop !)) (look ! 13 refl)) (and-then ! (load ! (from ! (stop
+        (and-then ! (load ! (from ! (stop !)) (look ! 31 refl)) (and-then ! (load ! (from ! (stop !)) (look ! 29 refl)) (and-then ! (load ! (from ! (stop !))
+        (look ! 13 refl)) (and-then ! (load ! (from ! (stop
         !)) (look ! 25 refl)) (and-then ! (load ! (from ! (stop !)) (look ! 23 refl)) (and-then ! (load ! (from ! (stop !)) (look ! 9 refl))
-        (no-more !)))))) (λ u.
+        (no-more !))))))) (λ u.
         use1 W (later (some (λ (m : Moved). ((‵ (flft κ₀ q₀) ⊛ ‵ (flft κ₁ q₁) ⊛ ‵ (flft κ₂ q₂) ⊛ ‵ ftrue) ⊛ ‵ (Mo.the-row .own m (u ∷ []))) ⊛ raw
         (ensured 𝓤 H A step.ended (step.clauses 𝓤 H A mem run) (κ₀, (κ₁, (κ₂, tt))) passed tt m)))) (id⊢ 𝓤 _) $ await ! tt $ pick ! (λ m.
-        split ! $ move ! (1 ∷ []) $ use1 W (some (λ (zs : Unit {0} × (List ℕ × (Unit {0} × (Unit {0} × (List ℕ × Unit {0}))))). ‵ (lasts step.ended (
+        split ! $ move ! (1 ∷ []) $ use1 W (some (λ (zs : Unit {0} × (Unit {0} × (List ℕ × (Unit {0} × (Unit {0} × (List ℕ × Unit {0})))))). ‵ (lasts step.ended (
           κ₀,
           (
             κ₁,
@@ -252,19 +274,19 @@ module _ {M : Type 1} (𝓤 : URA M) (H : Heap 𝓤) (A : Atoms 𝓤) (W : Given
               tt,
             ),
           ),
-        ) passed zs) ⊛ raw (fact 𝓤 (Said m (zs .1 .0) (zs .1 .1 .1 .1 .0))))) (id⊢ 𝓤 _) $ pick ! (λ zs.
-        split ! $ move ! (1 ∷ []) $ heard ! (Said m (zs .1 .0) (zs .1 .1 .1 .1 .0)) (λ e. fsplit ! $ drop ! $ fsplit ! $ fsplit ! $ move ! (1 ∷ []) $ feqL ! (λ lz.
-        -- [the table's last list; what is said of the rest; the tokens and the answer; [κ₃] and true; t's; true; the frame's; _13; …]
+        ) passed zs) ⊛ raw (fact 𝓤 (Said m (zs .1 .1 .0) (zs .1 .1 .1 .1 .1 .0))))) (id⊢ 𝓤 _) $ pick ! (λ zs.
+        split ! $ move ! (1 ∷ []) $ heard ! (Said m (zs .1 .1 .0) (zs .1 .1 .1 .1 .1 .0)) (λ e. fsplit ! $ drop ! $ fsplit ! $ drop ! $ fsplit ! $ fsplit ! $ move ! (1 ∷ []) $ feqL ! (λ lz.
+        -- [the table's last list; what is said of the rest; the tokens and the answer; [κ₃] and true; t's; true; the frame's; _14; …]
         move ! (1 ∷ []) $ fsplit ! $ drop ! $ fsplit ! $ drop ! $ fsplit ! $ fsplit ! $ move ! (1 ∷ []) $ feqL ! (λ lw.
-        -- [the reply's last list; true; the table's; the tokens and the answer; [κ₃] and true; t's; true; the frame's; _13; …]
+        -- [the reply's last list; true; the table's; the tokens and the answer; [κ₃] and true; t's; true; the frame's; _14; …]
         move ! (3 ∷ []) $ split ! $ move ! (1 ∷ []) $ peeks ! Mo.the-row (Is Mo.the-row) (shows 𝓤 H A Mo.the-row) m (u ∷ []) (λ is.
         land ! (from ! (stop !)) (init ! 21 refl (LL.lawful Mo.the-type Mo′.the-laws 𝓤 H A W .typed m _ is .0)) $
-        rewrite ! 21 (λ (v : Val). ‵ (fat fullShare Mo′.mir l₇ 0 v)) (shown m u is) refl $
+        rewrite ! 21 (λ (v : Val). ‵ (fat fullShare Mo′.mir l₈ 0 v)) (shown m u is) refl $
         assigns ! (addr ! (from ! (hop ! (look ! 23 refl) (stop !)))) (from ! (stop !)) (init ! 9 refl (tt, tt)) $
-        -- [what `step` gives; the tokens; the reply's; true; the table's; [κ₃] and true; t's; true; the frame's; _13; …]
+        -- [what `step` gives; the tokens; the reply's; true; the table's; [κ₃] and true; t's; true; the frame's; _14; …]
         drop ! $ nothing ! $ owned ! O.the-row (Is O.the-row) ((EL.makes O.the-type O′.the-plain) 𝓤 H A) (m .served) _ (answer-is m u is) $ fjoin ! $
         move ! (6 ∷ 0 ∷ []) $ fjoin ! $ move ! (5 ∷ 0 ∷ []) $ use2 W (raw (Count 𝓤 H A mem run .pre (to-count (m .served) (rv (m .served))))) (goes-count (m .served) (rv (m .served))) $
-        -- [what `count` asks; the tokens; the reply's; true; the table's; true; the frame's; _13; …]
+        -- [what `count` asks; the tokens; the reply's; true; the table's; true; the frame's; _14; …]
         calls-at ! fm (Count 𝓤 H A mem run) known-count (to-count (m .served) (rv (m .served))) (and-then ! (load ! (from ! (stop !)) (look ! 7 refl)) (and-then ! (load !
         (from ! (fld ! refl (stop !))) (look-in ! 19 (sub ! 1 refl (whole !)))) (no-more !))) (λ u′.
         use1 W (later (some (λ (z : Unit {0}). ((‵ (flft κ₃ q₃) ⊛ ‵ ftrue) ⊛ ‵ (Nothing .own z (u′ ∷ []))) ⊛ raw (ensured 𝓤 H A count.ended
@@ -272,44 +294,49 @@ module _ {M : Type 1} (𝓤 : URA M) (H : Heap 𝓤) (A : Atoms 𝓤) (W : Given
         split ! $ move ! (1 ∷ []) $ use1 W (some (λ (ws : Tally × (Unit {0} × Unit {0})). ‵ (lasts count.ended (κ₃, tt) (t, (m .served, tt)) ws) ⊛ raw (fact 𝓤
         (ws .0 ≡ countedOf h (m .served))))) (id⊢ 𝓤 _) $ pick ! (λ ws.
         split ! $ move ! (1 ∷ []) $ heard ! (ws .0 ≡ countedOf h (m .served)) (λ e′. fsplit ! $ move ! (2 ∷ []) $ split ! $ move ! (1 ∷ []) $ feqL ! (λ eu.
-        -- [[κ₃] and true; the tally's last value; …; the tokens; the reply's; true; the table's; true; the frame's; _13; …]
+        -- [[κ₃] and true; the tally's last value; …; the tokens; the reply's; true; the table's; true; the frame's; _14; …]
         land ! (from ! (stop !)) (init ! 11 refl (subst (λ (y : Val). Holds (hasTy tyUnit y) × WT y) (sym (ap only eu)) (tt, tt))) $
-        assigns ! (of-opd ! (load ! (from ! (stop !)) (look ! 21 refl))) (from ! (stop !)) (init ! 35 refl (LL.lawful Mo.the-type Mo′.the-laws 𝓤 H A W .typed m _ (whole-is m u is) .0)) $
-        returns ! (look ! 35 refl) $ forget ! 9 refl $ forget ! 11 refl $ forget ! 13 refl $ forget ! 15 refl $ forget ! 17 refl $ forget ! 19 refl $
-        forget ! 21 refl $ forget ! 23 refl $ forget ! 25 refl $ forget ! 27 refl $ forget ! 29 refl $ forget ! 31 refl $ forget ! 33 refl $ forget ! 35 refl $
-        move ! (35 ∷ 36 ∷ []) $ free1 ! $ move ! (33 ∷ 34 ∷ []) $ free1 ! $ move ! (31 ∷ 32 ∷ []) $ free1 ! $ move ! (29 ∷ 30 ∷ []) $ free1 ! $ move ! (27 ∷ 28 ∷ []) $ free1 ! $ move !
+        assigns ! (of-opd ! (load ! (from ! (stop !)) (look ! 21 refl))) (from ! (stop !)) (init ! 37 refl (LL.lawful Mo.the-type Mo′.the-laws 𝓤 H A W .typed m _ (whole-is m u is) .0)) $
+        returns ! (look ! 37 refl) $ forget ! 9 refl $ forget ! 11 refl $ forget ! 13 refl $ forget ! 15 refl $ forget ! 17 refl $ forget ! 19 refl $
+        forget ! 21 refl $ forget ! 23 refl $ forget ! 25 refl $ forget ! 27 refl $ forget ! 29 refl $ forget ! 31 refl $ forget ! 33 refl $ forget ! 35 refl $ forget ! 37 refl $
+        move ! (37 ∷ 38 ∷ []) $ free1 ! $ move ! (35 ∷ 36 ∷ []) $ free1 ! $ move ! (33 ∷ 34 ∷ []) $ free1 ! $ move ! (31 ∷ 32 ∷ []) $ free1 ! $ move !
+        (29 ∷ 30 ∷ []) $ free1 ! $ move ! (27 ∷ 28 ∷ []) $ free1 ! $ move !
         (25 ∷ 26 ∷ []) $ free1 ! $ move ! (23 ∷ 24 ∷ []) $ free1 ! $ move ! (21 ∷ 22 ∷ []) $ free1 ! $ move ! (19 ∷ 20 ∷ []) $ free1 ! $ move !
         (17 ∷ 18 ∷ []) $ free1 ! $ move ! (15 ∷ 16 ∷ []) $ free1 ! $ move ! (13 ∷ 14 ∷ []) $ free1 ! $ move ! (11 ∷ 12 ∷ []) $ free1 ! $ move ! (9
         ∷ 10 ∷ []) $ free1 ! $ free0 ! $
-        keep ! (0 ∷ 1 ∷ 3 ∷ 4 ∷ 6 ∷ 8 ∷ []) $ by ! (exits is-k m (zs .1 .0) (zs .1 .1 .1 .1 .0) (ws .0) (whole-is m u is) e lz lw e′)))))))))))))))))))))))))))
+        keep ! (0 ∷ 1 ∷ 3 ∷ 4 ∷ 6 ∷ 8 ∷ []) $ by ! (exits is-k is-c m (zs .1 .1 .0) (zs .1 .1 .1 .1 .1 .0) (ws .0) (whole-is m u is) e lz lw e′))))))))))))))))))))))))))))
 
 module _ {M : Type 1} (𝓤 : URA M) (H : Heap 𝓤) (A : Atoms 𝓤) (W : Given 𝓤 H A) (mem : Memory → SProp 𝓤) (run : Routine → Fun 𝓤) where
   serve-walks : (C : Calls 𝓤 H) (Λ : Loops 𝓤 H) → FmC 𝓤 H (W .laws) C → Triple 𝓤 (C #step) (Step 𝓤 H A mem run)
       → Triple 𝓤 (C #tally·count) (Count 𝓤 H A mem run) → Walks 𝓤 H A f.ended stayed (WpFn 𝓤 H C Λ code.function) (f.clauses 𝓤 H A mem run)
   serve-walks C Λ fm known-step known-count =
       walked 𝓤 H A f.ended stayed (f.clauses 𝓤 H A mem run) (WpFn 𝓤 H C Λ code.function)
-      (λ κs. (LL.vals Cu.the-type Cu′.the-laws, (slice-vals, (uint-vals w32, (slice-vals, (slice-vals, (ptr-vals, tt)))))))
+      (λ κs. (LL.vals Cu.the-type Cu′.the-laws, (LL.vals Co.the-type Co′.the-laws, (slice-vals, (uint-vals w32, (slice-vals, (slice-vals, (ptr-vals, tt))))))))
       (λ κs. (
         LL.tells Cu.the-type Cu′.the-laws,
         (
-          mut-slice-tells (named 0) (κs .0) u8,
+          LL.tells Co.the-type Co′.the-laws,
           (
-            uint-tells w32,
+            mut-slice-tells (named 0) (κs .0) u8,
             (
-              shr-slice-tells (named 1) (κs .1 .0) u8,
+              uint-tells w32,
               (
-                mut-slice-tells (named 2)
-                    (κs .1 .1 .0) u8,
-                (mut-tells (named 3) (κs .1 .1 .1 .0) T.the-row, tt),
+                shr-slice-tells (named 1) (κs .1 .0) u8,
+                (
+                  mut-slice-tells (named 2)
+                      (κs .1 .1 .0) u8,
+                  (mut-tells (named 3) (κs .1 .1 .1 .0) T.the-row, tt),
+                ),
               ),
             ),
           ),
         ),
       ))
       (λ κs qs bounds a g are. via 𝓤 _ (fst∗ 𝓤 _ (emp 𝓤)) (walk 𝓤 H A W mem run (κs .0) (κs .1 .0) (κs .1 .1 .0) (κs .1 .1 .1 .0) (qs .0) (qs .1 .0) (qs .1 .1 .0) (qs .1 .1 .1 .0)
-      (a .0) (a .1 .0 .ptr .0) (a .1 .0 .ptr .1) (a .1 .0 .name) (a .1 .0 .now) (a .1 .1 .1 .0) (a .1 .1 .0) (are .1 .1 .0 .1) (a .1 .1 .1 .1 .0 .ptr .0) (a .1 .1 .1 .1 .0 .ptr .1)
-      (a .1 .1 .1 .1 .0 .name) (a .1 .1 .1 .1 .0 .now) (a .1 .1 .1 .1 .1 .0 .ptr .0) (a .1 .1 .1 .1 .1 .0 .ptr .1) (a .1 .1 .1 .1 .1 .0 .name) (a .1 .1 .1 .1 .1 .0 .now)
-      C Λ fm known-step known-count (are .0) (are .1 .0 .0 .1) (are .1 .1 .1 .1 .0 .0 .1) (are .1 .1 .1 .0)))
+      (a .0) (a .1 .0) (a .1 .1 .0 .ptr .0) (a .1 .1 .0 .ptr .1) (a .1 .1 .0 .name) (a .1 .1 .0 .now) (a .1 .1 .1 .1 .0) (a .1 .1 .1 .0) (are .1 .1 .1 .0 .1)
+      (a .1 .1 .1 .1 .1 .0 .ptr .0) (a .1 .1 .1 .1 .1 .0 .ptr .1) (a .1 .1 .1 .1 .1 .0 .name) (a .1 .1 .1 .1 .1 .0 .now)
+      (a .1 .1 .1 .1 .1 .1 .0 .ptr .0) (a .1 .1 .1 .1 .1 .1 .0 .ptr .1) (a .1 .1 .1 .1 .1 .1 .0 .name) (a .1 .1 .1 .1 .1 .1 .0 .now)
+      C Λ fm known-step known-count (are .0) (are .1 .0) (are .1 .1 .0 .0 .1) (are .1 .1 .1 .1 .1 .0 .0 .1) (are .1 .1 .1 .1 .0)))
 
 serve-meets : {M : Type 1} (𝓤 : URA M) (H : Heap 𝓤) (A : Atoms 𝓤) (W : Given 𝓤 H A) (mem : Memory → SProp 𝓤) (run : Routine → Fun 𝓤) (𝓣 : Tables 𝓤 H)
     → Triple 𝓤 (𝓣 .C #step) (Step 𝓤 H A mem run) → Triple 𝓤 (𝓣 .C #tally·count) (Count 𝓤 H A mem run)
@@ -318,17 +345,20 @@ serve-meets 𝓤 H A W mem run 𝓣 known-step known-count =
     walk-meets 𝓤 H A f.ended stayed W (
       goes-none 𝓤 H A W 4 (λ _. Cu.the-row) yes (λ κs x f. refl),
       (
-        goes-gave-slice 𝓤 H A W 4 0 tt (plain (λ _. u8)),
+        goes-none 𝓤 H A W 4 (λ _. Co.the-row) yes (λ κs x f. refl),
         (
-          goes-none 𝓤 H A W 4 (λ _. u32) yes (λ κs x f. refl),
+          goes-gave-slice 𝓤 H A W 4 0 tt (plain (λ _. u8)),
           (
-            goes-none-slice 𝓤 H A W 4 (1 ∷ []) tt (plain (λ _. u8)) yes,
+            goes-none 𝓤 H A W 4 (λ _. u32) yes (λ κs x f. refl),
             (
-              goes-gave-slice 𝓤 H A W 4 2 tt (plain (λ _. u8)),
+              goes-none-slice 𝓤 H A W 4 (1 ∷ []) tt (plain (λ _. u8)) yes,
               (
-                goes-gave-ref 𝓤 H A W 4 3 tt
-                    (plain (λ _. T.the-row)),
-                tt,
+                goes-gave-slice 𝓤 H A W 4 2 tt (plain (λ _. u8)),
+                (
+                  goes-gave-ref 𝓤 H A W 4 3 tt
+                      (plain (λ _. T.the-row)),
+                  tt,
+                ),
               ),
             ),
           ),

@@ -16,14 +16,15 @@ serve-one-requires c κs = search needs
 used-of-requires : tie.Need-used-of-requires
 used-of-requires c κs = search needs
 
-add-t14 : tie.Need-add-t14
-add-t14 c =
+add-t15 : tie.Need-add-t15
+add-t15 c =
     let m = c .before .before .before .before .before in
     let rest = m .before .before .rest in
-    let a = m .before .before .before .before .before .before .before .args in
+    let start = m .before .before .before .before .before .before .before in
+    let a = start .args in
     let l = ap length (rest .ensures) in
-    let v : c .used-of .result ≤ length (rest .result .now) = rw (c .used-of .ensures, m .serve-one .ensures .answer) (used-fits _ _ _ _) in
-    omega (arith, length-drop (a .self .at) (a .run .now))
+    let v : c .used-of .result ≤ length (rest .result .now) = rw (c .used-of .ensures, m .serve-one .ensures .answer) (used-fits _ _ _ _ _) in
+    omega (arith, length-drop (a .self .at) (a .run .now), start .good .1 .1 .1 .1 .0)
 
 same-length : tie.Need-same-length
 same-length c = search needs
@@ -34,7 +35,7 @@ same-length-2 c = search needs
 returns : tie.Need-returns
 returns c =
     let m = c .before .before .before .before .before in
-    moved-eq _ _ _ _ _ _ _ _ _ _ (m .before .before .rest .ensures) (c .used-of .ensures) (m .serve-one .ensures)
+    moved-eq _ _ _ _ _ _ _ _ _ _ _ (m .before .before .rest .ensures) (c .used-of .ensures) (m .serve-one .ensures)
 
 pub step-spec : {M : Type 1} → statement M
 step-spec =
@@ -43,7 +44,7 @@ step-spec =
     rest-requires
     serve-one-requires
     used-of-requires
-    add-t14
+    add-t15
     same-length
     same-length-2
     returns)

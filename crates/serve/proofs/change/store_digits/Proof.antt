@@ -28,7 +28,7 @@ returns c =
     let p = c .before .before .before .before .before .before .before in
     let a = p .before .before .before .before .args in
     let text = read-back _ (digits (a .n)) _ _ _ (p .put-number .ensures .0) (p .put-number .ensures .1) (c .before .before .before .part .ensures) in
-    c .before .before .store .ensures ∙ ap (storing (a .b .now) (a .l) (a .key .now) (a .m)) text
+    c .before .before .store .ensures ∙ ap (storing (a .config) (a .b .now) (a .l) (a .key .now) (a .m)) text
 
 pub store-digits-spec : {M : Type 1} → statement M
 store-digits-spec =

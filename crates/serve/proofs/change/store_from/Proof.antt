@@ -50,7 +50,7 @@ same-length c = search needs
 returns : tie.Need-returns
 returns c =
     let a = c .before .before .before .before .before .before .before .before .before .before .args in
-    let empty = ap (storing (a .b .now) (a .l) (a .key .now) (a .m)) (c .before .before .before .part .ensures) in
+    let empty = ap (storing (a .config) (a .b .now) (a .l) (a .key .now) (a .m)) (c .before .before .before .part .ensures) in
     rw (c .before .before .before .before .before .enum-told .given .1) (c .before .before .store .ensures ∙ empty)
 
 same-length-2 : tie.Need-same-length-2
@@ -71,7 +71,7 @@ same-length-4 c = search needs
 returns-4 : tie.Need-returns-4
 returns-4 c =
     let a = c .before .before .before .before .before .before .before .before .before .before .args in
-    let empty = ap (λ (x : List ℕ). joinedBy (a .b .now) (a .l) (a .key .now) (a .m) Back x) (c .before .before .before .part2 .ensures) in
+    let empty = ap (λ (x : List ℕ). joinedBy (a .config) (a .b .now) (a .l) (a .key .now) (a .m) Back x) (c .before .before .before .part2 .ensures) in
     rw (c .before .before .before .before .before .enum-told3 .given .1) (c .before .before .join .ensures ∙ empty)
 
 same-length-5 : tie.Need-same-length-5

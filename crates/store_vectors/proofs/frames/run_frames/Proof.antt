@@ -7,10 +7,10 @@ use Rattle.store_vectors.proofs.frames.run_frames.Statement.{statement}
 use Rattle.store_vectors.proofs.frames.run_frames.Tie as tie
 
 abbrev Inv-loop : tie.InvT-loop
-Inv-loop s₀ clock bytes out₀ counts₀ at₀ t10 s out counts at = (length s ≡ length s₀) × (length out ≡ length out₀)
+Inv-loop config s₀ clock bytes out₀ counts₀ at₀ t10 s out counts at = (length s ≡ length s₀) × (length out ≡ length out₀)
 
 abbrev μ-loop : tie.MeasureT-loop
-μ-loop s₀ clock bytes out₀ counts₀ at₀ t10 s out counts at = (length bytes + 1) - at
+μ-loop config s₀ clock bytes out₀ counts₀ at₀ t10 s out counts at = (length bytes + 1) - at
 
 loop-holds : tie.Need-loop-holds Inv-loop μ-loop
 loop-holds c = search needs

@@ -1,0 +1,28 @@
+use Rattle.table.specs.Calls.{placeFor}
+use borrow.Author.Needs.{needs}
+use Rattle.table.proofs.place_for.Statement.{statement}
+use Rattle.table.proofs.place_for.Tie as tie
+
+enum-told : tie.Need-enum-told
+enum-told c = search needs
+
+place-requires : tie.Need-place-requires
+place-requires c κs = tt
+
+enum-told-2 : tie.Need-enum-told-2
+enum-told-2 c = search needs
+
+place-requires-2 : tie.Need-place-requires-2
+place-requires-2 c κs = tt
+
+returns : tie.Need-returns
+unfolding placeFor
+returns c = rw ((c .before .enum-told) .given .1) ((c .place) .ensures)
+
+returns-2 : tie.Need-returns-2
+unfolding placeFor
+returns-2 c = rw ((c .before .enum-told2) .given .1) ((c .place2) .ensures)
+
+pub place-for-spec : {M : Type 1} → statement M
+place-for-spec =
+    tie.close (tie.spec enum-told place-requires enum-told-2 place-requires-2 returns returns-2)
