@@ -1,5 +1,5 @@
 -- Good tables whichever engine keeps their rows: what the plain engine's laws say of all but the order, and the order.
-use Prim.Native.Nat.{ℕ, zero, suc, _+_, _-_}
+use Prim.Native.Nat.{ℕ, _+_, _-_}
 use native.Mathlib.Omega.{arith}
 use mathlib.Core.Path.{_≡_, sym, subst, _∙_}
 use mathlib.Core.Bool.{Bool, true, _&&_}
@@ -24,7 +24,7 @@ use Rattle.rows.proofs.Heads.{head-length}
 use Rattle.plain.specs.Damage.{distinct, sound}
 use Rattle.plain.specs.Claims.{Good}
 use Rattle.plain.proofs.TableLaws.{distinct-keys, keys-distinct, sound-good, good-sound}
-use Rattle.plain.proofs.ChangeLaws.{raise, put-good, purge-good, fresh-good}
+use Rattle.plain.proofs.ChangeLaws.{raise, free-good, put-good, purge-good, fresh-good}
 use Rattle.ordered.specs.Order.{ordered}
 use Rattle.ordered.specs.Insert.{oneFreeLess, insertRow}
 use Rattle.ordered.specs.Purge.{stayingRows, purgeOrdered}
@@ -110,12 +110,8 @@ module _ (mark : ℕ) where
       (λ q. rw q (k, g .1))
       (λ q. rw q (k, (g .0, good-less ws (g .1))))
 
-  good-free : (n : ℕ) → AllGood mark (replicate n none)
-  good-free zero = tt
-  good-free (suc n) = good-free n
-
   good-stay : (p : Doc → Bool) (n : ℕ) (ws : List Row) → AllGood mark ws → AllGood mark (stayingRows p ws ++ replicate n none)
-  good-stay p n [] g = good-free n
+  good-stay p n [] g = free-good mark n
   good-stay p n (none ∷ ws) g = good-stay p n ws g
   good-stay p n (some x ∷ ws) g = cases (p (x .doc)) (λ t. rw t (good-stay p n ws (g .1))) (λ f. rw f (g .0, good-stay p n ws (g .1)))
 

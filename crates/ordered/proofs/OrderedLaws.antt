@@ -1,12 +1,8 @@
--- Rows in key order meet the laws of an engine, and so stay alike with the plain engine's.
-use mathlib.Core.Path.{refl, _∙_}
-use Rattle.rows.specs.Table.{fresh}
-use Rattle.engine.proofs.Alike.{laws-suffice}
-use Rattle.plain.specs.Plain.{plain}
+-- Rows in key order meet the laws of an engine.
+use mathlib.Core.Path.{_∙_}
 use Rattle.plain.proofs.PlainLaws.{plain-laws}
-use Rattle.ordered.specs.Ordered.{orderedEngine}
-use Rattle.ordered.specs.Claims.{OrderedLaws, OrderedAlike, FreshAlike}
-use Rattle.ordered.proofs.OrderLaws.{ordered-each, ordered-distinct, fresh-ordered}
+use Rattle.ordered.specs.Claims.{OrderedLaws}
+use Rattle.ordered.proofs.OrderLaws.{ordered-each, ordered-distinct}
 use Rattle.ordered.proofs.InsertLaws.{find-insert, free-insert, free-over, length-insert, ordered-insert}
 use Rattle.ordered.proofs.PurgeLaws.{purge-found, length-purged, ordered-purge}
 
@@ -25,12 +21,3 @@ ordered-laws = record {
   size-put = λ r k d g room. length-insert k d r (ordered-each r g) room;
   size-purge = λ r p g. length-purged p r;
 }
-
-pub ordered-alike : OrderedAlike
-ordered-alike = laws-suffice plain orderedEngine plain-laws ordered-laws
-
-pub alike-fresh : FreshAlike
-alike-fresh n state mode vbucket =
-    let rows = fresh n state mode vbucket .rows in
-    let o = fresh-ordered n state mode vbucket in
-    record { good = ordered-distinct rows o; other-good = o; find = λ k. refl; size = refl }

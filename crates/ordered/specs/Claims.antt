@@ -1,13 +1,12 @@
--- What is claimed of rows in key order, by themselves and beside the plain engine's. Proved in proofs/.
+-- What is claimed of rows in key order. Proved in proofs/.
 use Prim.Native.Nat.{ℕ}
 use mathlib.Core.Path.{_≡_}
 use mathlib.Core.Bool.{true}
 use mathlib.Core.List.{List}
 use Rattle.engine.specs.Engine.{Laws}
-use Rattle.engine.specs.Alike.{Alike, StaysAlike}
 use Rattle.rows.specs.Row.{Row}
 use Rattle.rows.specs.Table.{Table, fresh}
-use Rattle.plain.specs.Plain.{Distinct, plain}
+use Rattle.plain.specs.Plain.{Distinct}
 use Rattle.plain.specs.Claims.{Good}
 use Rattle.ordered.specs.Order.{ordered}
 use Rattle.ordered.specs.Ordered.{orderedEngine}
@@ -25,14 +24,6 @@ OrderedDistinct = (r : List Row) → ordered r ≡ true → Distinct r
 abbrev pub OrderedLaws : Type 0
 OrderedLaws = Laws orderedEngine
 
--- "Keep the old table as the plain engine": rows of the two that hold the same documents have the same room and the same purge counts, and a store and a purge keep them alike, "row places aside"
-abbrev pub OrderedAlike : Type 0
-OrderedAlike = StaysAlike plain orderedEngine
-
 -- a fresh table is in order
 abbrev pub FreshOrdered : Type 0
 FreshOrdered = (n state mode vbucket : ℕ) → ordered (fresh n state mode vbucket .rows) ≡ true
-
--- "fresh tables made alike" are alike
-abbrev pub FreshAlike : Type 0
-FreshAlike = (n state mode vbucket : ℕ) → Alike plain orderedEngine (fresh n state mode vbucket .rows) (fresh n state mode vbucket .rows)

@@ -105,7 +105,7 @@ purge-good t p g = record {
 }
 
 -- a fresh table
-free-good : (mark n : ℕ) → AllGood mark (replicate n none)
+pub free-good : (mark n : ℕ) → AllGood mark (replicate n none)
 free-good mark zero = tt
 free-good mark (suc n) = free-good mark n
 

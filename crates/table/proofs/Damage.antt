@@ -35,10 +35,6 @@ last-apart true false z d = refl
 last-apart true true false d = refl
 last-apart true true true d = refl
 
-and-true : (x : Bool) → x ≡ (x && true)
-and-true true = refl
-and-true false = refl
-
 plain-sound : (b : List ℕ) → sound b ≡ (rowsOk false b && distinct (rowsOf (rowCount b) (drop 16 b)))
 unfolding sound rowsOk
 plain-sound b =
@@ -53,7 +49,7 @@ ordered-sound b = refl
 sound-is : (k : EngineKind) (b : List ℕ) → soundIn k b ≡ (rowsOk (isOrdered k) b && (isOrdered k || keysDistinct b))
 unfolding keysDistinct
 sound-is Plain b = plain-sound b ∙ cases (rowsOk false b) (λ t. rw (t, few-rows false b t)) (λ f. rw f)
-sound-is Ordered b = ordered-sound b ∙ and-true (rowsOk true b)
+sound-is Ordered b = ordered-sound b ∙ cases (rowsOk true b) (λ t. rw t) (λ f. rw f)
 
 module _ (config : Config) (b : List ℕ) (keyed : Bool) (k : keyed ≡ isOrdered (config .engine)) where
   by-walk : soundBy config b ≡ (rowsOk keyed b && (keyed || keysDistinct b))
