@@ -19,7 +19,8 @@ use Rattle.with_meta.specs.WithMeta.{withMeta}
 use Rattle.with_meta.specs.FieldRules.{withMetaOk}
 use Rattle.rules.specs.Rules.{formOk, metaSize, fieldRulesOk, judged, status}
 use Rattle.request.proofs.Gated.{whole-frame}
-use Rattle.request.specs.declared.Gate.the-variants.{Whole}
+use Rattle.request.specs.declared.Gate.{Gate}
+use Rattle.request.specs.declared.Gate.the-variants.{Stop, Whole}
 use Rattle.request.specs.Reading.{gateOf, frameStatus, extrasSpan, keySpan, valueSpan, bytesIn}
 use Rattle.commands.specs.declared.MetaKind.the-variants.{Set, Add, Delete}
 use Rattle.decision.specs.Decision.{decision}
@@ -31,7 +32,7 @@ use Rattle.engines.specs.Damage.{soundBy}
 use Rattle.rows.specs.Table.{Table, tableOf, tableAt, clockAt, tableBytes}
 use Rattle.rows.specs.Find.{findRow}
 use Rattle.serving.specs.Reply.{replyShows, replyBytes}
-use Rattle.serving.specs.Serve.{gateAll, contextOn, refusal, reachesDecision, decisionOn, frameEffect, tableChanged, frameTable, frameReply, served, servedTable, servedReply}
+use Rattle.serving.specs.Serve.{servedOutcome, servedStatus, servedLength, servedNeeded, gateAll, contextOn, refusal, reachesDecision, decisionOn, frameEffect, tableChanged, frameTable, frameReply, answerBy, tableBy, replyBy, served, servedTable, servedReply}
 use Rattle.promises.specs.Expiry.{opcode, extrasIn, keyIn, withMetas}
 use Rattle.promises.proofs.Asks.{at-opcode}
 use Rattle.layouts.specs.Layouts.{valueIn, Formed, OneWrite, ServedAlike, EitherLayout}
@@ -71,8 +72,8 @@ status-by s h e = rw e
 
 -- a value before its extended meta is cut from what follows the key
 module _ (s : List ℕ) (h : Header) (whole : 24 + h .body ≤ length s) (form : formOk (shapeOf (h .opcode)) h ≡ true) where
-  abbrev meta : ℕ
-  meta = metaSize (shapeOf (h .opcode)) (bytesIn s (extrasSpan h))
+  abbrev section : ℕ
+  section = metaSize (shapeOf (h .opcode)) (bytesIn s (extrasSpan h))
 
   pub inside : h .extlen + h .keylen ≤ h .body
   unfolding formOk
@@ -84,12 +85,12 @@ module _ (s : List ℕ) (h : Header) (whole : 24 + h .body ≤ length s) (form :
   unfolding valueSpan
   value-length = part-length s (valueSpan h .at) (valueSpan h .len) (omega (arith, inside))
 
-  bare-cut : bareValue s h ≡ take (length (bytesIn s (valueSpan h)) - meta) (bytesIn s (valueSpan h))
+  bare-cut : bareValue s h ≡ take (length (bytesIn s (valueSpan h)) - section) (bytesIn s (valueSpan h))
   unfolding bareValue
-  bare-cut = rw (value-length, take-take (valueSpan h .len - meta) (valueSpan h .len) _ (omega arith))
+  bare-cut = rw (value-length, take-take (valueSpan h .len - section) (valueSpan h .len) _ (omega arith))
 
 -- ---- two frames that carry one write
-module _ (s s′ : List ℕ) (f : Formed s) (f′ : Formed s′) (o : OneWrite s s′) where
+module _ (s s′ : List ℕ) (formed : Formed s) (formed′ : Formed s′) (o : OneWrite s s′) where
   abbrev h : Header
   h = headerOf s
 
@@ -101,23 +102,23 @@ module _ (s s′ : List ℕ) (f : Formed s) (f′ : Formed s′) (o : OneWrite s
 
   fields : fieldRulesOk (shapeOf (h .opcode)) (extrasIn s) (valueIn s) ≡ fieldRulesOk (shapeOf (h′ .opcode)) (extrasIn s′) (valueIn s′)
   fields =
-      same-fields (h .opcode) (extrasIn s) (extrasIn s′) (valueIn s) (f .command) (o .write)
+      same-fields (h .opcode) (extrasIn s) (extrasIn s′) (valueIn s) (formed .command) (o .write)
       ∙ (λ i. fieldRulesOk (shapeOf (o .opcode i)) (extrasIn s′) (o .value i))
 
   same-status : frameStatus s h ≡ frameStatus s′ h′
-  same-status = status-by s h (f .form) ∙ (λ i. statusFor (o .opcode i) (fields i) (length (o .value i) - meta i)) ∙ sym (status-by s′ h′ (f′ .form))
+  same-status = status-by s h (formed .form) ∙ (λ i. statusFor (o .opcode i) (fields i) (length (o .value i) - meta i)) ∙ sym (status-by s′ h′ (formed′ .form))
 
   same-value : bareValue s h ≡ bareValue s′ h′
   same-value =
-      bare-cut s h (whole-frame s h (f .whole) .inside) (f .form)
+      bare-cut s h (whole-frame s h (formed .whole) .inside) (formed .form)
       ∙ (λ i. take (length (o .value i) - meta i) (o .value i))
-      ∙ sym (bare-cut s′ h′ (whole-frame s′ h′ (f′ .whole) .inside) (f′ .form))
+      ∙ sym (bare-cut s′ h′ (whole-frame s′ h′ (formed′ .whole) .inside) (formed′ .form))
 
   same-request : requestOf s h ≡ requestOf s′ h′
   unfolding requestOf
   same-request =
       let command : commandOf (shapeOf (h .opcode) .operation) (extrasIn s) ≡ commandOf (shapeOf (h′ .opcode) .operation) (extrasIn s′) =
-      same-command (h .opcode) (extrasIn s) (extrasIn s′) (f .command) (o .write) ∙ ap (λ (n : ℕ). commandOf (shapeOf n .operation) (extrasIn s′)) (o .opcode) in
+      same-command (h .opcode) (extrasIn s) (extrasIn s′) (formed .command) (o .write) ∙ ap (λ (n : ℕ). commandOf (shapeOf n .operation) (extrasIn s′)) (o .opcode) in
       λ i. record {
         vbucket = o .vbucket i;
         cas = o .cas i;
@@ -150,23 +151,30 @@ module _ (s s′ : List ℕ) (f : Formed s) (f′ : Formed s′) (o : OneWrite s
         let x : Decision = same-decision (tableAt (tableOf b) clock) now i in
         replyBytes (o .opcode i) (o .opaque i) x (o .key i) (replyShows (x .done .reply) (tableOf b .rows) now (o .key i))
 
-    alike : (out : List ℕ) → ServedAlike config b clock s s′ out
-    unfolding served servedTable servedReply gateAll
-    alike out =
-        cases (soundBy config b)
-        (λ q. cases (ltb (length out) 1302)
-        (λ r. rw (q, r) (record { answer = record { outcome = refl; status = refl; reply = refl; needed = refl }; table = refl; reply = refl }))
-        (λ r. rw (q, r, f .whole, f′ .whole) (record {
-          answer = record {
-            outcome = refl;
-            status = ap (λ (x : Effect). x .status) (same-effect (tableAt (tableOf b) clock) now);
-            reply = ap length same-reply;
-            needed = refl;
-          };
-          table = same-table;
-          reply = ap (written out 0) same-reply;
-        })))
-        (λ q. rw q (record { answer = record { outcome = refl; status = refl; reply = refl; needed = refl }; table = refl; reply = refl }))
+    module _ (out : List ℕ) where
+      -- what is alike by the gate is alike
+      meet : {A : Type 0} (f f′ : Gate → A) → ((n need : ℕ) → f (Stop n need) ≡ f′ (Stop n need)) → f (Whole h) ≡ f′ (Whole h′)
+          → f (gateAll config b (length out) s) ≡ f′ (gateAll config b (length out) s′)
+      unfolding gateAll
+      meet f f′ stops frames =
+          cases (soundBy config b)
+          (λ q. cases (ltb (length out) 1302) (λ r. rw (q, r) (stops 4 0)) (λ r. rw (q, r, formed .whole, formed′ .whole) frames))
+          (λ q. rw q (stops 5 0))
+
+      alike : ServedAlike config b clock s s′ out
+      unfolding served servedTable servedReply
+      alike =
+          let status = ap (λ (x : Effect). x .status) (same-effect (tableAt (tableOf b) clock) now) in
+          record {
+            answer = record {
+              outcome = meet (λ g. servedOutcome (answerBy b clock s g)) (λ g. servedOutcome (answerBy b clock s′ g)) (λ n need. refl) refl;
+              status = meet (λ g. servedStatus (answerBy b clock s g)) (λ g. servedStatus (answerBy b clock s′ g)) (λ n need. refl) status;
+              reply = meet (λ g. servedLength (answerBy b clock s g)) (λ g. servedLength (answerBy b clock s′ g)) (λ n need. refl) (ap length same-reply);
+              needed = meet (λ g. servedNeeded (answerBy b clock s g)) (λ g. servedNeeded (answerBy b clock s′ g)) (λ n need. refl) refl;
+            };
+            table = meet (tableBy config b clock s) (tableBy config b clock s′) (λ n need. refl) same-table;
+            reply = meet (replyBy b clock s out) (replyBy b clock s′ out) (λ n need. refl) (ap (written out 0) same-reply);
+          }
 
 pub either-layout : (config : Config) → EitherLayout config
 either-layout config b clock s s′ out f f′ o = alike s s′ f f′ o config b clock out

@@ -65,12 +65,12 @@ module _ (t : Table) (clock : ℕ) (s : List ℕ) (h : Header) (whole : 24 + h .
       sym (statuses-in-order t clock s h)
       ∙ cases (formOk (shapeOf (h .opcode)) h)
       (λ f. cases (fieldRulesOk (shapeOf (h .opcode)) extras (bytesIn s (valueSpan h)))
-      (λ g. rw (built (h .opcode) command, f, g, at-fault f))
-      (λ g. rw (built (h .opcode) command, f, g)))
-      (λ f. rw (built (h .opcode) command, f))
+      (λ g. rw (f, g, at-fault f, built (h .opcode) command))
+      (λ g. rw (f, g, built (h .opcode) command)))
+      (λ f. rw (f, built (h .opcode) command))
 
 pub former-refused : (config : Config) → FormerRefused config
 unfolding served gateAll frameEffect
 former-refused config b clock s room sound roomy last whole command size =
-    rw (sound, le-ltb 1302 room roomy, whole)
+    rw (sound, le-ltb room 1302 roomy, whole)
     (refused (tableAt (tableOf b) clock) (clockAt (tableOf b) clock) s (headerOf s) (whole-frame s (headerOf s) whole .inside) command size last)
