@@ -31,7 +31,7 @@ use Rattle.ordered.specs.Purge.{stayingRows, purgeOrdered}
 use Rattle.ordered.specs.Damage.{soundOrdered}
 use Rattle.ordered.proofs.OrderLaws.{ordered-distinct}
 use Rattle.ordered.proofs.OrderedLaws.{ordered-laws}
-use Rattle.engines.specs.Engines.{rowsKept, putBy, purgeBy, engineOf}
+use Rattle.engines.specs.Engines.{rowsKept, putBy, purgeBy, engineIn}
 use Rattle.engines.specs.Damage.{soundIn, soundBy}
 use Rattle.engines.specs.Claims.{SoundPlain, SoundGoodBy, GoodSoundBy, PutGoodBy, PurgeGoodBy, FreshGoodBy, HeadGoodBy, ClockGoodBy, HeadPut, ClockPut}
 use Rattle.engines.proofs.EngineLaws.{engines-laws, fresh-kept}
@@ -131,7 +131,7 @@ rows-changed t ws g n a o = record {
 }
 
 module _ (t : Table) (key : Key) (d : Doc) (e : EntryGood (t .head .mark .0) (record { key = key; doc = d })) where
-  put-in : (k : EngineKind) → Good t → rowsKept k (t .rows) → Room (engineOf (record { engine = k })) (t .rows) key
+  put-in : (k : EngineKind) → Good t → rowsKept k (t .rows) → Room (engineIn k) (t .rows) key
       → Good (record { head = t .head; rows = putBy k (t .rows) key d })
   put-in Plain g o room = put-good t key d g e room
   put-in Ordered g o room =

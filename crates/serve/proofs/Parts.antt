@@ -70,10 +70,10 @@ module _ (s : List ℕ) (h : Header) where
       broken-status e = sym (by-fields ∙ asked-broken h _ _ (asked-is ∙ e))
 
       module _ (a : Instruction) (e : r ≡ Whole a) where
-        pub whole-goes : reachesDecision (frameStatus s h) ≡ true
+        pub whole-goes : reachesDecision s h ≡ true
         whole-goes = ap reachesDecision by-fields ∙ asked-goes h _ _ a (asked-is ∙ e)
 
-        pub whole-ask : a ≡ instructionOf (requestOf s h)
+        pub whole-ask : a ≡ instructionOf (requestOf (config .forcing) s h)
         whole-ask = asked-whole s h whole inside a (asked-is ∙ e)
 
         pub whole-value : part va 0 (a .size) ≡ bareValue s h
@@ -84,6 +84,6 @@ module _ (s : List ℕ) (h : Header) where
     unfolding frameStatus status
     other-status = sym (judged-other (shapeOf (h .opcode)) h (bytesIn s (extrasSpan h)) (bytesIn s (valueSpan h)) z)
 
-    pub other-stops : reachesDecision (frameStatus s h) ≡ false
+    pub other-stops : reachesDecision s h ≡ false
     unfolding frameStatus
     other-stops = form-stops h (bytesIn s (extrasSpan h)) (bytesIn s (valueSpan h)) z
