@@ -38,7 +38,7 @@ module _ (config : Config) (b : List ℕ) where
 -- ---- a good table
 module _ (config : Config) (t : Table) (g : GoodBy config t) where
   pub active-good : GoodBy config (activatedTable t)
-  active-good = state-good-by config t 1 g (omega arith, omega arith)
+  active-good = state-good-by config t _ g (omega arith, omega arith)
 
   pub good-dead : isDead (t .head) ≡ true → (activateOf config (tableBytes t) ≡ Dead) × (activatedBytes config (tableBytes t) ≡ tableBytes t)
   good-dead d =
