@@ -44,13 +44,14 @@ use Rattle.engines.proofs.Tables.{sound-good-by, good-sound-by}
 use Rattle.engines.specs.Engines.{engineOf}
 use Rattle.owning.specs.declared.Document.the-variants.{Expired as ExpiredBy}
 use Rattle.owning.specs.Owner.{readOf, readStatus, purgeOf, purgedBytes}
+use Rattle.owning.proofs.Activating.{activate-damaged}
 use Rattle.serving.specs.Serve.{gateAll, decisionOn, frameEffect, frameTable, served, servedTable}
 use Rattle.serving.proofs.Formed.{no}
 use Rattle.promises.specs.Merge.{docAt}
 use Rattle.promises.specs.Kept.{keptAt, laterAt}
 use Rattle.promises.specs.Expiry.{Expired, NotLive, keyIn}
 use Rattle.promises.specs.Listing.{docsIn}
-use Rattle.promises.specs.Clock.{TableCall, Serve, Purge, Read, clockOf, tableCalled, memoryAfter, raises, AllGiven, clockAfter, writesKey, Unwritten}
+use Rattle.promises.specs.Clock.{TableCall, Serve, Purge, Read, Activate, clockOf, tableCalled, memoryAfter, raises, AllGiven, clockAfter, writesKey, Unwritten}
 use Rattle.promises.specs.Clock.{KeepsLatest, ExpiredForGood, StaysExpired, ReadsAlone, SumsLater}
 use Rattle.promises.proofs.Kept.{kept-clock, kept-good}
 use Rattle.promises.proofs.Liveness.{is-expired, dead}
@@ -65,12 +66,14 @@ module _ (config : Config) (b : List ℕ) (damaged : soundBy config b ≡ false)
   stays (Serve c) = rw damaged
   stays (Purge clock bound) = rw damaged
   stays (Read clock k) = refl
+  stays Activate = activate-damaged config b damaged .1
 
   raises-none : (x : TableCall) → raises config b x ≡ false
   unfolding served gateAll purgeOf
   raises-none (Serve c) = rw damaged
   raises-none (Purge clock bound) = rw damaged
   raises-none (Read clock k) = refl
+  raises-none Activate = refl
 
   keeps-damaged : (xs : List TableCall) → keptAt (memoryAfter config b xs) ≡ clockAfter config (keptAt b) b xs
   keeps-damaged [] = refl

@@ -30,14 +30,15 @@ use Rattle.engines.specs.Damage.{soundBy}
 use Rattle.engines.specs.Claims.{GoodBy}
 use Rattle.engines.proofs.EngineLaws.{engines-laws}
 use Rattle.engines.proofs.Tables.{purge-good-by, good-sound-by, clock-good-by}
-use Rattle.owning.specs.Owner.{purgeOf, purgedTable, purgedBytes}
+use Rattle.owning.specs.Owner.{purgeOf, purgedTable, purgedBytes, isDead, activatedTable}
+use Rattle.owning.proofs.Activating.{active-good, good-dead, good-active}
 use Rattle.serving.specs.Serve.{servedOutcome, servedStatus, gateAll, frameEffect, frameChange, frameTable, answerBy, tableBy, served, servedTable}
 use Rattle.serving.proofs.Formed.{no, by-cond}
 use Rattle.serving.proofs.Gated.{was-open}
 use Rattle.serving.proofs.Change.{changing, change-good}
 use Rattle.serving.proofs.Clock.{clock-stays}
 use Rattle.promises.specs.Expiry.{opcode, keyIn}
-use Rattle.promises.specs.Clock.{TableCall, Serve, Purge, Read, clockOf, tableCalled, raises, Given, readOnly, writesKey}
+use Rattle.promises.specs.Clock.{TableCall, Serve, Purge, Read, Activate, clockOf, tableCalled, raises, Given, readOnly, writesKey}
 use Rattle.promises.proofs.Keeps.{nothing-stored}
 use Rattle.promises.proofs.Alive.{read-only-keeps}
 
@@ -177,9 +178,17 @@ module _ (config : Config) (t : Table) (g : GoodBy config t) where
       docs = λ k _. subst (Left (findRow (t .rows) k)) (sym (purged-doc k)) (left-by (findRow (t .rows) k));
     }
 
+  -- ---- making it active
+  activates : Steps config t Activate
+  activates =
+      cases (isDead (t .head))
+      (λ d. record { table = t; good = g; bytes = good-dead config t g d .1; kept = refl; docs = λ k _. inl refl })
+      (λ d. record { table = activatedTable t; good = active-good config t g; bytes = good-active config t g d .1; kept = refl; docs = λ k _. inl refl })
+
   -- ---- any call
   pub step : (x : TableCall) → Given x → Steps config t x
   unfolding served servedTable
   step (Serve c) p = by-gate (c .clock) (c .received) (p .0) (p .1) (length (c .reply)) (gateAll config b (length (c .reply)) (c .received)) refl
   step (Purge clock bound) p = purges clock bound p
   step (Read clock k) p = record { table = t; good = g; bytes = refl; kept = refl; docs = λ j _. inl refl }
+  step Activate p = activates
