@@ -13,6 +13,7 @@ use Rattle.octets.proofs.Choices.{cases}
 use Rattle.digits.specs.declared.Number.{Number}
 use Rattle.digits.specs.Decimal.{numberOf}
 use Rattle.digits.proofs.DecimalLaws.{digits-most}
+use Rattle.numbers.specs.Claims.{NumbersFit}
 use Rattle.numbers.specs.declared.Cas.{Cas}
 use Rattle.numbers.specs.Order.{modeOf}
 use Rattle.numbers.specs.Expiry.{absolute}
@@ -39,7 +40,7 @@ use Rattle.commands.specs.Rules.{ruleOf, testsOf, firstStatus}
 use Rattle.effects.specs.Done.{doneOf, nothing, storing, plainNumbers, isDelete, metaNumbers, sum}
 use Rattle.decision.specs.Decision.{decision}
 use Rattle.decision.specs.Decide.{Request, contextOf, decide, instructionOf, docFrom, bytesFrom}
-use Rattle.decision.specs.Claims.{NumbersFit, SoundDoc, Formed, StatusStoresNothing, StoresWithRoom, StoresSound}
+use Rattle.decision.specs.Claims.{SoundDoc, Formed, StatusStoresNothing, StoresWithRoom, StoresSound}
 use Rattle.commands.proofs.Passed.{passed}
 
 -- the tests of a request

@@ -5,7 +5,7 @@ use mathlib.Core.Bool.{Bool, true, cond, _||_}
 use mathlib.Core.List.{[]}
 use mathlib.Core.Option.{Option, none, some}
 use lib.ListN.{length}
-use Rattle.numbers.specs.declared.Numbers.{Numbers}
+use Rattle.numbers.specs.Claims.{NumbersFit}
 use Rattle.numbers.specs.Order.{modeOf}
 use Rattle.document.specs.declared.Head.{Head}
 use Rattle.document.specs.Head.{marked}
@@ -18,12 +18,6 @@ use Rattle.commands.specs.declared.Meta.{Meta}
 use Rattle.effects.specs.Done.{isDelete}
 use Rattle.decision.specs.Decide.{Request, Effect, decide}
 use Rattle.decision.specs.Merging.{RequestAt, MergingRequest, carried}
-
-pub record NumbersFit (n : Numbers) : Type 0 where
-  pub flags : n .flags < 2 ^ 32
-  pub expiry : n .expiry < 2 ^ 32
-  pub revision : n .revision .0 < 2 ^ 64
-  pub cas : n .cas .0 < 2 ^ 64
 
 -- a document that a table with this mark may hold
 pub record SoundDoc (mark : ℕ) (d : Doc) : Type 0 where

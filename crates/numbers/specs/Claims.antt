@@ -1,5 +1,5 @@
 -- What is claimed of the published order, that in both modes it is a strict total order on the four numbers, and of the seconds left. Proved in proofs/OrderLaws.antt and proofs/LeftLaws.antt.
-use Prim.Native.Nat.{ℕ, _+_, _≤_, _<_}
+use Prim.Native.Nat.{ℕ, _+_, _^_, _≤_, _<_}
 use mathlib.Core.Path.{_≡_}
 use mathlib.Core.Bool.{true, false, not, _&&_}
 use lib.Dec.{eqb, leb}
@@ -9,6 +9,13 @@ use Rattle.numbers.specs.Expiry.{secondsLeft, secondsIn, expired}
 use Rattle.numbers.specs.declared.Numbers.{Numbers}
 use Rattle.numbers.specs.declared.Mode.{Mode}
 use Rattle.numbers.specs.Order.{greater}
+
+-- each number fits its bytes, as in every value of the declared type
+pub record NumbersFit (n : Numbers) : Type 0 where
+  pub flags : n .flags < 2 ^ 32
+  pub expiry : n .expiry < 2 ^ 32
+  pub revision : n .revision .0 < 2 ^ 64
+  pub cas : n .cas .0 < 2 ^ 64
 
 pub record StrictTotal (m : Mode) : Type 0 where
   pub irreflexive : (a : Numbers) → greater m a a ≡ false

@@ -13,7 +13,7 @@ use Rattle.numbers.specs.Expiry.{secondsLeft, expired, passes, absolute}
 use Rattle.document.specs.Stored.{accepted, live}
 use Rattle.shape.specs.Shapes.{commands, unbuilt, lookUp, among, shapeOf}
 use Rattle.header.specs.Header.{headerOf, frontBytes, middleBytes, backBytes, headerBytes}
-use Rattle.with_meta.specs.WithMeta.{carriedNumbers, optionsOf, sectionOf, withMeta}
+use Rattle.with_meta.specs.WithMeta.{presentNumbers, carriedNumbers, optionsOf, sectionOf, withMeta}
 use Rattle.with_meta.specs.Section.{fieldOk, fieldSize, walk, fieldsOk, sectionOk}
 use Rattle.with_meta.specs.FieldRules.{numbersOk, bodyOk, withMetaOk}
 use Rattle.rules.specs.Rules.{formOk, metaSize, fieldRulesOk, judged, status}
@@ -34,7 +34,7 @@ use Rattle.promises.specs.Judged.{Judged}
 
 plain-judged : Judged (record { engine = Plain })
 unfolding pasted written beFrom be bytesOf zeros same digits digitsIn numberOf numberFrom allDigits isDigit valueFrom greater above lead second
-    secondsLeft expired passes absolute accepted live commands unbuilt lookUp among shapeOf headerOf frontBytes middleBytes backBytes headerBytes carriedNumbers
+    secondsLeft expired passes absolute accepted live commands unbuilt lookUp among shapeOf headerOf frontBytes middleBytes backBytes headerBytes presentNumbers carriedNumbers
     optionsOf sectionOf withMeta fieldOk fieldSize walk fieldsOk sectionOk formOk numbersOk bodyOk withMetaOk metaSize fieldRulesOk judged status
     gateOf extrasSpan keySpan valueSpan frameStatus ruleOf testsOf firstStatus firstFailure decision doneOf plainOf counterOf metaCommand commandOf
     bareValue requestOf slotOf sizeBytes shortBytes longBytes slotBytes docOf keyOf rowOf slotFor usedBytes rowBytes headOf tableOf headBytes
@@ -44,7 +44,7 @@ plain-judged = refl
 
 ordered-judged : Judged (record { engine = Ordered })
 unfolding pasted written beFrom be bytesOf zeros same digits digitsIn numberOf numberFrom allDigits isDigit valueFrom greater above lead second
-    secondsLeft expired passes absolute accepted live commands unbuilt lookUp among shapeOf headerOf frontBytes middleBytes backBytes headerBytes carriedNumbers
+    secondsLeft expired passes absolute accepted live commands unbuilt lookUp among shapeOf headerOf frontBytes middleBytes backBytes headerBytes presentNumbers carriedNumbers
     optionsOf sectionOf withMeta fieldOk fieldSize walk fieldsOk sectionOk formOk numbersOk bodyOk withMetaOk metaSize fieldRulesOk judged status
     gateOf extrasSpan keySpan valueSpan frameStatus ruleOf testsOf firstStatus firstFailure decision doneOf plainOf counterOf metaCommand commandOf
     bareValue requestOf slotOf sizeBytes shortBytes longBytes slotBytes docOf keyOf rowOf slotFor usedBytes rowBytes headOf tableOf headBytes

@@ -1,4 +1,4 @@
--- A worked list that meets the premises of demand 3 on bytes, on a table of two rows, in both modes. Proved in proofs/Worked.antt.
+-- A worked list that meets the premises of demand 3 on bytes, on a table of two rows, in both modes and both layouts of the extras. Proved in proofs/Worked.antt.
 use Prim.Native.Nat.{ℕ, _+_}
 use mathlib.Core.Path.{_≡_}
 use mathlib.Core.Bool.{true, false, cond}
@@ -50,6 +50,12 @@ frame mode op revision cas rest =
     ask op (24 + length (options mode))
     (0 ∷ 0 ∷ 0 ∷ 0 ∷ 0 ∷ 0 ∷ 0 ∷ 0 ∷ 0 ∷ 0 ∷ 0 ∷ 0 ∷ 0 ∷ 0 ∷ 0 ∷ revision ∷ 0 ∷ 0 ∷ 0 ∷ 0 ∷ 0 ∷ 0 ∷ 0 ∷ cas ∷ options mode ++ rest)
 
+-- order 8, in revision mode: the same in the 2012 layout, with an nru of 255; last-write-wins has the present one
+abbrev former : ℕ → ℕ → ℕ → ℕ → List ℕ → List ℕ
+former mode op revision cas rest =
+    cond (eqb mode 2) (frame mode op revision cas rest)
+    (ask op 25 (0 ∷ 0 ∷ 0 ∷ 0 ∷ 0 ∷ 0 ∷ 0 ∷ 0 ∷ 0 ∷ 0 ∷ 0 ∷ 0 ∷ 0 ∷ 0 ∷ 0 ∷ cas ∷ 0 ∷ 0 ∷ 0 ∷ 0 ∷ 0 ∷ 0 ∷ 0 ∷ revision ∷ 255 ∷ rest))
+
 -- Set (a2) and quiet Set (a3), Delete (a8) and quiet Delete (a9)
 abbrev set : ℕ → ℕ → Key → ℕ → ℕ → List ℕ
 set mode op key revision cas = frame mode op revision cas (key ++ cas ∷ [])
@@ -57,22 +63,28 @@ set mode op key revision cas = frame mode op revision cas (key ++ cas ∷ [])
 abbrev delete : ℕ → ℕ → Key → ℕ → ℕ → List ℕ
 delete mode op key revision cas = frame mode op revision cas key
 
+abbrev formerSet : ℕ → ℕ → Key → ℕ → ℕ → List ℕ
+formerSet mode op key revision cas = former mode op revision cas (key ++ cas ∷ [])
+
+abbrev formerDelete : ℕ → ℕ → Key → ℕ → ℕ → List ℕ
+formerDelete mode op key revision cas = former mode op revision cas key
+
 abbrev pub calls : ℕ → List Call
 calls mode =
     -- a new key
     at 100 (set mode 0xa2 mykey 10 60)
     -- older, though sent later
     ∷ at 101 (set mode 0xa3 mykey 9 59)
-    -- equal in all four, at a clock that went back
-    ∷ at 99 (set mode 0xa2 mykey 10 60)
+    -- equal in all four, in the other layout and at a clock that went back
+    ∷ at 99 (formerSet mode 0xa2 mykey 10 60)
     -- a tombstone that is greater
-    ∷ at 102 (delete mode 0xa8 mykey 11 61)
+    ∷ at 102 (formerDelete mode 0xa8 mykey 11 61)
     -- older than the expired document
     ∷ at 102 (set mode 0xa2 hello 3 39)
     -- greater than it
     ∷ at 1000000 (delete mode 0xa9 hello 5 41)
     -- of a larger revision and a smaller CAS: here the modes part
-    ∷ at 1000000 (set mode 0xa3 hello 6 38)
+    ∷ at 1000000 (formerSet mode 0xa3 hello 6 38)
     ∷ []
 
 -- the list meets the premises, and this is what it gives

@@ -14,12 +14,12 @@ use Rattle.with_meta.specs.declared.WithMeta.{WithMeta}
 use Rattle.with_meta.specs.WithMeta.{withMeta, sectionOf}
 use Rattle.with_meta.specs.FieldRules.{withMetaOk}
 
--- "wrong extras size": the sizes that each class may have
+-- "wrong extras size": the sizes that each class may have; order 8: "01's list of extras sizes is amended", by the 25 bytes of the 2012 layout
 abbrev pub extrasOk : Extras → ℕ → Bool
 extrasOk Nothing n = eqb n 0
 extrasOk FlagsExpiry n = eqb n 8
 extrasOk Counter n = eqb n 20
-extrasOk Meta n = eqb n 24 || (eqb n 26 || (eqb n 28 || eqb n 30))
+extrasOk Meta n = eqb n 24 || (eqb n 25 || (eqb n 26 || (eqb n 28 || eqb n 30)))
 extrasOk Count n = eqb n 0 || eqb n 4
 extrasOk Expiry n = eqb n 4
 

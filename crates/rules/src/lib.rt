@@ -18,7 +18,7 @@ fn extras_ok(extras: Extras, n: u8) -> bool
         Extras::Nothing => n == 0,
         Extras::FlagsExpiry => n == 8,
         Extras::Counter => n == 20,
-        Extras::Meta => (n == 24) | ((n == 26) | ((n == 28) | (n == 30))),
+        Extras::Meta => (n == 24) | ((n == 25) | ((n == 26) | ((n == 28) | (n == 30)))),
         Extras::Count => (n == 0) | (n == 4),
         Extras::Expiry => n == 4,
     }

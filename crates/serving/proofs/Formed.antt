@@ -16,7 +16,8 @@ use Rattle.shape.specs.Shapes.{commands, shapeOf}
 use Rattle.shape.proofs.ShapeLaws.{each-shape, any-shape}
 use Rattle.header.specs.declared.Header.{Header}
 use Rattle.with_meta.specs.declared.WithMeta.{WithMeta}
-use Rattle.with_meta.specs.WithMeta.{withMeta, carriedNumbers}
+use Rattle.with_meta.specs.WithMeta.{withMeta}
+use Rattle.with_meta.proofs.Layouts.{carried-fits}
 use Rattle.with_meta.specs.FieldRules.{numbersOk, bodyOk, withMetaOk}
 use Rattle.rules.specs.Rules.{formOk, extrasOk, keyOk, countOk, fieldRulesOk, judged, status}
 use Rattle.rules.proofs.RuleLaws.{formed}
@@ -140,10 +141,10 @@ module _ (s : List ℕ) (y : Bytes s) (h : Header) (g : reachesDecision (frameSt
   Right c = Formed c × Named (h .keylen) c
 
   meta-right : (k : MetaKind) (m : ℕ) → 1 ≤ h .keylen → withMetaOk m (withMeta extras) value ≡ true → (isDelete k ≡ true → m ≡ 2) → Right (metaCommand k (withMeta extras))
-  unfolding metaCommand withMeta carriedNumbers
+  unfolding metaCommand
   meta-right k m n r d = (
     (
-      record { flags = num-below extras 0 4 bytes; expiry = num-below extras 4 4 bytes; revision = num-below extras 8 8 bytes; cas = num-below extras 16 8 bytes },
+      carried-fits extras bytes,
       cas-least m (withMeta extras) value r,
       λ t. bare-delete (withMeta extras) value (rw (d t) at r),
     ),

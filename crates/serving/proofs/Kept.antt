@@ -21,7 +21,7 @@ use Rattle.commands.specs.Rules.{ruleOf, statusBy}
 use Rattle.effects.specs.Done.{doneOf, nothing}
 use Rattle.decision.specs.Decision.{decision}
 use Rattle.decision.specs.Decide.{Request, contextOf, decide, instructionOf, docFrom, bytesFrom}
-use Rattle.decision.specs.Claims.{NumbersFit}
+use Rattle.numbers.specs.Claims.{NumbersFit}
 use Rattle.rows.specs.Row.{Row}
 use Rattle.rows.specs.Find.{findRow}
 use Rattle.rows.specs.Good.{AllGood}

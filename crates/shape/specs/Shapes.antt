@@ -32,7 +32,7 @@ plainWrite = record { extras = FlagsExpiry; key = 1; value = 1; meta = 0 }
 abbrev pub counter : Form
 counter = record { extras = Counter; key = 1; value = 0; meta = 0 }
 
--- with-meta: extras of 24, 26, 28 or 30 bytes; after the key a value (1) or none (2), then the extended meta
+-- with-meta: extras of 24, 25, 26, 28 or 30 bytes; after the key a value (1) or none (2), then the extended meta
 abbrev pub metaWrite : ℕ → Form
 metaWrite m = record { extras = Meta; key = 1; value = 1; meta = m }
 

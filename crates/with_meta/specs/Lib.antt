@@ -1,3 +1,4 @@
 pub mod WithMeta
 pub mod Section
 pub mod FieldRules
+pub mod Claims

@@ -1,6 +1,6 @@
 // What a with-meta request carries in its extras and in its extended meta, and the rules that its fields must keep.
 ghost use mathlib.Core.Path.{_≡_};
-ghost use Rattle.with_meta.specs.WithMeta.{carriedNumbers, optionsOf, sectionOf, withMeta};
+ghost use Rattle.with_meta.specs.WithMeta.{presentNumbers, formerNumbers, carriedNumbers, optionsOf, sectionOf, withMeta};
 ghost use Rattle.with_meta.specs.Section.{fieldOk, fieldsOk, sectionOk};
 ghost use Rattle.with_meta.specs.FieldRules.{numbersOk, bodyOk, withMetaOk};
 use numbers::Cas;
@@ -15,8 +15,9 @@ pub struct WithMeta {
     pub section: u16,
 }
 
-fn numbers_of(extras: &[u8]) -> Numbers
-    ensures { λ r. ⌜ r ≡ carriedNumbers (now (extras .entry)) ⌝ }
+// The numbers in extras of 24, 26, 28 and 30 bytes.
+fn present_numbers(extras: &[u8]) -> Numbers
+    ensures { λ r. ⌜ r ≡ presentNumbers (now (extras .entry)) ⌝ }
 {
     Numbers {
         flags: octets::be32(extras, 0),
@@ -24,6 +25,27 @@ fn numbers_of(extras: &[u8]) -> Numbers
         revision: Revision(octets::be64(extras, 8)),
         cas: Cas(octets::be64(extras, 16)),
     }
+}
+
+// The numbers in extras of the 2012 layout, which has 25 bytes and the CAS before the revision.
+fn former_numbers(extras: &[u8]) -> Numbers
+    ensures { λ r. ⌜ r ≡ formerNumbers (now (extras .entry)) ⌝ }
+{
+    Numbers {
+        flags: octets::be32(extras, 0),
+        expiry: octets::be32(extras, 4),
+        revision: Revision(octets::be64(extras, 16)),
+        cas: Cas(octets::be64(extras, 8)),
+    }
+}
+
+fn numbers_of(extras: &[u8]) -> Numbers
+    ensures { λ r. ⌜ r ≡ carriedNumbers (now (extras .entry)) ⌝ }
+{
+    if extras.len() == 25 {
+        return former_numbers(extras);
+    }
+    present_numbers(extras)
 }
 
 fn options_of(extras: &[u8]) -> u32

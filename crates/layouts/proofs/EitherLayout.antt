@@ -1,0 +1,180 @@
+-- Serving goes by the write that the extras carry, and not by their layout.
+use Prim.Native.Nat.{ℕ, _+_, _-_, _≤_}
+use mathlib.Core.Path.{_≡_, refl, sym, ap, _∙_}
+use mathlib.Core.Bool.{Bool, true, false, not, cond}
+use mathlib.Core.List.{List}
+use native.Mathlib.Omega.{arith}
+use lib.ListN.{length, take}
+use lib.Dec.{ltb, leb, eqb}
+use lib.Seq.{take-take}
+use borrow.Author.Tests.{leb-true}
+use Rattle.octets.specs.Parts.{written}
+use Rattle.octets.proofs.Choices.{cases, both}
+use Rattle.octets.proofs.Lists.{part-length}
+use Rattle.shape.specs.Shapes.{among, shapeOf}
+use Rattle.header.specs.declared.Header.{Header}
+use Rattle.header.specs.Header.{headerOf}
+use Rattle.with_meta.specs.declared.WithMeta.{WithMeta}
+use Rattle.with_meta.specs.WithMeta.{withMeta}
+use Rattle.with_meta.specs.FieldRules.{withMetaOk}
+use Rattle.rules.specs.Rules.{formOk, metaSize, fieldRulesOk, judged, status}
+use Rattle.request.proofs.Gated.{whole-frame}
+use Rattle.request.specs.declared.Gate.{Gate}
+use Rattle.request.specs.declared.Gate.the-variants.{Stop, Whole}
+use Rattle.request.specs.Reading.{gateOf, frameStatus, extrasSpan, keySpan, valueSpan, bytesIn}
+use Rattle.commands.specs.declared.MetaKind.the-variants.{Set, Add, Delete}
+use Rattle.decision.specs.Decision.{decision}
+use Rattle.decision.specs.Decide.{Request, Effect, instructionOf, effectOf}
+use Rattle.decision.specs.declared.Decision.{Decision}
+use Rattle.decode.specs.Decode.{metaCommand, commandOf, bareValue, requestOf}
+use Rattle.engine.specs.declared.Config.{Config}
+use Rattle.engines.specs.Damage.{soundBy}
+use Rattle.rows.specs.Table.{Table, tableOf, tableAt, clockAt, tableBytes}
+use Rattle.rows.specs.Find.{findRow}
+use Rattle.serving.specs.Reply.{replyShows, replyBytes}
+use Rattle.serving.specs.Serve.{servedOutcome, servedStatus, servedLength, servedNeeded, gateAll, contextOn, refusal, reachesDecision, decisionOn, frameEffect, tableChanged, frameTable, frameReply, answerBy, tableBy, replyBy, served, servedTable, servedReply}
+use Rattle.promises.specs.Expiry.{opcode, extrasIn, keyIn, withMetas}
+use Rattle.promises.proofs.Asks.{at-opcode}
+use Rattle.layouts.specs.Layouts.{valueIn, Formed, OneWrite, ServedAlike, EitherLayout}
+
+-- ---- what goes by the write alone
+-- the command, by its opcode
+same-command : (n : ℕ) (e e′ : List ℕ) → among n withMetas ≡ true → withMeta e ≡ withMeta e′ → commandOf (shapeOf n .operation) e ≡ commandOf (shapeOf n .operation) e′
+unfolding shapeOf commandOf
+same-command n e e′ m w =
+    at-opcode (λ x. commandOf (shapeOf x .operation) e ≡ commandOf (shapeOf x .operation) e′) n withMetas
+    (ap (metaCommand Set) w, (ap (metaCommand Set) w, (ap (metaCommand Add) w, (ap (metaCommand Add) w, (ap (metaCommand Delete) w, (ap (metaCommand Delete) w, tt)))))) m
+
+-- the field rules
+same-fields : (n : ℕ) (e e′ value : List ℕ) → among n withMetas ≡ true → withMeta e ≡ withMeta e′ → fieldRulesOk (shapeOf n) e value ≡ fieldRulesOk (shapeOf n) e′ value
+unfolding shapeOf fieldRulesOk
+same-fields n e e′ value m w =
+    let set : withMetaOk 1 (withMeta e) value ≡ withMetaOk 1 (withMeta e′) value = ap (λ (x : WithMeta). withMetaOk 1 x value) w in
+    let delete : withMetaOk 2 (withMeta e) value ≡ withMetaOk 2 (withMeta e′) value = ap (λ (x : WithMeta). withMetaOk 2 x value) w in
+    at-opcode (λ x. fieldRulesOk (shapeOf x) e value ≡ fieldRulesOk (shapeOf x) e′ value) n withMetas
+    (set, (set, (set, (set, (delete, (delete, tt)))))) m
+
+-- the bytes of extended meta
+same-meta : (n : ℕ) (e e′ : List ℕ) → withMeta e ≡ withMeta e′ → metaSize (shapeOf n) e ≡ metaSize (shapeOf n) e′
+unfolding metaSize withMeta
+same-meta n e e′ w = ap (λ (x : WithMeta). cond (eqb (shapeOf n .meta) 0) 0 (x .section)) w
+
+-- the reader's status of a right form
+abbrev statusFor : ℕ → Bool → ℕ → ℕ
+statusFor n fields size = cond (not (eqb (shapeOf n .status) 0)) (shapeOf n .status) (cond (not fields) 0x04 (cond (ltb 1024 size) 0x03 0))
+
+status-by : (s : List ℕ) (h : Header) → formOk (shapeOf (h .opcode)) h ≡ true
+    → frameStatus s h
+    ≡ statusFor (h .opcode) (fieldRulesOk (shapeOf (h .opcode)) (bytesIn s (extrasSpan h)) (bytesIn s (valueSpan h)))
+    (length (bytesIn s (valueSpan h)) - metaSize (shapeOf (h .opcode)) (bytesIn s (extrasSpan h)))
+unfolding frameStatus status judged
+status-by s h e = rw e
+
+-- a value before its extended meta is cut from what follows the key
+module _ (s : List ℕ) (h : Header) (whole : 24 + h .body ≤ length s) (form : formOk (shapeOf (h .opcode)) h ≡ true) where
+  abbrev section : ℕ
+  section = metaSize (shapeOf (h .opcode)) (bytesIn s (extrasSpan h))
+
+  pub inside : h .extlen + h .keylen ≤ h .body
+  unfolding formOk
+  inside =
+      let a = both (eqb (h .datatype) 0) _ form in
+      leb-true (h .extlen + h .keylen) (h .body) (both (leb (h .extlen + h .keylen) (h .body)) _ (a .1) .0)
+
+  value-length : length (bytesIn s (valueSpan h)) ≡ valueSpan h .len
+  unfolding valueSpan
+  value-length = part-length s (valueSpan h .at) (valueSpan h .len) (omega (arith, inside))
+
+  bare-cut : bareValue s h ≡ take (length (bytesIn s (valueSpan h)) - section) (bytesIn s (valueSpan h))
+  unfolding bareValue
+  bare-cut = rw (value-length, take-take (valueSpan h .len - section) (valueSpan h .len) _ (omega arith))
+
+-- ---- two frames that carry one write
+module _ (s s′ : List ℕ) (formed : Formed s) (formed′ : Formed s′) (o : OneWrite s s′) where
+  abbrev h : Header
+  h = headerOf s
+
+  abbrev h′ : Header
+  h′ = headerOf s′
+
+  meta : metaSize (shapeOf (h .opcode)) (extrasIn s) ≡ metaSize (shapeOf (h′ .opcode)) (extrasIn s′)
+  meta = same-meta (h .opcode) (extrasIn s) (extrasIn s′) (o .write) ∙ ap (λ (n : ℕ). metaSize (shapeOf n) (extrasIn s′)) (o .opcode)
+
+  fields : fieldRulesOk (shapeOf (h .opcode)) (extrasIn s) (valueIn s) ≡ fieldRulesOk (shapeOf (h′ .opcode)) (extrasIn s′) (valueIn s′)
+  fields =
+      same-fields (h .opcode) (extrasIn s) (extrasIn s′) (valueIn s) (formed .command) (o .write)
+      ∙ (λ i. fieldRulesOk (shapeOf (o .opcode i)) (extrasIn s′) (o .value i))
+
+  same-status : frameStatus s h ≡ frameStatus s′ h′
+  same-status = status-by s h (formed .form) ∙ (λ i. statusFor (o .opcode i) (fields i) (length (o .value i) - meta i)) ∙ sym (status-by s′ h′ (formed′ .form))
+
+  same-value : bareValue s h ≡ bareValue s′ h′
+  same-value =
+      bare-cut s h (whole-frame s h (formed .whole) .inside) (formed .form)
+      ∙ (λ i. take (length (o .value i) - meta i) (o .value i))
+      ∙ sym (bare-cut s′ h′ (whole-frame s′ h′ (formed′ .whole) .inside) (formed′ .form))
+
+  same-request : requestOf s h ≡ requestOf s′ h′
+  unfolding requestOf
+  same-request =
+      let command : commandOf (shapeOf (h .opcode) .operation) (extrasIn s) ≡ commandOf (shapeOf (h′ .opcode) .operation) (extrasIn s′) =
+      same-command (h .opcode) (extrasIn s) (extrasIn s′) (formed .command) (o .write) ∙ ap (λ (n : ℕ). commandOf (shapeOf n .operation) (extrasIn s′)) (o .opcode) in
+      λ i. record {
+        vbucket = o .vbucket i;
+        cas = o .cas i;
+        quiet = shapeOf (o .opcode i) .quiet;
+        key = o .key i;
+        value = same-value i;
+        command = command i;
+      }
+
+  same-decision : (t : Table) (clock : ℕ) → decisionOn t clock s h ≡ decisionOn t clock s′ h′
+  unfolding decisionOn
+  same-decision t clock =
+      λ i. cond (reachesDecision (same-status i)) (decision (contextOn t clock (findRow (t .rows) (o .key i))) (instructionOf (same-request i))) (refusal (t .head) (same-status i))
+
+  same-effect : (t : Table) (clock : ℕ) → frameEffect t clock s h ≡ frameEffect t clock s′ h′
+  unfolding frameEffect
+  same-effect t clock = λ i. effectOf (same-request i) (findRow (t .rows) (o .key i)) (same-decision t clock i)
+
+  module _ (config : Config) (b : List ℕ) (clock : ℕ) where
+    abbrev now : ℕ
+    now = clockAt (tableOf b) clock
+
+    same-table : frameTable config b clock s h ≡ frameTable config b clock s′ h′
+    unfolding frameTable
+    same-table = λ i. tableBytes (tableChanged config (tableAt (tableOf b) clock) (o .key i) (same-effect (tableAt (tableOf b) clock) now i))
+
+    same-reply : frameReply b clock s h ≡ frameReply b clock s′ h′
+    unfolding frameReply
+    same-reply = λ i.
+        let x : Decision = same-decision (tableAt (tableOf b) clock) now i in
+        replyBytes (o .opcode i) (o .opaque i) x (o .key i) (replyShows (x .done .reply) (tableOf b .rows) now (o .key i))
+
+    module _ (out : List ℕ) where
+      -- what is alike by the gate is alike
+      meet : {A : Type 0} (f f′ : Gate → A) → ((n need : ℕ) → f (Stop n need) ≡ f′ (Stop n need)) → f (Whole h) ≡ f′ (Whole h′)
+          → f (gateAll config b (length out) s) ≡ f′ (gateAll config b (length out) s′)
+      unfolding gateAll
+      meet f f′ stops frames =
+          cases (soundBy config b)
+          (λ q. cases (ltb (length out) 1302) (λ r. rw (q, r) (stops 4 0)) (λ r. rw (q, r, formed .whole, formed′ .whole) frames))
+          (λ q. rw q (stops 5 0))
+
+      alike : ServedAlike config b clock s s′ out
+      unfolding served servedTable servedReply
+      alike =
+          let status = ap (λ (x : Effect). x .status) (same-effect (tableAt (tableOf b) clock) now) in
+          record {
+            answer = record {
+              outcome = meet (λ g. servedOutcome (answerBy b clock s g)) (λ g. servedOutcome (answerBy b clock s′ g)) (λ n need. refl) refl;
+              status = meet (λ g. servedStatus (answerBy b clock s g)) (λ g. servedStatus (answerBy b clock s′ g)) (λ n need. refl) status;
+              reply = meet (λ g. servedLength (answerBy b clock s g)) (λ g. servedLength (answerBy b clock s′ g)) (λ n need. refl) (ap length same-reply);
+              needed = meet (λ g. servedNeeded (answerBy b clock s g)) (λ g. servedNeeded (answerBy b clock s′ g)) (λ n need. refl) refl;
+            };
+            table = meet (tableBy config b clock s) (tableBy config b clock s′) (λ n need. refl) same-table;
+            reply = meet (replyBy b clock s out) (replyBy b clock s′ out) (λ n need. refl) (ap (written out 0) same-reply);
+          }
+
+pub either-layout : (config : Config) → EitherLayout config
+either-layout config b clock s s′ out f f′ o = alike s s′ f f′ o config b clock out

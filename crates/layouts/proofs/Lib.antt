@@ -1,0 +1,2 @@
+pub mod EitherLayout
+pub mod FormerRefused
