@@ -152,11 +152,11 @@ extern "C" {
 #define CONTACTS_OP_PREPENDQ 0x1a
 #define CONTACTS_OP_TOUCH 0x1c                /* 4 extras, key; never quiet */
 #define CONTACTS_OP_GET_AND_TOUCH 0x1d        /* as Touch */
-#define CONTACTS_OP_SET_WITH_META 0xa2        /* 24, 26, 28 or 30 extras, key, a value of 1 byte or more, meta */
+#define CONTACTS_OP_SET_WITH_META 0xa2        /* 24 to 26, 28 or 30 extras, key, a value of 1 byte or more, meta */
 #define CONTACTS_OP_SETQ_WITH_META 0xa3
 #define CONTACTS_OP_ADD_WITH_META 0xa4        /* as Set with meta */
 #define CONTACTS_OP_ADDQ_WITH_META 0xa5
-#define CONTACTS_OP_DELETE_WITH_META 0xa8     /* 24, 26, 28 or 30 extras, key, meta */
+#define CONTACTS_OP_DELETE_WITH_META 0xa8     /* 24 to 26, 28 or 30 extras, key, meta */
 #define CONTACTS_OP_DELETEQ_WITH_META 0xa9
 #define CONTACTS_OP_GET_KEYS 0xb8             /* no extras or 4, no key or one to start at; never quiet */
 
@@ -196,6 +196,13 @@ extern "C" {
 #define CONTACTS_META_AT_LENGTH_26 24         /* 2 bytes, in extras of 26 */
 #define CONTACTS_META_AT_LENGTH_30 28         /* 2 bytes, in extras of 30 */
 #define CONTACTS_META_MAX 0xfffffffeffffffff
+
+/* The same in the layout of 2012, which old shore servers send: extras of 25 bytes, the CAS before the revision. The length
+ * selects it. It has no options and no extended meta, so in last-write-wins, which asks for an option, it is 0x04. */
+#define CONTACTS_META_EXTRAS_2012 25          /* flags, expiry, CAS, revision, nru */
+#define CONTACTS_META_2012_AT_CAS 8           /* 8 bytes */
+#define CONTACTS_META_2012_AT_REVISION 16     /* 8 bytes */
+#define CONTACTS_META_2012_AT_NRU 24          /* 1 byte, any: it is ignored */
 
 #define CONTACTS_OPTION_FORCE 0x01            /* no comparison; replica and pending tables take it too */
 #define CONTACTS_OPTION_FORCE_ACCEPT 0x02     /* required in last-write-wins, refused in revision mode */

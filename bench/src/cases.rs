@@ -1,7 +1,7 @@
 //! What is served on what: a table, free or full, and a request.
 
 use contact_tests::answers::{Engine, Tally};
-use contact_tests::frame::{meta_extras, plain_extras, touch_extras, Frame};
+use contact_tests::frame::{meta_extras, meta_extras_of_2012, plain_extras, touch_extras, Frame};
 use contact_tests::rendering;
 use contacts::{opcode, Mode, State, Status};
 
@@ -120,6 +120,9 @@ pub enum Request {
     Set,
     SetWithMeta,
     SetWithMetaRefused,
+    /// In the layout of 2012.
+    SetWithMetaOf2012,
+    SetWithMetaOf2012Refused,
     Noop,
     /// Without a start and a count.
     GetKeys,
@@ -137,12 +140,14 @@ pub enum Request {
 }
 
 impl Request {
-    const ALL: [Request; 15] = [
+    const ALL: [Request; 17] = [
         Request::GetHit,
         Request::GetMiss,
         Request::Set,
         Request::SetWithMeta,
         Request::SetWithMetaRefused,
+        Request::SetWithMetaOf2012,
+        Request::SetWithMetaOf2012Refused,
         Request::Noop,
         Request::GetKeys,
         Request::GetHitEarlier,
@@ -162,6 +167,8 @@ impl Request {
             Request::Set => "Set",
             Request::SetWithMeta => "Set with meta, stored",
             Request::SetWithMetaRefused => "Set with meta, refused",
+            Request::SetWithMetaOf2012 => "Set with meta of 2012, stored",
+            Request::SetWithMetaOf2012Refused => "Set with meta of 2012, refused",
             Request::Noop => "Noop",
             Request::GetKeys => "Get Keys",
             Request::GetHitEarlier => "Get, hit, earlier clock",
@@ -178,7 +185,7 @@ impl Request {
     pub fn status(self) -> Status {
         match self {
             Request::GetMiss | Request::ReadMiss => Status::NotFound,
-            Request::SetWithMetaRefused => Status::Exists,
+            Request::SetWithMetaRefused | Request::SetWithMetaOf2012Refused => Status::Exists,
             _ => Status::Success,
         }
     }
@@ -195,10 +202,10 @@ impl Request {
         }
         match self {
             Request::ReadHit | Request::ReadMiss => false,
-            Request::GetHit | Request::SetWithMetaRefused => !table.is_free(),
+            Request::GetHit | Request::SetWithMetaRefused | Request::SetWithMetaOf2012Refused => !table.is_free(),
             Request::Append | Request::Prepend | Request::Touch | Request::GetAndTouch => !table.is_free(),
             Request::Noop | Request::GetKeys => !table.is_free() || table.key == SHORT,
-            Request::GetMiss | Request::Set | Request::SetWithMeta => true,
+            Request::GetMiss | Request::Set | Request::SetWithMeta | Request::SetWithMetaOf2012 => true,
             Request::GetHitEarlier | Request::SetEarlier => table.rows == 32 && !table.is_free() && table.key == SHORT,
         }
     }
@@ -264,8 +271,10 @@ impl Case {
                 frame(opcode::GET, vec![], key, &[])
             }
             Request::Set | Request::SetEarlier => frame(opcode::SET, plain_extras(0, 0), key, &VALUE),
-            Request::SetWithMeta => set_with_meta(key, 2),
-            Request::SetWithMetaRefused => set_with_meta(key, 0),
+            Request::SetWithMeta => set_with_meta(key, meta_extras(numbers(2), None, None)),
+            Request::SetWithMetaRefused => set_with_meta(key, meta_extras(numbers(0), None, None)),
+            Request::SetWithMetaOf2012 => set_with_meta(key, meta_extras_of_2012(numbers(2), 0)),
+            Request::SetWithMetaOf2012Refused => set_with_meta(key, meta_extras_of_2012(numbers(0), 0)),
             Request::Append => frame(opcode::APPEND, vec![], key, &ADDED),
             Request::Prepend => frame(opcode::PREPEND, vec![], key, &ADDED),
             Request::Touch => frame(opcode::TOUCH, touch_extras(DAY), key, &[]),
@@ -276,9 +285,13 @@ impl Case {
     }
 }
 
-/// A set with meta of this revision; the tables' rows have revision 1.
-fn set_with_meta(key: Vec<u8>, revision: u64) -> Vec<u8> {
-    frame(opcode::SET_WITH_META, meta_extras((0, 0, revision, 1_000), None, None), key, &VALUE)
+fn set_with_meta(key: Vec<u8>, extras: Vec<u8>) -> Vec<u8> {
+    frame(opcode::SET_WITH_META, extras, key, &VALUE)
+}
+
+/// Flags, expiry, this revision and a CAS; the tables' rows have revision 1.
+fn numbers(revision: u64) -> (u32, u32, u64, u64) {
+    (0, 0, revision, 1_000)
 }
 
 fn frame(opcode: u8, extras: Vec<u8>, key: Vec<u8>, value: &[u8]) -> Vec<u8> {

@@ -49,7 +49,7 @@ pub const PREPENDQ: u8 = 0x1a;
 pub const TOUCH: u8 = 0x1c;
 /// As [`TOUCH`], with the reply of [`GET`] and the new CAS.
 pub const GET_AND_TOUCH: u8 = 0x1d;
-/// 24, 26, 28 or 30 extras, key, a value of 1 byte or more, extended meta.
+/// 24, 26, 28 or 30 extras, or the 25 of the layout of 2012, key, a value of 1 byte or more, extended meta.
 pub const SET_WITH_META: u8 = 0xa2;
 /// Quiet [`SET_WITH_META`].
 pub const SETQ_WITH_META: u8 = 0xa3;
@@ -57,7 +57,7 @@ pub const SETQ_WITH_META: u8 = 0xa3;
 pub const ADD_WITH_META: u8 = 0xa4;
 /// Quiet [`ADD_WITH_META`].
 pub const ADDQ_WITH_META: u8 = 0xa5;
-/// 24, 26, 28 or 30 extras, key, extended meta.
+/// 24, 26, 28 or 30 extras, or the 25 of the layout of 2012, key, extended meta.
 pub const DELETE_WITH_META: u8 = 0xa8;
 /// Quiet [`DELETE_WITH_META`].
 pub const DELETEQ_WITH_META: u8 = 0xa9;

@@ -45,7 +45,7 @@ fn answer_lines(input: &[u8], space: &mut [u8]) {
 }
 
 fn main() {
-    let mut input = io::large_buffer();
+    let mut input = [0u8; 131072];
     let n = io::read_full(0, &mut input);
     let mut space = [0u8; 70000];
     answer_lines(&input[..n], &mut space);

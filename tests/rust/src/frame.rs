@@ -60,6 +60,15 @@ pub fn touch_extras(expiry: u32) -> Vec<u8> {
     expiry.to_be_bytes().to_vec()
 }
 
+/// The with-meta extras of 2012, with the CAS before the revision.
+pub fn meta_extras_of_2012((flags, expiry, revision, cas): (u32, u32, u64, u64), nru: u8) -> Vec<u8> {
+    let mut extras = plain_extras(flags, expiry);
+    extras.extend(cas.to_be_bytes());
+    extras.extend(revision.to_be_bytes());
+    extras.push(nru);
+    extras
+}
+
 /// The with-meta extras: 24 bytes, and the options and the meta length where given.
 pub fn meta_extras(
     (flags, expiry, revision, cas): (u32, u32, u64, u64),

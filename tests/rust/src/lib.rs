@@ -12,6 +12,7 @@ pub mod merge;
 pub mod random;
 pub mod rendering;
 pub mod replay;
+pub mod request_vectors;
 pub mod session;
 pub mod settings;
 pub mod shrink;

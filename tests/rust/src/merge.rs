@@ -2,10 +2,10 @@
 
 use crate::answers::{Engine, Store, Tally};
 use crate::engines::{arranged, Stores};
-use crate::frame::{meta_extras, Frame};
+use crate::frame::{meta_extras, meta_extras_of_2012, Frame};
 use crate::random::Random;
 use crate::rendering::numbers::{Cas, Mode, Numbers, Revision};
-use crate::rendering::request::MAX_GIVEN;
+use crate::rendering::request::{EXTRAS_OF_2012, MAX_GIVEN};
 use crate::rendering::serving::ROOM;
 use crate::rendering::status::Status;
 use crate::rendering::table::{write_head, write_kept, write_row, Kind, Row, Table, ACTIVE, HEADER, ROW};
@@ -59,20 +59,35 @@ impl Document {
         Document { key, kind: Kind::Document, value, numbers: Numbers { flags, expiry, revision, cas } }
     }
 
-    /// The set- or delete-with-meta that carries it, in any of the layouts.
+    /// The set- or delete-with-meta that carries it, in any of the layouts that the mode allows.
     fn frame(&self, list: &List, random: &mut Random) -> Vec<u8> {
+        let of_2012 = list.mode == REVISION && random.percent(40);
+        let (extras, section) =
+            if of_2012 { (self.extras_of_2012(random), &b""[..]) } else { self.extras(list, random) };
+        let opcode = if self.kind == Kind::Tombstone { 0xa8 } else { 0xa2 } + random.below(2) as u8;
+        let (key, value) = (self.key.to_vec(), [&self.value, section].concat());
+        let (vbucket, opaque) = (list.vbucket, random.u32());
+        Frame { opcode, vbucket, opaque, extras, key, value, ..Frame::default() }.bytes()
+    }
+
+    /// Extras of the present layout, and the extended meta that they tell of.
+    fn extras(&self, list: &List, random: &mut Random) -> (Vec<u8>, &'static [u8]) {
         let options = match list.mode {
             LAST_WRITE_WINS => Some(0x02),
             _ => random.percent(50).then_some(0),
         };
         let section = *random.pick(&SECTIONS);
         let meta_length = Some(section.len() as u16).filter(|&length| length > 0 || random.percent(50));
-        let opcode = if self.kind == Kind::Tombstone { 0xa8 } else { 0xa2 } + random.below(2) as u8;
+        (meta_extras(self.given(), options, meta_length), section)
+    }
+
+    fn extras_of_2012(&self, random: &mut Random) -> Vec<u8> {
+        meta_extras_of_2012(self.given(), random.byte())
+    }
+
+    fn given(&self) -> (u32, u32, u64, u64) {
         let Numbers { flags, expiry, revision, cas } = self.numbers;
-        let extras = meta_extras((flags, expiry, revision.0, cas.0), options, meta_length);
-        let (key, value) = (self.key.to_vec(), [&self.value, section].concat());
-        let (vbucket, opaque) = (list.vbucket, random.u32());
-        Frame { opcode, vbucket, opaque, extras, key, value, ..Frame::default() }.bytes()
+        (flags, expiry, revision.0, cas.0)
     }
 }
 
@@ -225,9 +240,18 @@ impl List {
         orders
     }
 
+    /// Whether this is so of an earlier write and a later one.
+    fn after(&self, told: impl Fn(usize, usize) -> bool) -> bool {
+        (1..self.writes.len()).any(|later| (0..later).any(|earlier| told(earlier, later)))
+    }
+
     fn compared(&self, one: &Document, other: &Document) -> Ordering {
         self.greater(one, other).cmp(&self.greater(other, one))
     }
+}
+
+fn is_of_2012((_, frame): &(u32, Vec<u8>)) -> bool {
+    usize::from(frame[4]) == EXTRAS_OF_2012
 }
 
 /// Any clock, more often one around an expiry; the last one seldom, since it stays.
@@ -290,7 +314,7 @@ fn end_of(engine: Engine, memory: &[u8], statuses: Vec<u8>) -> End {
     End { statuses, documents, mark: table.head.mark.0, kept: table.head.kept }
 }
 
-/// What lists have met, each in both modes.
+/// What lists have met, each in every mode that allows it.
 #[derive(Clone, Copy, Debug, PartialEq, Eq, PartialOrd, Ord)]
 enum Met {
     AllKeys,
@@ -303,9 +327,23 @@ enum Met {
     KeptClockStays,
     KeptClockRises,
     LastClock,
+    /// A write in this layout for a key that one in the other layout came before: stored, or 0x02.
+    AfterOtherLayout {
+        of_2012: bool,
+        stored: bool,
+    },
+    /// A write heard again in the other layout.
+    RepeatInOtherLayout,
 }
 
-const ALL_MET: [Met; 10] = [
+impl Met {
+    /// The layout of 2012 carries writes in revision mode alone.
+    fn is_due(self, mode: u8) -> bool {
+        mode == REVISION || !matches!(self, Met::AfterOtherLayout { .. } | Met::RepeatInOtherLayout)
+    }
+}
+
+const ALL_MET: [Met; 15] = [
     Met::AllKeys,
     Met::MostWrites,
     Met::TableFilled,
@@ -316,6 +354,11 @@ const ALL_MET: [Met; 10] = [
     Met::KeptClockStays,
     Met::KeptClockRises,
     Met::LastClock,
+    Met::AfterOtherLayout { of_2012: false, stored: false },
+    Met::AfterOtherLayout { of_2012: false, stored: true },
+    Met::AfterOtherLayout { of_2012: true, stored: false },
+    Met::AfterOtherLayout { of_2012: true, stored: true },
+    Met::RepeatInOtherLayout,
 ];
 
 /// How many orders of lists were tried, in how many calls, and what they met in each mode.
@@ -327,10 +370,10 @@ pub struct Tried {
 }
 
 impl Tried {
-    fn count(&mut self, list: &List, end: &End) {
+    fn count(&mut self, list: &List, calls: &[(u32, Vec<u8>)], end: &End) {
         self.orders += 1;
         self.calls += list.writes.len();
-        for met in ALL_MET.into_iter().filter(|&met| has_met(met, list, end)) {
+        for met in ALL_MET.into_iter().filter(|&met| has_met(met, list, calls, end)) {
             *self.met.entry((met, list.mode)).or_default() += 1;
         }
     }
@@ -338,12 +381,13 @@ impl Tried {
     /// What so many lists should have met and didn't, once in a hundred lists.
     pub fn missing(&self, lists: usize) -> Vec<String> {
         let all = ALL_MET.into_iter().flat_map(|met| [REVISION, LAST_WRITE_WINS].map(|mode| (met, mode)));
-        let counted = all.map(|met| (met, self.met.get(&met).copied().unwrap_or(0)));
+        let due = all.filter(|(met, mode)| met.is_due(*mode));
+        let counted = due.map(|met| (met, self.met.get(&met).copied().unwrap_or(0)));
         counted.filter(|(_, count)| *count < lists / 100).map(|(met, count)| format!("{met:?}: {count}")).collect()
     }
 }
 
-fn has_met(met: Met, list: &List, end: &End) -> bool {
+fn has_met(met: Met, list: &List, calls: &[(u32, Vec<u8>)], end: &End) -> bool {
     let pair = |told: &dyn Fn(&Document, &Document) -> bool| {
         list.writes.iter().any(|one| list.candidates(one.key).any(|other| one.kind != other.kind && told(one, other)))
     };
@@ -359,10 +403,18 @@ fn has_met(met: Met, list: &List, end: &End) -> bool {
         Met::TombstoneWithSmallerFlags => {
             pair(&|one, other| one.kind == Kind::Tombstone && beside(one, other) && list.greater(one, other))
         }
-        Met::Repeat => (1..list.writes.len()).any(|number| list.writes[..number].contains(&list.writes[number])),
+        Met::Repeat => list.after(|earlier, later| list.writes[earlier] == list.writes[later]),
         Met::KeptClockStays => 0 < list.kept && end.kept == list.kept,
         Met::KeptClockRises => end.kept > list.kept,
         Met::LastClock => end.kept == u32::MAX,
+        Met::AfterOtherLayout { of_2012, stored } => list.after(|earlier, later| {
+            list.writes[earlier].key == list.writes[later].key
+                && (is_of_2012(&calls[earlier]), is_of_2012(&calls[later])) == (!of_2012, of_2012)
+                && end.statuses[later] == if stored { 0 } else { EXISTS }
+        }),
+        Met::RepeatInOtherLayout => list.after(|earlier, later| {
+            list.writes[earlier] == list.writes[later] && is_of_2012(&calls[earlier]) != is_of_2012(&calls[later])
+        }),
     }
 }
 
@@ -376,9 +428,10 @@ pub fn try_lists(boats: Stores, lists: usize, seed: u64) -> Result<Tried, String
         let orders = if short { orders(list.writes.len()) } else { list.some_orders(&mut random) };
         for order in orders {
             let ordered = list.in_order(&order, &mut random);
-            let end = try_order(boats, &list, &ordered, &mut random)
+            let calls = ordered.calls(&mut random);
+            let end = try_order(boats, &list, &ordered, &calls)
                 .map_err(|what| format!("{ordered:#?}\nis a list where {what}"))?;
-            tried.count(&ordered, &end);
+            tried.count(&ordered, &calls, &end);
         }
     }
     Ok(tried)
@@ -386,10 +439,9 @@ pub fn try_lists(boats: Stores, lists: usize, seed: u64) -> Result<Tried, String
 
 /// One order on both boats by both engines. Where rows are too few for the new keys demand 3 says nothing, and the first boat
 /// is gone by.
-fn try_order(boats: Stores, list: &List, ordered: &List, random: &mut Random) -> Result<End, String> {
-    let calls = ordered.calls(random);
+fn try_order(boats: Stores, list: &List, ordered: &List, calls: &[(u32, Vec<u8>)]) -> Result<End, String> {
     let [first, second] = Engine::BOTH.map(|engine| {
-        try_boats(engine, boats[engine as usize], ordered, &calls).map_err(|what| format!("by {engine:?}, {what}"))
+        try_boats(engine, boats[engine as usize], ordered, calls).map_err(|what| format!("by {engine:?}, {what}"))
     });
     let (first, second) = (first?, second?);
     same("the engines' ends", &first.end, &second.end)?;
@@ -397,7 +449,7 @@ fn try_order(boats: Stores, list: &List, ordered: &List, random: &mut Random) ->
     same("the engines' tallies", &first.tally, &second.tally)?;
     let (new_keys, free) = list.new_keys_and_free_rows();
     if new_keys <= free {
-        same("what demand 3 says and the boats' end", &ordered.end(&calls), &second.end)?;
+        same("what demand 3 says and the boats' end", &ordered.end(calls), &second.end)?;
         let agreed = list.agreed();
         let kept: Vec<Document> = second.end.documents.iter().filter(|kept| agreed.contains(kept)).cloned().collect();
         same("the greatest in any order and what the boats hold", &agreed, &kept)?;

@@ -276,15 +276,20 @@ fn digest(bytes: &[u8]) -> u64 {
     bytes.iter().fold(1, |sum, &byte| (sum * 257 + u64::from(byte)) % PRIME)
 }
 
-fn hexadecimal(bytes: &[u8]) -> String {
+pub(crate) fn hexadecimal(bytes: &[u8]) -> String {
     bytes.iter().fold(String::new(), |mut text, byte| {
         let _ = write!(text, "{byte:02x}");
         text
     })
 }
 
-/// The bytes that a text spells: two digits each, and `xx*N` for N of the last one.
+/// The bytes that a text spells, fewer than there is space for.
 fn spelled(text: &str) -> Option<Vec<u8>> {
+    bytes_of(text).filter(|bytes| bytes.len() < SPACE)
+}
+
+/// The bytes that a text spells: two digits each, and `xx*N` for N of the last one.
+pub(crate) fn bytes_of(text: &str) -> Option<Vec<u8>> {
     let mut bytes = Vec::new();
     for word in text.split_ascii_whitespace() {
         let (digits, times) = word.split_once('*').unwrap_or((word, "1"));
@@ -292,7 +297,7 @@ fn spelled(text: &str) -> Option<Vec<u8>> {
         let last = bytes.pop()?;
         bytes.extend(std::iter::repeat_n(last, times.parse().ok()?));
     }
-    Some(bytes).filter(|bytes| bytes.len() < SPACE)
+    Some(bytes)
 }
 
 /// The bytes of hexadecimal digits, two each.

@@ -4,6 +4,7 @@ mod clocks;
 mod contests;
 mod forms;
 mod joins;
+mod layouts;
 mod lifetimes;
 mod listings;
 mod orders;
@@ -19,6 +20,7 @@ use crate::rendering::shape::{shape, Command};
 use crate::rendering::status::Status;
 use crate::session::{Answer, Call};
 use contests::Contest;
+use layouts::Carriers;
 use situations::Situation;
 use std::collections::BTreeMap;
 use std::fmt::{Debug, Write};
@@ -43,6 +45,7 @@ pub struct Coverage {
     in_order: bool,
     /// The append or prepend that the call before was, with its key.
     joined: Option<(u8, Vec<u8>)>,
+    carriers: Carriers,
 }
 
 impl Coverage {
@@ -56,6 +59,7 @@ impl Coverage {
         self.damage = start.damage;
         self.in_order = start.in_order;
         self.joined = None;
+        self.carriers.forget();
         *self.sizes.entry(situations::rows(table)).or_default() += 1;
         self.meet(situations::of_start(table, start.damage));
         self.meet([Situation::Clock(clocks::of_start(table))]);
@@ -79,7 +83,11 @@ impl Coverage {
         self.meet(searches::of_call(before, call, answer).into_iter().map(Situation::Search));
         self.meet(lifetimes::of_call(before, call, answer).into_iter().map(Situation::Lifetime));
         self.meet(joins::of_form(call, answer).map(Situation::Join));
+        self.meet(layouts::of_form(call, answer).map(Situation::Layout));
         let joined = self.joined.take();
+        if matches!(call, Call::Run { .. } | Call::Make { .. }) {
+            self.carriers.forget();
+        }
         let (Call::Serve { clock, received, .. }, Answer::Served(served)) = (call, answer) else {
             return;
         };
@@ -93,6 +101,10 @@ impl Coverage {
             self.joined = joins::joined(frame, served.status);
             if let Some(contest) = contests::of_frame(before, later, frame, served.status) {
                 *self.contests.entry(contest).or_default() += 1;
+                self.meet(self.carriers.compared(frame, served.status == 0).map(Situation::Layout));
+            }
+            if served.status == 0 {
+                self.carriers.served(frame);
             }
         }
     }

@@ -1,6 +1,6 @@
 //! Situations that a run must come to, told from the table, the frame and the answer, whatever was aimed at.
 
-use super::{clocks, joins, lifetimes, listings, orders, searches};
+use super::{clocks, joins, layouts, lifetimes, listings, orders, searches};
 use crate::answers::{Engine, Served};
 use crate::generate::keys::{bucket, fingerprint};
 use crate::generate::tables::Damage;
@@ -14,7 +14,7 @@ use crate::rendering::status::Status;
 use crate::rendering::table::{Kind, Row, Table, ACTIVE, DEAD, HEADER, KEY, KEY_AT, ROW};
 use crate::session::Answer;
 
-const WITH_META: [u8; 6] = [0xa2, 0xa3, 0xa4, 0xa5, 0xa8, 0xa9];
+pub const WITH_META: [u8; 6] = [0xa2, 0xa3, 0xa4, 0xa5, 0xa8, 0xa9];
 const QUIET: [u8; 13] = [0x09, 0x0d, 0x11, 0x12, 0x13, 0x14, 0x15, 0x16, 0x19, 0x1a, 0xa3, 0xa5, 0xa9];
 const EXISTS: u8 = Status::Exists as u8;
 const INVALID: u8 = Status::Invalid as u8;
@@ -120,6 +120,7 @@ pub enum Situation {
     Join(joins::Met),
     Lifetime(lifetimes::Met),
     Order(orders::Met),
+    Layout(layouts::Met),
 }
 
 impl Situation {
@@ -135,6 +136,7 @@ impl Situation {
             Situation::GetKeys(met) if met.is_rare() => calls / 250_000,
             Situation::Clock(met) if met.is_rare() => calls / 250_000,
             Situation::Join(met) if met.is_rare() => calls / 250_000,
+            Situation::Layout(met) if met.is_rare() => calls / 250_000,
             Situation::Order(met) => calls / met.once_in(),
             _ => calls / 50_000,
         }
@@ -164,6 +166,7 @@ pub fn expected() -> Vec<Situation> {
     expected.extend(joins::expected().into_iter().map(Situation::Join));
     expected.extend(lifetimes::expected().into_iter().map(Situation::Lifetime));
     expected.extend(orders::expected().into_iter().map(Situation::Order));
+    expected.extend(layouts::expected().into_iter().map(Situation::Layout));
     expected
 }
 
@@ -288,6 +291,7 @@ pub fn of_frame(before: &[u8], clock: u32, frame: &[u8], served: &Served) -> Vec
         met.extend(listings::of_frame(before, clock, frame, served).into_iter().map(Situation::GetKeys));
     }
     met.extend(joins::of_frame(before, clock, frame, served).into_iter().map(Situation::Join));
+    met.extend(layouts::of_frame(before, frame, served).into_iter().map(Situation::Layout));
     match view(frame) {
         Ok(request) => {
             met.extend(add(before, clock, opcode, &request, served.status));
@@ -370,7 +374,7 @@ fn option_causes(options: u32) -> impl Iterator<Item = Cause> {
 }
 
 /// What is wrong with a section of this length at the end of these bytes, if anything.
-fn meta_cause(rest: &[u8], length: usize) -> Option<Cause> {
+pub fn meta_cause(rest: &[u8], length: usize) -> Option<Cause> {
     let Some(at) = rest.len().checked_sub(length) else {
         return Some(Cause::MetaOverlong);
     };

@@ -1,7 +1,9 @@
 //! Order 6: how replays ended and why, and what they met on their way.
 
+use super::situations::WITH_META;
 use crate::answers::{end, Replayed, Store, Tally};
 use crate::rendering::bytes::{u16_at, u32_at, u64_at};
+use crate::rendering::request::EXTRAS_OF_2012;
 use crate::rendering::serving::ROOM;
 use crate::rendering::table::{ACTIVE, KEPT_AT};
 use crate::rendering::voyage::{BOUND, CLOCK, FIELD_HEADER, FRAME, MOST, OPENING, REPLY, ROWS};
@@ -82,8 +84,9 @@ pub enum Met {
     OpeningAlone,
     /// A trace of 65,536 bytes, and how it ended.
     Longest(u8),
-    /// A mode's frame with this status.
+    /// A mode's frame with this status, and such a with-meta frame in the layout of 2012.
     Status(u8, u8),
+    Of2012(u8, u8),
     ReplyRight,
     SilentRight,
     /// A reply after another one, after a clock, after a purge; a frame without one.
@@ -169,6 +172,8 @@ fn expected() -> Vec<Met> {
     all.extend(differences.map(Met::Differs));
     all.extend([end::DIFFERS, end::STOPPED, end::REPLAYED].map(Met::Longest));
     all.extend([1, 2].into_iter().flat_map(|mode| STATUSES.map(|status| Met::Status(mode, status))));
+    all.extend([0x00, 0x01, 0x02, 0x03, 0x04, 0x07].map(|status| Met::Of2012(1, status)));
+    all.push(Met::Of2012(2, 0x04));
     all
 }
 
@@ -348,6 +353,7 @@ impl<'s> Boat<'s> {
         let clock = self.now();
         let served = self.store.serve(&mut self.table, clock, frame, &mut reply, &mut Tally::default());
         self.met.push(Met::Status(self.mode, served.status));
+        self.met.extend(is_of_2012(frame).then_some(Met::Of2012(self.mode, served.status)));
         reply.truncate(served.reply);
         self.reply = Some(reply);
         self.frames += 1;
@@ -434,6 +440,12 @@ impl<'s> Boat<'s> {
             std::cmp::Ordering::Equal => return None,
         }))
     }
+}
+
+/// Whether it is a with-meta frame in the layout of 2012.
+fn is_of_2012(frame: &[u8]) -> bool {
+    let (opcode, extras) = (frame.get(1), frame.get(4));
+    opcode.is_some_and(|opcode| WITH_META.contains(opcode)) && extras == Some(&(EXTRAS_OF_2012 as u8))
 }
 
 fn cut_value(there: usize, length: usize) -> Cut {

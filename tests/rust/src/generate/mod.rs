@@ -1,9 +1,10 @@
-//! Tables, calls and traces at random, biased to the limits of document 01 and of orders 1, 2 and 4 to 7.
+//! Tables, calls and traces at random, biased to the limits of document 01 and of orders 1, 2 and 4 to 8.
 
 mod clocks;
 pub mod faults;
 mod joins;
 pub mod keys;
+pub mod layouts;
 mod lifetimes;
 mod listings;
 pub mod orders;
@@ -83,6 +84,8 @@ pub struct Generator {
     purges: bool,
     /// The key of the last append or prepend, until the next request.
     joined: Option<Vec<u8>>,
+    /// The key of the last with-meta write, until the next request.
+    carried: Option<Vec<u8>>,
     /// How often each opcode met each fault.
     pub faults: BTreeMap<(u8, Fault), u64>,
 }
@@ -99,13 +102,15 @@ pub struct Start {
 impl Generator {
     pub fn new(seed: u64) -> Generator {
         let (random, keys, faults) = (Random::new(seed), Vec::new(), BTreeMap::new());
-        Generator { random, keys, clock: 0, lists: false, ends: false, purges: false, joined: None, faults }
+        let (joined, carried) = (None, None);
+        Generator { random, keys, clock: 0, lists: false, ends: false, purges: false, joined, carried, faults }
     }
 
     pub fn start(&mut self) -> Start {
         self.lists = self.random.percent(6);
         self.ends = self.random.percent(5);
         self.joined = None;
+        self.carried = None;
         let rows = if self.lists { self.listed_row_count() } else { self.row_count() };
         self.clock = self.session_clock();
         self.keys = if self.lists { self.listed_keys(rows) } else { self.session_keys(rows) };

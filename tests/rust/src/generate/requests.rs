@@ -50,6 +50,9 @@ impl Generator {
         if let Some(key) = self.counted_key() {
             return (*self.random.pick(&COUNTERS), key);
         }
+        if let Some(key) = self.carried_key() {
+            return (*self.random.pick(&WITH_META), key);
+        }
         if sight.rows.len() > 12 && self.random.percent(15) {
             return (*self.random.pick(&STORING), self.key_beside(sight));
         }
@@ -88,17 +91,28 @@ impl Generator {
     fn with_meta(&mut self, sight: &Sight, clock: u32, frame: Frame) -> Frame {
         let deletes = frame.opcode >= 0xa8;
         let (mut flags, mut expiry, revision, cas) = self.meta_numbers(sight, clock, &frame.key);
-        if deletes && self.random.percent(95) {
-            (flags, expiry) = (0, 0);
+        if deletes {
+            // flags or an expiry alone, seldom
+            match self.random.below(24) {
+                0 => flags = 0,
+                1 => expiry = 0,
+                _ => (flags, expiry) = (0, 0),
+            }
         }
         let mut value = if deletes { Vec::new() } else { self.value() };
         if value.is_empty() != deletes && self.random.percent(95) {
             value.push(b'v');
         }
-        let section = self.meta_section();
-        let (options, meta_length) = self.meta_tail(sight, section.len(), value.len() + section.len());
-        value.extend(section);
-        Frame { extras: meta_extras((flags, expiry, revision, cas), options, meta_length), value, ..frame }
+        self.carried = Some(frame.key.clone());
+        let (given, section) = ((flags, expiry, revision, cas), self.meta_section());
+        let frame = if self.is_of_2012(sight) {
+            self.of_2012(Frame { value, ..frame }, given, section)
+        } else {
+            let (options, meta_length) = self.meta_tail(sight, section.len(), value.len() + section.len());
+            value.extend(section);
+            Frame { extras: meta_extras(given, options, meta_length), value, ..frame }
+        };
+        Frame { extras: self.sized(frame.extras), ..frame }
     }
 
     /// Numbers that tie with the stored ones in three or in all four, or stand near a limit.

@@ -1,4 +1,4 @@
-//! Document 01 with orders 1, 2 and 4 to 7 of document 02 in plain Rust, written from the papers alone, to be read with them
+//! Document 01 with orders 1, 2 and 4 to 8 of document 02 in plain Rust, written from the papers alone, to be read with them
 //! beside. What differs by order 7's two engines is told by an [`Engine`].
 //!
 //! | Section of 01 | Module |
@@ -14,6 +14,7 @@
 //! | Order 5 of 02, seconds left | [`numbers`], which decide what is expired, and what the read shows in [`owner`] |
 //! | Order 6 of 02, replay of a voyage | [`voyage`] |
 //! | Order 7 of 02, rows in key order | [`table`]: damage, the place of a key and of a new one; the purge in [`owner`] |
+//! | Order 8 of 02, the layout of 2012 | [`request`], which reads what the extras carry, and their size in [`shape`] |
 
 pub mod bytes;
 pub mod commands;

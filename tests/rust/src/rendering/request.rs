@@ -132,8 +132,10 @@ impl CounterExtras {
     }
 }
 
-/// "Extras: flags 4, expiry 4, revision 8, CAS 8; 26 adds meta length (2); 28 adds options (4); 30 adds options, then
-/// meta length."
+/// Order 8: "Extras length 25 selects" the layout of 2012.
+pub const EXTRAS_OF_2012: usize = 25;
+
+/// What with-meta extras carry, whichever layout they have; nothing but its reading knows of layouts.
 #[derive(Clone, Copy, Debug)]
 pub struct MetaExtras {
     pub numbers: Numbers,
@@ -143,6 +145,15 @@ pub struct MetaExtras {
 
 impl MetaExtras {
     pub fn read(extras: &[u8]) -> MetaExtras {
+        match extras.len() {
+            EXTRAS_OF_2012 => MetaExtras::of_2012(extras),
+            _ => MetaExtras::present(extras),
+        }
+    }
+
+    /// "Extras: flags 4, expiry 4, revision 8, CAS 8; 26 adds meta length (2); 28 adds options (4); 30 adds options, then
+    /// meta length."
+    fn present(extras: &[u8]) -> MetaExtras {
         let numbers = Numbers {
             flags: u32_at(extras, 0),
             expiry: u32_at(extras, 4),
@@ -156,6 +167,18 @@ impl MetaExtras {
             _ => (0, 0),
         };
         MetaExtras { numbers, options, meta_length: usize::from(meta_length) }
+    }
+
+    /// Order 8: "extras of 25 bytes, flags, expiry, new CAS, revision, one byte of nru, which is ignored. [...] No options fit
+    /// in it", and no meta length either.
+    fn of_2012(extras: &[u8]) -> MetaExtras {
+        let numbers = Numbers {
+            flags: u32_at(extras, 0),
+            expiry: u32_at(extras, 4),
+            cas: Cas(u64_at(extras, 8)),
+            revision: Revision(u64_at(extras, 16)),
+        };
+        MetaExtras { numbers, options: 0, meta_length: 0 }
     }
 
     pub fn has(&self, option: u32) -> bool {

@@ -1,5 +1,6 @@
 //! "One fixed table of 256 entries gives every opcode's shape: extras size, key, value, quiet."
 
+use super::request::EXTRAS_OF_2012;
 use super::status::Status;
 
 #[derive(Clone, Copy, Debug, PartialEq, Eq)]
@@ -90,6 +91,9 @@ pub fn shape(opcode: u8) -> Result<Shape, Status> {
     Ok(of_command(command, silent))
 }
 
+/// Order 8: "Extras length 25 selects it, 24, 26, 28 and 30 the present one; both stay."
+const WITH_META: [usize; 5] = [24, EXTRAS_OF_2012, 26, 28, 30];
+
 fn of_command(command: Command, silent: Option<u8>) -> Shape {
     use Command::*;
     use Presence::*;
@@ -103,8 +107,8 @@ fn of_command(command: Command, silent: Option<u8>) -> Shape {
         // "nothing after the header"
         Noop | Version => (&[0], MustNot, MustNot),
         // "for Set and Add, no value byte before the extended meta; for Delete, such a byte"
-        SetWithMeta | AddWithMeta => (&[24, 26, 28, 30], Must, Must),
-        DeleteWithMeta => (&[24, 26, 28, 30], Must, MustNot),
+        SetWithMeta | AddWithMeta => (&WITH_META, Must, Must),
+        DeleteWithMeta => (&WITH_META, Must, MustNot),
         // Order 1: "optional start key, optional 4-byte count [...] No value"
         GetKeys => (&[0, 4], May, MustNot),
         // Order 4: "key and a value of any length, no extras"
