@@ -72,11 +72,11 @@ module _ (config : Config) (b s : List ℕ) (clock : ℕ) (h : Header) (g : reac
   refused-table : frameTable config b clock s h ≡ tableBytes (tableAt (tableOf b) clock)
   unfolding frameTable frameEffect tableOf
   refused-table =
-      ap tableBytes (unchanged config (tableAt (tableOf b) clock) (clockAt (tableOf b) clock) s h (rw (refused-is b s clock h g)) (rw (refused-is b s clock h g)))
+      ap tableBytes (unchanged config (tableAt (tableOf b) clock) (clockAt (tableOf b) clock) s h (rw (refused-is config b s clock h g)) (rw (refused-is config b s clock h g)))
 
   refused-status : effectAt config b clock s h .status ≡ frameStatus s h
   unfolding frameEffect
-  refused-status = ap (λ (x : Decision). x .status) (refused-is b s clock h g)
+  refused-status = ap (λ (x : Decision). x .status) (refused-is config b s clock h g)
 
   -- what answering with a bare header and keeping the clock leaves
   pub refused-by : (st : ℕ) (hd : Head) (r : Served) (b′ out out′ : List ℕ) → Bytes b → soundBy config b ≡ true → st ≡ frameStatus s h → hd ≡ headOf b
@@ -86,9 +86,9 @@ module _ (config : Config) (b s : List ℕ) (clock : ℕ) (h : Header) (g : reac
   refused-by st hd r b′ out out′ y sb es eh er eb eo =
       let w : headerBytes (bareHeader (h .opcode) (h .opaque) st) ≡ frameReply config b clock s h =
       ap (λ (x : ℕ). headerBytes (bareHeader (h .opcode) (h .opaque) x)) es
-      ∙ sym (bare-reply (h .opcode) (h .opaque) (atClock (headOf b) clock) (frameStatus s h)) ∙ refused-reply b s clock h g in
+      ∙ sym (bare-reply (h .opcode) (h .opaque) (atClock (headOf b) clock) (frameStatus s h)) ∙ refused-reply config b s clock h g in
       record {
-        answer = er ∙ (λ i. Done ((es ∙ sym refused-status) i) (24 + h .body) (sym (refused-length b s clock h g) i));
+        answer = er ∙ (λ i. Done ((es ∙ sym refused-status) i) (24 + h .body) (sym (refused-length config b s clock h g) i));
         table = eb ∙ clock-written config b clock _ y sb (ap (λ (x : Head). later (x .clock) clock) eh) ∙ sym refused-table;
         reply = eo ∙ ap (written out 0) w;
       }

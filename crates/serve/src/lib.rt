@@ -174,7 +174,8 @@ fn serve_parts(
     let extras = &s[start..a];
     let key = &s[a..k];
     let value = &s[k..end];
-    match decode::decoded_by(shape, h, extras, value) {
+    let forcing = config.forcing;
+    match decode::decoded_by(forcing, shape, h, extras, value) {
         Decoded::Broken => refused(b, head, clock, h, 0x04, out),
         Decoded::Whole(ask) => serve_formed(config, b, head, clock, s, h, ask, key, value, out),
     }
