@@ -2,8 +2,8 @@
  * contacts.h: a store of sonar contacts in lent memory that speaks Couchbase's binary protocol.
  *
  * Link with libcontacts.a, which is for x86-64 Linux. A table is plain memory of yours: the library makes it, serves
- * requests on it, reads and purges it, and keeps nothing between calls. It allocates nothing, does no input or output,
- * and takes less than 5 KiB of stack, contacts_replay less than 6 KiB (measured).
+ * requests on it, reads and purges it, makes it active, and keeps nothing between calls. It allocates nothing, does no
+ * input or output, and takes less than 5 KiB of stack, contacts_replay less than 6 KiB (measured).
  *
  * Every call is proved to return and to meet a contract that fixes its answer and every lent byte, whatever numbers and
  * bytes you pass. This header says the contracts in words. docs/LAYOUT.md has the layout of tables, frames, traces and
@@ -242,7 +242,7 @@ extern "C" {
  *
  * The kept clock is raised to the later clock by contacts_serve with outcome 0, whatever the status, so by each frame
  * that contacts_serve_run serves, and by contacts_purge with outcome 0, whether or not it frees a row. Outcomes 1 to 5,
- * contacts_read and contacts_sound leave it. Nothing lowers it but contacts_make, which makes it 0.
+ * contacts_read, contacts_activate and contacts_sound leave it. Nothing lowers it but contacts_make, which makes it 0.
  *
  * WARNING: a clock that is too late stays. After one of 2^32 - 1 every relative expiry is 0x04, and every document with
  * an expiry is expired, until the table is made anew. Check the clock before the first call.
@@ -297,7 +297,7 @@ uint8_t contacts_make(uint8_t *table, size_t table_len, size_t rows, uint8_t sta
 
 /*
  * Whether the memory is a sound table of this engine: of the size of 1 to 256 rows, and as docs/LAYOUT.md says in every
- * byte. All else is damaged. Reading, purging and serving test this themselves.
+ * byte. All else is damaged. Reading, purging, activating and serving test this themselves.
  *
  *   plain   false: rows in key order; true: the plain engine. So in all calls
  */
@@ -361,6 +361,22 @@ typedef struct contacts_purged {
  * Answers outcome 0 and the number of rows freed, or outcome 5 and 0 with nothing changed where the table is damaged.
  */
 contacts_purged contacts_purge(bool plain, uint8_t *table, size_t table_len, uint32_t clock, uint64_t bound);
+
+typedef struct contacts_activated {
+    uint8_t outcome;
+    uint8_t status;
+} contacts_activated;
+
+/*
+ * Makes a replica or pending table active, so that it takes writes. Its first byte, the state, is the only one that
+ * changes: rows, mode, vbucket, mark and kept clock stay. It takes no clock. An active table is left as it is.
+ *
+ * Answers
+ *   outcome 5                   the table is damaged; nothing is changed
+ *   outcome 0, status 0x07      the table is dead, and stays so; nothing is changed
+ *   outcome 0, status 0         the table is active
+ */
+contacts_activated contacts_activate(bool plain, uint8_t *table, size_t table_len);
 
 /* ---- Serving --------------------------------------------------------------------------------------------------- */
 

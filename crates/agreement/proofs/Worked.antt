@@ -30,13 +30,13 @@ use Rattle.rows.specs.RowRules.{rowSound}
 use Rattle.plain.specs.Damage.{sound}
 use Rattle.ordered.specs.Damage.{soundOrdered}
 use Rattle.engines.specs.Damage.{soundBy}
-use Rattle.owning.specs.Owner.{makeOutcome, made, readOf, purgeOf, purgedBytes}
+use Rattle.owning.specs.Owner.{makeOutcome, made, readOf, purgeOf, purgedBytes, activateOf, activatedBytes}
 use Rattle.serving.specs.Reply.{replyBytes}
 use Rattle.serving.specs.Serve.{gateAll, frameTable, frameReply, served, servedTable, servedReply}
 use Rattle.tally.specs.Counts.{countedOf}
 use Rattle.run.specs.Run.{runEnd, ranOf}
 use Rattle.promises.specs.Calls.{Call}
-use Rattle.promises.specs.Clock.{Serve, Purge, Read}
+use Rattle.promises.specs.Clock.{Serve, Purge, Read, Activate}
 use Rattle.promises.proofs.Worked.{below, below-bytes}
 use Rattle.agreement.specs.Calls.{AnyCall, Make, Run, One, GivenAny, AllGivenAny}
 use Rattle.agreement.specs.Worked.{workedCalls, PlainLeaves, OrderedLeaves, WorkedAlike}
@@ -55,6 +55,7 @@ right (Run c) = framed c
 right (One (Serve c)) = framed c
 right (One (Purge clock bound)) = ltb clock (2 ^ 32)
 right (One (Read clock key)) = ltb clock (2 ^ 32)
+right (One Activate) = true
 
 right-given : (x : AnyCall) → right x ≡ true → GivenAny x
 right-given (Make n state mode vbucket) e = ltb-true vbucket 65536 e
@@ -62,6 +63,7 @@ right-given (Run c) e = framed-right c e
 right-given (One (Serve c)) e = framed-right c e
 right-given (One (Purge clock bound)) e = ltb-true clock (2 ^ 32) e
 right-given (One (Read clock key)) e = ltb-true clock (2 ^ 32) e
+right-given (One Activate) e = tt
 
 abbrev allRight : List AnyCall → Bool
 allRight [] = true
@@ -75,7 +77,7 @@ all-given (x ∷ xs) e = let p = both (right x) (allRight xs) e in (right-given 
 gives : PlainLeaves × OrderedLeaves
 unfolding written be bytesOf zeros same numberOf expired passes absolute live goneDoc shapeOf headerOf headerBytes status gateOf keySpan frameStatus
     ruleOf testsOf firstStatus firstFailure decision doneOf requestOf slotOf rowOf rowBytes tableOf tableBytes rowSound sound soundOrdered soundBy
-    sideOf countOf listing makeOutcome made readOf purgeOf purgedBytes replyBytes gateAll frameTable frameReply served servedTable servedReply countedOf runEnd ranOf
+    sideOf countOf listing makeOutcome made readOf purgeOf purgedBytes activateOf activatedBytes replyBytes gateAll frameTable frameReply served servedTable servedReply countedOf runEnd ranOf
 gives = (record { answers = refl; stands = refl; after = refl }, record { answers = refl; stands = refl; after = refl })
 
 pub worked : WorkedAlike

@@ -1,7 +1,7 @@
 -- What a whole frame's parts, cut out of it, ask for, against the field rules and the definition on the frame.
 use Prim.Native.Nat.{ℕ, _+_, _-_, _≤_, _<_}
 use mathlib.Core.Path.{_≡_, refl, sym, ap, _∙_}
-use mathlib.Core.Bool.{Bool, true, false, not, _&&_, and-false}
+use mathlib.Core.Bool.{Bool, true, false, not, _&&_}
 use mathlib.Core.Logic.{_⊎_, inl, inr, ⊎-elim}
 use mathlib.Core.List.{List}
 use native.Mathlib.Nat.{sub-zero}
@@ -73,7 +73,7 @@ module _ (forcing : Bool) (s : Shape) (h : Header) (extras value : List ℕ) whe
   by-family {ℓ} : {X : Type ℓ} (f : Family) (a : Instruction) → decodedAs forcing f s h extras value ≡ Whole a
       → (plainly f ≡ true → counted f extras ≡ true → made f (length value) false ≡ a → X)
       → (plainly f ≡ false → counted f extras ≡ true → withMetaOk (s .meta) (withMeta extras) value ≡ true
-      → made f (length value - withMeta extras .section) (not forcing && isForced (withMeta extras)) ≡ a → X)
+      → made f (length value - withMeta extras .section) (isForced (withMeta extras) && not forcing) ≡ a → X)
       → X
   unfolding listDecoded metaDecoded plainly counted told askIn
   by-family (Bare c) a e p m = p refl refl (ap (askIn a) e)
@@ -128,7 +128,7 @@ module _ (forcing : Bool) (h : Header) (extras value : List ℕ) where
   by-kind {ℓ} : {X : Type ℓ} (a : Instruction) → decodedBy forcing shape h extras value ≡ Whole a
       → (eqb (shape .meta) 0 ≡ true → countOk (shape .extras) extras ≡ true → instructionWith shape h (commandOf (shape .operation) extras) (length value) false ≡ a → X)
       → (eqb (shape .meta) 0 ≡ false → countOk (shape .extras) extras ≡ true → withMetaOk (shape .meta) (withMeta extras) value ≡ true
-      → instructionWith shape h (commandOf (shape .operation) extras) (length value - withMeta extras .section) (not forcing && isForced (withMeta extras)) ≡ a → X)
+      → instructionWith shape h (commandOf (shape .operation) extras) (length value - withMeta extras .section) (isForced (withMeta extras) && not forcing) ≡ a → X)
       → X
   unfolding decodedBy commandOf
   by-kind a e p m =
@@ -146,21 +146,21 @@ module _ (forcing : Bool) (h : Header) (extras value : List ℕ) where
   unfolding metaSize
   plain-size t = rw t (sym (sub-zero (length value)))
 
-  plain-supported : eqb (shape .meta) 0 ≡ true → false ≡ (not forcing && forces shape extras)
+  plain-supported : eqb (shape .meta) 0 ≡ true → false ≡ (forces shape extras && not forcing)
   unfolding forces
-  plain-supported t = rw t (sym (and-false (not forcing)))
+  plain-supported t = rw t
 
   meta-size : eqb (shape .meta) 0 ≡ false → length value - withMeta extras .section ≡ length value - metaSize shape extras
   unfolding metaSize withMeta
   meta-size t = rw t
 
-  meta-supported : eqb (shape .meta) 0 ≡ false → (not forcing && isForced (withMeta extras)) ≡ (not forcing && forces shape extras)
+  meta-supported : eqb (shape .meta) 0 ≡ false → (isForced (withMeta extras) && not forcing) ≡ (forces shape extras && not forcing)
   unfolding forces
   meta-supported t = rw t
 
   -- the ask is of the definition's command, and of what is left of the value
   asked-with : (a : Instruction) → decodedBy forcing shape h extras value ≡ Whole a
-      → a ≡ instructionWith shape h (commandOf (shape .operation) extras) (length value - metaSize shape extras) (not forcing && forces shape extras)
+      → a ≡ instructionWith shape h (commandOf (shape .operation) extras) (length value - metaSize shape extras) (forces shape extras && not forcing)
   unfolding metaSize forces withMeta
   asked-with a e =
       let with : ℕ → Bool → Instruction = λ n u. instructionWith shape h (commandOf (shape .operation) extras) n u in
@@ -190,7 +190,7 @@ module _ (forcing : Bool) (s : List ℕ) (h : Header) (whole : 24 + h .body ≤ 
 
   module _ (a : Instruction) (e : decodedBy forcing (shapeOf (h .opcode)) h extras value ≡ Whole a) where
     abbrev asks : ℕ → Instruction
-    asks n = instructionWith (shapeOf (h .opcode)) h (commandOf (shapeOf (h .opcode) .operation) extras) n (not forcing && forces (shapeOf (h .opcode)) extras)
+    asks n = instructionWith (shapeOf (h .opcode)) h (commandOf (shapeOf (h .opcode) .operation) extras) n (forces (shapeOf (h .opcode)) extras && not forcing)
 
     pub asked-whole : a ≡ instructionOf (requestOf forcing s h)
     unfolding requestOf bareValue

@@ -110,7 +110,7 @@ listDecoded s h extras size = cond (eqb (countOf extras) 0) Broken (Whole (instr
 unfoldable pub metaDecoded : Bool → Shape → Header → MetaKind → List ℕ → List ℕ → Decoded
 metaDecoded forcing s h k extras value =
     cond (withMetaOk (s .meta) (withMeta extras) value)
-    (Whole (instructionWith s h (metaCommand k (withMeta extras)) (length value - withMeta extras .section) (not forcing && isForced (withMeta extras))))
+    (Whole (instructionWith s h (metaCommand k (withMeta extras)) (length value - withMeta extras .section) (isForced (withMeta extras) && not forcing)))
     Broken
 
 abbrev pub decodedAs : Bool → Family → Shape → Header → List ℕ → List ℕ → Decoded
@@ -135,6 +135,6 @@ requestOf forcing s h = record {
   quiet = shapeOf (h .opcode) .quiet;
   key = bytesIn s (keySpan h);
   value = bareValue s h;
-  unsupported = not forcing && forces (shapeOf (h .opcode)) (bytesIn s (extrasSpan h));
+  unsupported = forces (shapeOf (h .opcode)) (bytesIn s (extrasSpan h)) && not forcing;
   command = commandOf (shapeOf (h .opcode) .operation) (bytesIn s (extrasSpan h));
 }

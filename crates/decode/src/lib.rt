@@ -156,7 +156,7 @@ fn meta_decoded(
         h,
         meta_of(kind, w),
         octets::minus(value.len(), w.section as usize),
-        !forcing & rules::is_forced(w),
+        rules::is_forced(w) & !forcing,
     ))
 }
 

@@ -19,9 +19,9 @@ use Rattle.with_meta.specs.declared.WithMeta.{WithMeta}
 use Rattle.with_meta.specs.WithMeta.{withMeta}
 use Rattle.with_meta.proofs.Layouts.{carried-fits}
 use Rattle.with_meta.specs.FieldRules.{numbersOk, bodyOk, withMetaOk}
-use Rattle.rules.specs.Rules.{formOk, extrasOk, keyOk, countOk, fieldRulesOk}
-use Rattle.rules.proofs.RuleLaws.{formed, field-rules}
-use Rattle.request.specs.Reading.{extrasSpan, valueSpan, bytesIn}
+use Rattle.rules.specs.Rules.{formOk, extrasOk, keyOk, countOk, fieldRulesOk, status}
+use Rattle.rules.proofs.RuleLaws.{formed, field-rules, judged-keeps}
+use Rattle.request.specs.Reading.{extrasSpan, valueSpan, bytesIn, frameStatus}
 use Rattle.commands.specs.declared.Kind.{Kind}
 use Rattle.commands.specs.declared.Kind.the-variants.{Set, Add, Replace}
 use Rattle.commands.specs.declared.MetaKind.{MetaKind}
@@ -40,6 +40,11 @@ no e = absurd (let y : _≡_ {A = ℕ} 0 1 = cc in omega arith)
 pub by-cond {ℓ ℓ′} : {A : Type ℓ} (P : A → Type ℓ′) (b : Bool) (x y : A) → (b ≡ true → P x) → (b ≡ false → P y) → P (cond b x y)
 by-cond P true x y f g = f refl
 by-cond P false x y f g = g refl
+
+-- a frame with the reader's status 0 goes on
+pub zero-reaches : (s : List ℕ) (h : Header) → frameStatus s h ≡ 0 → reachesDecision s h ≡ true
+unfolding frameStatus status
+zero-reaches s h e = judged-keeps (shapeOf (h .opcode)) h (bytesIn s (extrasSpan h)) (bytesIn s (valueSpan h)) e
 
 -- a command that writes has a key, of n bytes
 abbrev pub Named : ℕ → Command → Type 0
