@@ -63,9 +63,9 @@ module _ (config other : Config) where
       record { answers = λ i. s .answer i ∷ r .answers i; after = r .after }
 
 pub engines-agree : EnginesAgree
-engines-agree config other n state mode vbucket t xs least most s m v g =
+engines-agree config other rule n state mode vbucket t xs least most s m v g =
     let o : Owned = record { table = tableBytes (fresh n state mode vbucket); tally = t } in
-    let w = twins config other (fresh n state mode vbucket) (fresh n state mode vbucket) (fresh-twin config other n state mode vbucket least most s m v) in
+    let w = twins config other (fresh n state mode vbucket) (fresh n state mode vbucket) (fresh-twin config other rule n state mode vbucket least most s m v) in
     let r = all-alike config other xs o o (record { tables = w; tally = refl }) g in
     record {
       answers = r .answers;

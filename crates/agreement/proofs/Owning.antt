@@ -166,6 +166,7 @@ module _ (config other : Config) (t u : Table) (w : Twin config other t u) where
           twin = record {
             good = purge-good-by config (tableAt t clock) p (at .good);
             other-good = purge-good-by other (tableAt u clock) p (at .other-good);
+            rule = w .rule;
             head = at .head;
             alike = engines-alike config other .purge (t .rows) (u .rows) p (w .alike);
           };
@@ -194,6 +195,7 @@ module _ (config other : Config) (t u : Table) (w : Twin config other t u) where
           twin = record {
             good = active-good config t (w .good);
             other-good = active-good other u (w .other-good);
+            rule = w .rule;
             head = ap activated (w .head);
             alike = w .alike;
           };
@@ -215,7 +217,7 @@ module _ (config other : Config) (t u : Table) (w : Twin config other t u) where
           other-table = fresh n state mode vbucket;
           bytes = sym (accepted (tableBytes t) n state mode vbucket y .1);
           other-bytes = sym (accepted (tableBytes u) n state mode vbucket (as-large ∙ y) .1);
-          twin = fresh-twin config other n state mode vbucket (r .least) (r .most) (r .state) (r .mode) v;
+          twin = fresh-twin config other (w .rule) n state mode vbucket (r .least) (r .most) (r .state) (r .mode) v;
         })
         (λ f. record {
           table = t;

@@ -1,13 +1,13 @@
 -- The worked list of specs/Worked.antt, computed from bytes to bytes.
 use Prim.Native.Nat.{_^_, _<_}
 use mathlib.Core.Path.{_≡_, refl}
-use mathlib.Core.Bool.{Bool, true, _&&_}
+use mathlib.Core.Bool.{Bool, true, false, _&&_}
 use mathlib.Core.List.{List, [], _∷_}
 use lib.Dec.{ltb}
 use native.Mathlib.Omega.{arith}
 use borrow.Author.Tests.{ltb-true}
 use Rattle.keys.specs.Keys.{sideOf}
-use Rattle.engine.specs.declared.EngineKind.the-variants.{Plain, Ordered}
+use Rattle.engine.specs.Config.{configFor}
 use Rattle.octets.specs.Parts.{Bytes, written}
 use Rattle.octets.specs.BigEndian.{be, bytesOf}
 use Rattle.octets.specs.Compare.{zeros, same}
@@ -17,7 +17,7 @@ use Rattle.numbers.specs.Expiry.{expired, passes, absolute}
 use Rattle.document.specs.Stored.{live, goneDoc}
 use Rattle.shape.specs.Shapes.{shapeOf}
 use Rattle.header.specs.Header.{headerOf, headerBytes}
-use Rattle.rules.specs.Rules.{countOf, status}
+use Rattle.rules.specs.Rules.{countOf, keepsRules, isForced, forces, status}
 use Rattle.request.specs.Reading.{gateOf, keySpan, frameStatus}
 use Rattle.commands.specs.Rules.{ruleOf, testsOf, firstStatus, firstFailure}
 use Rattle.effects.specs.Done.{doneOf}
@@ -76,7 +76,7 @@ all-given (x ∷ xs) e = let p = both (right x) (allRight xs) e in (right-given 
 -- ---- on each engine
 gives : PlainLeaves × OrderedLeaves
 unfolding written be bytesOf zeros same numberOf expired passes absolute live goneDoc shapeOf headerOf headerBytes status gateOf keySpan frameStatus
-    ruleOf testsOf firstStatus firstFailure decision doneOf requestOf slotOf rowOf rowBytes tableOf tableBytes rowSound sound soundOrdered soundBy
+    ruleOf testsOf firstStatus firstFailure decision doneOf requestOf keepsRules forces isForced slotOf rowOf rowBytes tableOf tableBytes rowSound sound soundOrdered soundBy
     sideOf countOf listing makeOutcome made readOf purgeOf purgedBytes activateOf activatedBytes replyBytes gateAll frameTable frameReply served servedTable servedReply countedOf runEnd ranOf
 gives = (record { answers = refl; stands = refl; after = refl }, record { answers = refl; stands = refl; after = refl })
 
@@ -86,7 +86,7 @@ worked =
     record {
       given = g;
       agree =
-          engines-agree (record { engine = Plain }) (record { engine = Ordered }) 3 1 1 0 _ workedCalls
+          engines-agree (configFor true) (configFor false) refl 3 1 1 0 _ workedCalls
           (omega arith) (omega arith) (omega arith, omega arith) (omega arith, omega arith) (omega arith) g;
       plain = gives .0;
       ordered = gives .1;

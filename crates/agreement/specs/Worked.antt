@@ -1,10 +1,11 @@
 -- A worked list of calls on a table of three rows: what the two engines answer, which is the same, and the rows that they leave, which are the same in another order. Proved in proofs/Worked.antt.
 use Prim.Native.Nat.{ℕ, _-_}
 use mathlib.Core.Path.{_≡_}
+use mathlib.Core.Bool.{true, false}
 use mathlib.Core.List.{List, [], _∷_, _++_}
 use lib.ListN.{length, replicate}
 use Rattle.engine.specs.declared.Config.{Config}
-use Rattle.engine.specs.declared.EngineKind.the-variants.{Plain, Ordered}
+use Rattle.engine.specs.Config.{configFor}
 use Rattle.numbers.specs.declared.Left.the-variants.{Never}
 use Rattle.document.specs.Documents.{Key}
 use Rattle.rows.specs.Row.{Row}
@@ -118,15 +119,15 @@ pub record LeavesRows (config : Config) (place : ℕ) (rows : List Row) : Type 0
 
 -- as they came, `Delta` in the row that the purge freed
 abbrev pub PlainLeaves : Type 0
-PlainLeaves = LeavesRows (record { engine = Plain }) 53 (row mykey (doc 0 1 1) ∷ row delta (doc 0 1 5) ∷ row alpha (doc 0 1 3) ∷ [])
+PlainLeaves = LeavesRows (configFor true) 53 (row mykey (doc 0 1 1) ∷ row delta (doc 0 1 5) ∷ row alpha (doc 0 1 3) ∷ [])
 
 -- in key order
 abbrev pub OrderedLeaves : Type 0
-OrderedLeaves = LeavesRows (record { engine = Ordered }) 2677 (row alpha (doc 0 1 3) ∷ row delta (doc 0 1 5) ∷ row mykey (doc 0 1 1) ∷ [])
+OrderedLeaves = LeavesRows (configFor false) 2677 (row alpha (doc 0 1 3) ∷ row delta (doc 0 1 5) ∷ row mykey (doc 0 1 1) ∷ [])
 
 pub record WorkedAlike : Type 0 where
   -- the premises of the theorem are met
   pub given : AllGivenAny workedCalls
-  pub agree : Agrees (record { engine = Plain }) (record { engine = Ordered }) start workedCalls
+  pub agree : Agrees (configFor true) (configFor false) start workedCalls
   pub plain : PlainLeaves
   pub ordered : OrderedLeaves
