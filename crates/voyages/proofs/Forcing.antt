@@ -1,12 +1,12 @@
 -- The rule of force that a trace is replayed under is the one that its first field says.
 use native.Mathlib.Omega.{arith}
-use Prim.Native.Nat.{ℕ, _+_, _<_}
+use Prim.Native.Nat.{ℕ, _+_}
 use mathlib.Core.Path.{_≡_, refl, sym, ap, subst, _∙_}
 use mathlib.Core.Bool.{Bool, true, false, cond}
 use mathlib.Core.List.{List, [], _∷_, _++_}
-use mathlib.Core.Logic.{_⊎_, inl, inr}
+use mathlib.Core.Logic.{inl, inr}
 use mathlib.Core.Option.{Option, none, some}
-use lib.ListN.{length, drop, replicate, length-replicate}
+use lib.ListN.{length, drop, length-replicate}
 use lib.Dec.{eqb}
 use borrow.Author.Tests.{eq-eqb, ne-eqb}
 use Rattle.engine.specs.declared.Config.{Config}
@@ -14,7 +14,6 @@ use Rattle.octets.specs.Compare.{same}
 use Rattle.octets.specs.BigEndian.{num}
 use Rattle.octets.proofs.Choices.{cases}
 use Rattle.octets.proofs.Tests.{same-refl}
-use Rattle.rows.specs.Table.{tableBytes, fresh}
 use Rattle.serving.specs.declared.Served.{Served}
 use Rattle.serving.specs.Serve.{served, servedTable}
 use Rattle.trace.specs.declared.Opening.{Opening}
@@ -22,11 +21,11 @@ use Rattle.trace.specs.declared.Opening.the-variants.{Broken as NotOpened, Open
 use Rattle.trace.specs.declared.Field.{Field}
 use Rattle.trace.specs.declared.Field.the-variants.{Clock, Frame, Reply, Purge, Rule, Broken}
 use Rattle.trace.specs.Trace.{Placed, openingOf, fieldOf, forcingBy, forcingIn, fieldsIn}
-use Rattle.replay.specs.declared.Ending.the-variants.{Damaged, Differs, Stopped}
-use Rattle.replay.specs.Replay.{Voyage, Turn, On, End, isOneFrame, withClock, withFrame, withPurge, onField, onTurn, After, walked, setOut, ruledBy, onOpening, replayed}
+use Rattle.replay.specs.declared.Ending.the-variants.{Damaged, Stopped}
+use Rattle.replay.specs.Replay.{Voyage, Turn, On, isOneFrame, withClock, withFrame, withPurge, onField, onTurn, After, walked, setOut, ruledBy, onOpening, replayed}
 use Rattle.promises.specs.Clock.{memoryAfter}
 use Rattle.voyages.specs.Serving.{clockBy, callBy, callsOf, lastBy, LeadsOn, AllLeadOn, ReplaysAs}
-use Rattle.voyages.specs.Spelling.{WellOpened, tagAt, saidAt, RuleAt, OtherRuleAt, SpeltAt, SpeltFrom}
+use Rattle.voyages.specs.Spelling.{WellOpened, saidAt, OtherRuleAt, SpeltAt, SpeltFrom}
 use Rattle.voyages.specs.Forcing.{SaysNew, tableFor, NewRuleServes, OldRuleServes, CallersRuleUnheard, OtherRuleStops}
 use Rattle.voyages.proofs.Serving.{Agrees, after-both}
 use Rattle.voyages.proofs.Spelling.{opening-read, replay-serves, spelt-first, after, fields-spelt}

@@ -2,4 +2,5 @@ pub mod Serving
 pub mod Spelling
 pub mod Forcing
 pub mod Recorded
+pub mod OldField
 pub mod Alike

@@ -3,7 +3,7 @@ use native.Mathlib.Omega.{arith}
 use native.Mathlib.Nat.{add-zero}
 use Prim.Native.Nat.{ℕ, suc, _+_, _^_, _≤_, _<_}
 use mathlib.Core.Path.{_≡_, refl, sym, ap, _∙_}
-use mathlib.Core.Bool.{Bool, true, false, cond, not, _&&_}
+use mathlib.Core.Bool.{Bool, true, false, cond}
 use mathlib.Core.List.{List, [], _∷_, _++_, append-assoc}
 use lib.ListN.{length, drop, length-append}
 use lib.Dec.{eqb}
@@ -16,7 +16,7 @@ use Rattle.rows.specs.Table.{tableBytes, fresh}
 use Rattle.serving.specs.declared.Served.{Served}
 use Rattle.serving.specs.Serve.{gateAll, answerBy, tableBy, served, servedTable, servedReply}
 use Rattle.trace.specs.declared.Field.{Field}
-use Rattle.trace.specs.declared.Field.the-variants.{Clock, Frame, Reply, Rule, Broken}
+use Rattle.trace.specs.declared.Field.the-variants.{Clock, Frame, Reply, Rule}
 use Rattle.trace.specs.Trace.{Placed, lengthIn, fieldOf, isRule, fieldAt, isBroken, placedFrom, fieldsFrom}
 use Rattle.trace.proofs.Fields.{fields-on}
 use Rattle.trace_writer.specs.Writing.{fieldBytes, ruleField, openingBytes, clockFields, frameFields}
@@ -30,16 +30,16 @@ use Rattle.voyages.specs.Serving.{OneFrame}
 use Rattle.voyages.specs.Recorded.{Asked, left, leftByAll, AllServed, fieldsAdded, RecordedReplays, RoomAlike}
 
 -- a rule stands at place 3, any other field anywhere
-at-first : (s : List ℕ) → fieldAt 3 s ≡ fieldOf s
+pub at-first : (s : List ℕ) → fieldAt 3 s ≡ fieldOf s
 unfolding fieldAt
 at-first s = refl
 
-at-any : (at : ℕ) (s : List ℕ) → isRule (fieldOf s) ≡ false → fieldAt at s ≡ fieldOf s
+pub at-any : (at : ℕ) (s : List ℕ) → isRule (fieldOf s) ≡ false → fieldAt at s ≡ fieldOf s
 unfolding fieldAt
 at-any at s e = cases (eqb at 3) (λ t. rw t refl) (λ t. rw (t, e) refl)
 
 -- a field that was written is the first of those that stand there
-first-at : (at tag : ℕ) (xs rest : List ℕ) (f : Field) → FieldBack tag xs rest f → fieldAt at (fieldBytes tag xs ++ rest) ≡ fieldOf (fieldBytes tag xs ++ rest) → isBroken f ≡ false
+pub first-at : (at tag : ℕ) (xs rest : List ℕ) (f : Field) → FieldBack tag xs rest f → fieldAt at (fieldBytes tag xs ++ rest) ≡ fieldOf (fieldBytes tag xs ++ rest) → isBroken f ≡ false
     → fieldsFrom at (fieldBytes tag xs ++ rest) ≡ record { at = at; field = f; bytes = xs } ∷ fieldsFrom (at + (3 + length xs)) rest
 first-at at tag xs rest f w k e =
     let s = fieldBytes tag xs ++ rest in

@@ -2,7 +2,7 @@
 use native.Mathlib.Omega.{arith}
 use Prim.Native.Nat.{ℕ, zero, suc, _+_, _≤_, _<_}
 use mathlib.Core.Path.{_≡_, refl, sym, ap, subst, _∙_}
-use mathlib.Core.Bool.{Bool, true, false, cond, not, _&&_, _||_, false≢true}
+use mathlib.Core.Bool.{Bool, true, false, cond, _&&_, _||_, false≢true}
 use mathlib.Core.List.{List, [], _∷_, _++_}
 use mathlib.Core.Logic.{_⊎_, inl, inr, ⊎-elim}
 use mathlib.Core.Option.{Option}
@@ -23,7 +23,7 @@ use Rattle.replay.specs.declared.Ending.{Ending}
 use Rattle.replay.specs.declared.Ending.the-variants.{Damaged, Differs, Stopped, Replayed}
 use Rattle.replay.specs.Replay.{ruledBy, replayed}
 use Rattle.voyages.specs.Serving.{EndsAt}
-use Rattle.voyages.specs.Spelling.{WellOpened, BadOpeningStops, OtherSizeRefused, ReplayServes, saidAt, tagAt, WholeAt, RuleAt, OtherRuleAt, SpeltAt, NextOf, SpeltFrom, FieldsSpelt, EndsWithin, PlacesWithin}
+use Rattle.voyages.specs.Spelling.{WellOpened, BadOpeningStops, OtherSizeRefused, ReplayServes, saidAt, tagAt, WholeAt, RuleAt, SpeltAt, NextOf, SpeltFrom, FieldsSpelt, EndsWithin, PlacesWithin}
 use Rattle.voyages.proofs.Serving.{opened-serves}
 
 -- ---- the opening

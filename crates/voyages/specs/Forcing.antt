@@ -1,5 +1,5 @@
 -- Order 9: "Old traces hold such requests, so a trace replays under the new rule exactly if its first field is tag 5 with one byte of 2; a 1 there means the old, which differs for option 0x01 alone. Any other tag 5 stops it." Proved in proofs/Forcing.antt.
-use Prim.Native.Nat.{ℕ}
+use Prim.Native.Nat.{ℕ, _+_}
 use mathlib.Core.Path.{_≡_}
 use mathlib.Core.Bool.{Bool, true, false}
 use mathlib.Core.List.{List, _∷_, _++_}
@@ -9,7 +9,9 @@ use Rattle.engine.specs.declared.Config.{Config}
 use Rattle.octets.specs.BigEndian.{num}
 use Rattle.rows.specs.Table.{tableBytes, fresh}
 use Rattle.trace.specs.Trace.{Placed, fieldsIn}
-use Rattle.replay.specs.declared.Ending.the-variants.{Stopped}
+use Rattle.trace_writer.specs.Writing.{ruleField}
+use Rattle.replay.specs.declared.Ending.{Ending}
+use Rattle.replay.specs.declared.Ending.the-variants.{Damaged, Differs, Stopped, Replayed}
 use Rattle.replay.specs.Replay.{ruledBy, replayed}
 use Rattle.promises.specs.Clock.{memoryAfter}
 use Rattle.voyages.specs.Serving.{callsOf, AllLeadOn, ReplaysAs}
@@ -47,3 +49,17 @@ OtherRuleStops config =
     (b trace : List ℕ) → length b ≡ 42000 → WellOpened trace → (before after : List Placed) (p : Placed) → fieldsIn trace ≡ before ++ (p ∷ after) → OtherRuleAt trace (p .at)
     → AllLeadOn (ruledBy config trace) (tableFor trace) 0 none before
     → replayed config b trace ≡ record { answer = Stopped (p .at); table = memoryAfter (ruledBy config trace) (tableFor trace) (callsOf 0 before) }
+
+-- "a 1 there means the old": such a field does nothing but put what follows 4 bytes later
+abbrev pub later : Ending → Ending
+later (Differs at) = Differs (at + 4)
+later (Stopped at) = Stopped (at + 4)
+later (Replayed n) = Replayed n
+later Damaged = Damaged
+
+-- a trace of three bytes of opening, and of fields that don't begin with tag 5, replays as it does with that field before them
+abbrev pub OldRuleAsNone : Config → Type 0
+OldRuleAsNone config =
+    (b : List ℕ) (mode high low : ℕ) (fields : List ℕ) → WellOpened (mode ∷ (high ∷ (low ∷ (ruleField true ++ fields)))) → (num fields 0 1 ≡ 5 → ⊥)
+    → replayed config b (mode ∷ (high ∷ (low ∷ (ruleField true ++ fields))))
+    ≡ record { answer = later (replayed config b (mode ∷ (high ∷ (low ∷ fields))) .answer); table = replayed config b (mode ∷ (high ∷ (low ∷ fields))) .table }
