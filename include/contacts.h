@@ -230,6 +230,11 @@ extern "C" {
 #define CONTACTS_TAG_FRAME 2                /* one request frame, and nothing after it */
 #define CONTACTS_TAG_REPLY 3                /* the reply expected for the frame before; empty for a silent frame */
 #define CONTACTS_TAG_BOUND 4                /* 8 bytes: the bound of a purge */
+#define CONTACTS_TAG_RULE 5                 /* 1 byte, in the first field alone: a rule of force */
+
+/* The rule of force that a trace is replayed by. One without it is replayed by the old. */
+#define CONTACTS_RULE_OLD 1                 /* CONTACTS_OPTION_FORCE is taken, as it was before it was retired */
+#define CONTACTS_RULE_NEW 2                 /* a with-meta request with CONTACTS_OPTION_FORCE gets status 0x83 */
 
 /* ---- The clock ------------------------------------------------------------------------------------------------- */
 
@@ -579,6 +584,10 @@ typedef struct contacts_replayed {
  * the last frame was given, also where other replies, clocks or purges stand between. A frame need not be followed by its
  * reply. Keeps no tally.
  *
+ * Traces that were recorded before force was retired may hold forced writes. So every frame is served by the rule that the
+ * trace says: the new one where its first field is CONTACTS_TAG_RULE with CONTACTS_RULE_NEW; else the old one, which
+ * differs for CONTACTS_OPTION_FORCE alone.
+ *
  *   table       memory of CONTACTS_TABLE_SIZE(CONTACTS_REPLAY_ROWS) bytes; what stood in it doesn't matter
  *   trace       any bytes
  *
@@ -588,8 +597,9 @@ typedef struct contacts_replayed {
  *                                 or 2
  *   then, at the first such field, with the place of its tag:
  *   end STOPPED                   it is cut: fewer than 3 bytes are left, or fewer than its length says; it has a tag that
- *                                 isn't above; a clock isn't 4 bytes, a bound not 8; a frame field isn't exactly one frame,
- *                                 to which contacts_serve has outcome 0, whatever its status; a reply has no frame before
+ *                                 isn't above; a clock isn't 4 bytes, a bound not 8; a rule isn't the first field, isn't 1
+ *                                 byte or is neither 1 nor 2; a frame field isn't exactly one frame, to which
+ *                                 contacts_serve has outcome 0, whatever its status; a reply has no frame before
  *   end DIFFERS                   it is a reply that isn't the last frame's, in length or in a byte. One of length 0 is
  *                                 right for a silent frame
  *   and without one:
