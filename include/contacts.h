@@ -73,7 +73,7 @@ extern "C" {
 #define CONTACTS_STATUS_NOT_MY_VBUCKET 0x07   /* another vbucket, or a table that isn't active */
 #define CONTACTS_STATUS_UNKNOWN_COMMAND 0x81
 #define CONTACTS_STATUS_OUT_OF_MEMORY 0x82    /* the key has no row and no row is free */
-#define CONTACTS_STATUS_NOT_SUPPORTED 0x83    /* a command of the protocol that this store leaves out */
+#define CONTACTS_STATUS_NOT_SUPPORTED 0x83    /* a command of the protocol that this store leaves out, or option 0x01 */
 #define CONTACTS_STATUS_INTERNAL 0x84         /* a CAS or revision that must grow is at 2^64 - 1 */
 
 /* ---- A table's memory: big-endian numbers at these offsets ----------------------------------------------------- */
@@ -204,7 +204,7 @@ extern "C" {
 #define CONTACTS_META_2012_AT_REVISION 16     /* 8 bytes */
 #define CONTACTS_META_2012_AT_NRU 24          /* 1 byte, any: it is ignored */
 
-#define CONTACTS_OPTION_FORCE 0x01            /* no comparison; replica and pending tables take it too */
+#define CONTACTS_OPTION_FORCE 0x01            /* retired: 0x83. Old traces alone are replayed with it */
 #define CONTACTS_OPTION_FORCE_ACCEPT 0x02     /* required in last-write-wins, refused in revision mode */
 #define CONTACTS_OPTION_REGENERATE_CAS 0x04   /* the stored CAS is mark + 1; only together with SKIP_CONFLICT */
 #define CONTACTS_OPTION_SKIP_CONFLICT 0x08    /* no comparison */
@@ -396,9 +396,9 @@ contacts_activated contacts_activate(bool plain, uint8_t *table, size_t table_le
  *                where the expiry goes unused; the count of Get Keys is 0; with meta, also: CAS or revision out of
  *                range; option bits other than 0x0f; option 0x04 without 0x08; option 0x02 missing in last-write-wins
  *                or set in revision mode; flags or expiry of a Delete not 0; broken extended meta
+ *   0x83         with meta: option 0x01, which is retired
  *   0x03         the value is over 1,024 bytes, extended meta not counted
- *   0x07         another vbucket, or a state that isn't active, save with option 0x01 in states 2 and 3. Noop and
- *                Version never have it
+ *   0x07         another vbucket, or a state that isn't active. Noop and Version never have it
  *   0x05         the key isn't live, for Append and Prepend, whatever their header CAS
  *   0x01         the key isn't live, for Get, Replace, Delete, Touch, Get-and-touch, a counter without an initial number,
  *                and for every other write whose header CAS isn't 0
@@ -435,8 +435,8 @@ contacts_activated contacts_activate(bool plain, uint8_t *table, size_t table_le
  *
  * A plain write stores CAS mark + 1, and revision 1 or one more than that of the key's row, an expired one or a
  * tombstone too. A with-meta write stores its own numbers, but CAS mark + 1 under option 0x04. Both raise the mark to
- * their CAS where it is lower, and reply that CAS. Without options 0x01 and 0x08 a with-meta write is compared with the
- * key's row, an expired one or a tombstone too, and must be greater: in revision mode by revision, then CAS; in
+ * their CAS where it is lower, and reply that CAS. Without option 0x08 a with-meta write is compared with the key's
+ * row, an expired one or a tombstone too, and must be greater: in revision mode by revision, then CAS; in
  * last-write-wins by CAS, then revision; then in both by expiry, then by smaller flags.
  */
 
@@ -530,6 +530,7 @@ typedef struct contacts_request {
  *   status 0x81              any other opcode that isn't above
  *   status 0x04              a request against its command's form or field rules, but for the two that need mode or
  *                            clock: option 0x02, and the sum of a clock and a relative expiry
+ *   status 0x83              with meta: option 0x01
  *   status 0x03              a value of over 1,024 bytes, extended meta not counted
  *   outcome 0, status 0      the request
  * Where outcome or status isn't 0, all else is 0. A request that reads well can still be refused when it is served.

@@ -17,9 +17,9 @@ pub struct Revision(pub u64);
 pub enum State {
     /// Serves every request.
     Active = 1,
-    /// Serves with-meta requests with option [`FORCE`](crate::option::FORCE).
+    /// Serves Noop and Version alone; [`activate`] makes it active.
     Replica = 2,
-    /// Serves what a replica does.
+    /// Serves and becomes active as a replica does.
     Pending = 3,
     /// Serves Noop and Version alone.
     Dead = 4,

@@ -1,22 +1,28 @@
 -- What is claimed of option 0x01, by the new rule and by the old.
-use Prim.Native.Nat.{ℕ, _+_}
+use Prim.Native.Nat.{ℕ, _+_, _%_}
 use mathlib.Core.Path.{_≡_, refl, sym, ap, _∙_}
 use mathlib.Core.Bool.{Bool, true, false, not, cond, _&&_, _||_}
 use mathlib.Core.List.{List}
 use native.Mathlib.Omega.{arith}
 use lib.ListN.{length, take}
-use lib.Dec.{ltb, eqb}
+use lib.Dec.{leb, eqb}
 use borrow.Author.Tests.{le-ltb, eqb-true, not-true, not-false}
 use Rattle.octets.specs.Parts.{written}
+use Rattle.octets.specs.BigEndian.{num}
 use Rattle.octets.proofs.Choices.{cases, both}
-use Rattle.shape.specs.Shapes.{among, shapeOf}
+use Rattle.shape.specs.declared.Shape.{Shape}
+use Rattle.shape.specs.Shapes.{commands, among, shapeOf}
+use Rattle.shape.proofs.ShapeLaws.{same-shape}
 use Rattle.header.specs.declared.Header.{Header}
 use Rattle.header.specs.Header.{headerOf}
-use Rattle.rules.specs.Rules.{formOk, fieldRulesOk, keepsRules, forces, judged, status}
+use Rattle.with_meta.specs.WithMeta.{optionsOf, withMeta}
+use Rattle.rules.specs.Rules.{isForced as forced, forces, judged, status}
 use Rattle.rules.proofs.RuleLaws.{built, formed, field-rules}
 use Rattle.request.specs.declared.Gate.{Gate}
 use Rattle.request.specs.declared.Gate.the-variants.{Stop, Whole}
 use Rattle.request.specs.Reading.{gateOf, reading, wholeReading, frameStatus, bytesIn, extrasSpan, keySpan, valueSpan}
+use Rattle.commands.specs.declared.Command.{Command}
+use Rattle.commands.specs.declared.Command.the-variants.{Get, Write, Delete, Count, Noop, Version, WithMeta, GetKeys, Join, Touch}
 use Rattle.commands.specs.Rules.{ruleOf, testsOf, firstFailure}
 use Rattle.decision.specs.declared.Decision.{Decision}
 use Rattle.decision.specs.Decision.{decision}
@@ -32,19 +38,69 @@ use Rattle.serving.specs.declared.Served.the-variants.{Done}
 use Rattle.serving.specs.Serve.{gateAll, contextOn, refusal, reachesDecision, decisionOn, frameEffect, tableChanged, frameTable, frameReply, answerBy, tableBy, replyBy, served, servedTable, servedReply}
 use Rattle.serving.proofs.Formed.{no}
 use Rattle.serving.proofs.Gated.{was-open}
-use Rattle.promises.specs.Expiry.{opcode, extrasIn, Passes}
+use Rattle.promises.specs.Expiry.{opcode, extrasIn, withMetas, Passes}
 use Rattle.promises.specs.Replies.{writers}
-use Rattle.promises.proofs.Asks.{tested, ask}
+use Rattle.promises.proofs.Asks.{tested, ask, IsPlain, plain-asked}
 use Rattle.promises.proofs.Liveness.{later, listed, all-pass, answered}
 use Rattle.promises.proofs.Dead.{seen, rule, tests, list}
 use Rattle.promises.proofs.Keeps.{status-keeps}
 use Rattle.force.specs.Force.{isForced, Comes, ForceRefused, ForceStoresNothing, ForceUnread, StandbyTakesNone, ruled, ServedSame, RulesAlike}
 
+-- ---- which frames are forced
+-- a shape has a meta exactly if its opcode is a with-meta one
+carried : Command → Bool
+carried (Get k) = false
+carried (Write p) = false
+carried Delete = false
+carried (Count k) = false
+carried Noop = false
+carried Version = false
+carried (WithMeta w) = true
+carried (GetKeys n) = false
+carried (Join side) = false
+carried (Touch t) = false
+
+plain-not : (x : Command) → IsPlain x → carried x ≡ false
+unfolding carried
+plain-not (Get k) p = refl
+plain-not (Write w) p = refl
+plain-not Delete p = refl
+plain-not (Count k) p = refl
+plain-not Noop p = refl
+plain-not Version p = refl
+plain-not (WithMeta w) p = absurd p
+plain-not (GetKeys n) p = refl
+plain-not (Join side) p = refl
+plain-not (Touch t) p = refl
+
+meta-asked : (n : ℕ) (extras : List ℕ) → eqb (shapeOf n .meta) 0 ≡ not (carried (commandOf (shapeOf n .operation) extras))
+unfolding commands commandOf plainOf counterOf touchOf metaCommand carried
+meta-asked n extras = same-shape (λ (x : Shape). eqb (x .meta) 0) (λ (x : Shape). not (carried (commandOf (x .operation) extras))) n refl
+
+no-meta : (n : ℕ) (extras : List ℕ) → among n withMetas ≡ false → eqb (shapeOf n .meta) 0 ≡ true
+no-meta n extras e = meta-asked n extras ∙ rw (plain-not (commandOf (shapeOf n .operation) extras) (plain-asked n extras e))
+
+a-meta : (n : ℕ) → among n withMetas ≡ true → eqb (shapeOf n .meta) 0 ≡ false
+unfolding shapeOf
+a-meta n e = not-true _ (tested (λ x. not (eqb (shapeOf x .meta) 0)) n withMetas refl e)
+
+odd-options : (extras : List ℕ) → forced (withMeta extras) ≡ (leb 28 (length extras) && eqb (num extras 24 4 % 2) 1)
+unfolding forced withMeta optionsOf
+odd-options extras = cases (leb 28 (length extras)) (λ t. rw t) (λ t. rw t)
+
+-- the definition that decides it says the same
+forces-said : (s : List ℕ) → forces (shapeOf (opcode s)) (extrasIn s) ≡ isForced s
+unfolding forces
+forces-said s =
+    cases (among (opcode s) withMetas)
+    (λ t. rw (t, a-meta (opcode s) t) (odd-options (extrasIn s)))
+    (λ t. rw (t, no-meta (opcode s) (extrasIn s) t))
+
 -- ---- the new rule
 -- a forced frame is unsupported
 unsupported : (config : Config) (b : List ℕ) (clock : ℕ) (s : List ℕ) → config .forcing ≡ false → isForced s ≡ true → tests config b clock s .unsupported ≡ true
 unfolding testsOf requestOf
-unsupported config b clock s n f = rw (n, f)
+unsupported config b clock s n f = rw (n, forces-said s ∙ f)
 
 pub force-refused : (config : Config) → ForceRefused config
 unfolding served gateAll frameEffect firstFailure
@@ -84,7 +140,7 @@ forced-status s h f r =
 
 pub force-unread : ForceUnread
 unfolding reading wholeReading
-force-unread s w f r = rw (w, forced-status s (headerOf s) f r)
+force-unread s w f r = rw (w, forced-status s (headerOf s) (forces-said s ∙ f) r)
 
 -- ---- tables that aren't active
 -- no write skips the vbucket test
@@ -151,7 +207,7 @@ module _ (engine : EngineKind) (b : List ℕ) (clock : ℕ) (s out : List ℕ) (
 
   -- a whole frame's header is the received bytes'
   unforced : (h : Header) → gate ≡ Whole h → forces (shapeOf (h .opcode)) (bytesIn s (extrasSpan h)) ≡ false
-  unforced h o = ap (λ (x : Header). forces (shapeOf (x .opcode)) (bytesIn s (extrasSpan x))) (sym (was-open (ruled engine false) b s (length out) h o .frame .header)) ∙ f
+  unforced h o = ap (λ (x : Header). forces (shapeOf (x .opcode)) (bytesIn s (extrasSpan x))) (sym (was-open (ruled engine false) b s (length out) h o .frame .header)) ∙ forces-said s ∙ f
 
   abbrev By : Gate → Type 0
   By g =

@@ -1,13 +1,14 @@
--- Order 9 on bytes: "Forced writes made fleet copies disagree for good. A with-meta request with option 0x01 now gets 0x83, tested right after the 0x04 rules, in the reader too." Which requests these are says `forces` of rules/specs/Rules.antt. Proved in proofs/Force.antt.
-use Prim.Native.Nat.{ℕ, _≤_}
+-- Order 9 on bytes: "Forced writes made fleet copies disagree for good. A with-meta request with option 0x01 now gets 0x83, tested right after the 0x04 rules, in the reader too." Proved in proofs/Force.antt.
+use Prim.Native.Nat.{ℕ, _%_, _≤_}
 use mathlib.Core.Path.{_≡_}
-use mathlib.Core.Bool.{Bool, true, false}
+use mathlib.Core.Bool.{Bool, true, false, _&&_}
 use mathlib.Core.List.{List}
 use lib.ListN.{length, take}
+use lib.Dec.{leb, eqb}
 use Rattle.octets.specs.Parts.{Bytes}
-use Rattle.shape.specs.Shapes.{among, shapeOf}
+use Rattle.octets.specs.BigEndian.{num}
+use Rattle.shape.specs.Shapes.{among}
 use Rattle.header.specs.Header.{headerOf}
-use Rattle.rules.specs.Rules.{forces}
 use Rattle.request.specs.declared.Gate.the-variants.{Whole}
 use Rattle.request.specs.declared.Reading.the-variants.{Status}
 use Rattle.request.specs.Reading.{gateOf, reading}
@@ -19,12 +20,12 @@ use Rattle.serving.specs.declared.Served.the-variants.{Done}
 use Rattle.serving.specs.Serve.{reachesDecision, served, servedTable, servedReply}
 use Rattle.serving.specs.Statuses.{statuses}
 use Rattle.promises.specs.Kept.{clockRaised}
-use Rattle.promises.specs.Expiry.{opcode, extrasIn, Passes, Answers}
+use Rattle.promises.specs.Expiry.{opcode, extrasIn, withMetas, Passes, Answers}
 use Rattle.promises.specs.Replies.{writers}
 
--- a with-meta frame with option 0x01
+-- a with-meta frame with option 0x01, in its bytes and not by the definition that decides it: extras of 28 and 30 bytes have the options in the four bytes from 24 on
 abbrev pub isForced : List ℕ → Bool
-isForced s = forces (shapeOf (opcode s)) (extrasIn s)
+isForced s = among (opcode s) withMetas && (leb 28 (length (extrasIn s)) && eqb (num (extrasIn s) 24 4 % 2) 1)
 
 -- a whole frame on an undamaged table, with room for a reply
 pub record Comes (config : Config) (b s : List ℕ) (room : ℕ) : Type 0 where
