@@ -16,7 +16,7 @@ use Rattle.shape.proofs.ShapeLaws.{same-shape}
 use Rattle.header.specs.declared.Header.{Header}
 use Rattle.header.specs.Header.{headerOf}
 use Rattle.with_meta.specs.WithMeta.{optionsOf, withMeta}
-use Rattle.rules.specs.Rules.{isForced as forced, forces, judged, status}
+use Rattle.rules.specs.Rules.{isForced, forces, judged, status}
 use Rattle.rules.proofs.RuleLaws.{built, formed, field-rules}
 use Rattle.request.specs.declared.Gate.{Gate}
 use Rattle.request.specs.declared.Gate.the-variants.{Stop, Whole}
@@ -35,7 +35,8 @@ use Rattle.rows.specs.Table.{Table, tableOf, tableAt, clockAt, tableBytes}
 use Rattle.rows.specs.Find.{findRow}
 use Rattle.serving.specs.Reply.{replyShows, replyBytes}
 use Rattle.serving.specs.declared.Served.the-variants.{Done}
-use Rattle.serving.specs.Serve.{gateAll, contextOn, refusal, reachesDecision, decisionOn, frameEffect, tableChanged, frameTable, frameReply, answerBy, tableBy, replyBy, served, servedTable, servedReply}
+use Rattle.serving.specs.Serve.{gateAll, contextOn, refusal, reachesDecision, decisionOn}
+use Rattle.serving.specs.Serve.{frameEffect, tableChanged, frameTable, frameReply, answerBy, tableBy, replyBy, served, servedTable, servedReply}
 use Rattle.serving.proofs.Formed.{no}
 use Rattle.serving.proofs.Gated.{was-open}
 use Rattle.promises.specs.Expiry.{opcode, extrasIn, withMetas, Passes}
@@ -44,7 +45,7 @@ use Rattle.promises.proofs.Asks.{tested, ask, IsPlain, plain-asked}
 use Rattle.promises.proofs.Liveness.{later, listed, all-pass, answered}
 use Rattle.promises.proofs.Dead.{seen, rule, tests, list}
 use Rattle.promises.proofs.Keeps.{status-keeps}
-use Rattle.force.specs.Force.{isForced, Comes, ForceRefused, ForceStoresNothing, ForceUnread, StandbyTakesNone, ruled, ServedSame, RulesAlike}
+use Rattle.force.specs.Force.{asksForce, Comes, ForceRefused, ForceStoresNothing, ForceUnread, StandbyTakesNone, ruled, ServedSame, RulesAlike}
 
 -- ---- which frames are forced
 -- a shape has a meta exactly if its opcode is a with-meta one
@@ -84,12 +85,12 @@ a-meta : (n : ℕ) → among n withMetas ≡ true → eqb (shapeOf n .meta) 0 �
 unfolding shapeOf
 a-meta n e = not-true _ (tested (λ x. not (eqb (shapeOf x .meta) 0)) n withMetas refl e)
 
-odd-options : (extras : List ℕ) → forced (withMeta extras) ≡ (leb 28 (length extras) && eqb (num extras 24 4 % 2) 1)
-unfolding forced withMeta optionsOf
+odd-options : (extras : List ℕ) → isForced (withMeta extras) ≡ (leb 28 (length extras) && eqb (num extras 24 4 % 2) 1)
+unfolding isForced withMeta optionsOf
 odd-options extras = cases (leb 28 (length extras)) (λ t. rw t) (λ t. rw t)
 
 -- the definition that decides it says the same
-forces-said : (s : List ℕ) → forces (shapeOf (opcode s)) (extrasIn s) ≡ isForced s
+forces-said : (s : List ℕ) → forces (shapeOf (opcode s)) (extrasIn s) ≡ asksForce s
 unfolding forces
 forces-said s =
     cases (among (opcode s) withMetas)
@@ -98,7 +99,7 @@ forces-said s =
 
 -- ---- the new rule
 -- a forced frame is unsupported
-unsupported : (config : Config) (b : List ℕ) (clock : ℕ) (s : List ℕ) → config .forcing ≡ false → isForced s ≡ true → tests config b clock s .unsupported ≡ true
+unsupported : (config : Config) (b : List ℕ) (clock : ℕ) (s : List ℕ) → config .forcing ≡ false → asksForce s ≡ true → tests config b clock s .unsupported ≡ true
 unfolding testsOf requestOf
 unsupported config b clock s n f = rw (n, forces-said s ∙ f)
 
@@ -201,7 +202,7 @@ module _ (engine : EngineKind) (s : List ℕ) (h : Header) (f : forces (shapeOf 
         let key = bytesIn s (keySpan h) in
         ap (λ (x : Decision). replyBytes (h .opcode) (h .opaque) x key (replyShows (x .done .reply) (tableOf b .rows) now key)) (same-decision (tableAt (tableOf b) clock) now)
 
-module _ (engine : EngineKind) (b : List ℕ) (clock : ℕ) (s out : List ℕ) (f : isForced s ≡ false) where
+module _ (engine : EngineKind) (b : List ℕ) (clock : ℕ) (s out : List ℕ) (f : asksForce s ≡ false) where
   abbrev gate : Gate
   gate = gateAll (ruled engine false) b (length out) s
 

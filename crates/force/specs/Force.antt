@@ -24,8 +24,8 @@ use Rattle.promises.specs.Expiry.{opcode, extrasIn, withMetas, Passes, Answers}
 use Rattle.promises.specs.Replies.{writers}
 
 -- a with-meta frame with option 0x01, in its bytes and not by the definition that decides it: extras of 28 and 30 bytes have the options in the four bytes from 24 on
-abbrev pub isForced : List ℕ → Bool
-isForced s = among (opcode s) withMetas && (leb 28 (length (extrasIn s)) && eqb (num (extrasIn s) 24 4 % 2) 1)
+abbrev pub asksForce : List ℕ → Bool
+asksForce s = among (opcode s) withMetas && (leb 28 (length (extrasIn s)) && eqb (num (extrasIn s) 24 4 % 2) 1)
 
 -- a whole frame on an undamaged table, with room for a reply
 pub record Comes (config : Config) (b s : List ℕ) (room : ℕ) : Type 0 where
@@ -37,19 +37,19 @@ pub record Comes (config : Config) (b s : List ℕ) (room : ℕ) : Type 0 where
 -- where its opcode is built and no 0x04 applies, one of mode or clock neither, it is 0x83, whatever its value's size, its vbucket and the table's state. It rules out 0x83 tested after 0x03 or 0x07
 abbrev pub ForceRefused : Config → Type 0
 ForceRefused config =
-    (b : List ℕ) (clock : ℕ) (s : List ℕ) (room : ℕ) → config .forcing ≡ false → isForced s ≡ true → Comes config b s room
+    (b : List ℕ) (clock : ℕ) (s : List ℕ) (room : ℕ) → config .forcing ≡ false → asksForce s ≡ true → Comes config b s room
     → Passes (take 5 (statuses config (tableAt (tableOf b) clock) (clockAt (tableOf b) clock) s (headerOf s)))
     → Answers config b clock s room 0x83
 
 -- and stores nothing, whatever its status
 abbrev pub ForceStoresNothing : Config → Type 0
 ForceStoresNothing config =
-    (b : List ℕ) (clock : ℕ) (s : List ℕ) (room status used len : ℕ) → Bytes b → config .forcing ≡ false → isForced s ≡ true
+    (b : List ℕ) (clock : ℕ) (s : List ℕ) (room status used len : ℕ) → Bytes b → config .forcing ≡ false → asksForce s ≡ true
     → served config b clock s room ≡ Done status used len → (status ≡ 0 → ⊥) × (servedTable config b clock s room ≡ clockRaised b clock)
 
 -- "in the reader too": where none of its 0x04 rules applies
 abbrev pub ForceUnread : Type 0
-ForceUnread = (s : List ℕ) → gateOf s ≡ Whole (headerOf s) → isForced s ≡ true → reachesDecision s (headerOf s) ≡ true → reading s ≡ Status 0x83
+ForceUnread = (s : List ℕ) → gateOf s ≡ Whole (headerOf s) → asksForce s ≡ true → reachesDecision s (headerOf s) ≡ true → reading s ≡ Status 0x83
 
 -- ---- "Replica and pending tables now take no write": nor does a dead one, by either rule. It rules out 01's exception
 abbrev pub StandbyTakesNone : Config → Type 0
@@ -67,4 +67,4 @@ pub record ServedSame (config other : Config) (b : List ℕ) (clock : ℕ) (s ou
   pub reply : servedReply config b clock s out ≡ servedReply other b clock s out
 
 abbrev pub RulesAlike : Type 0
-RulesAlike = (engine : EngineKind) (b : List ℕ) (clock : ℕ) (s out : List ℕ) → isForced s ≡ false → ServedSame (ruled engine true) (ruled engine false) b clock s out
+RulesAlike = (engine : EngineKind) (b : List ℕ) (clock : ℕ) (s out : List ℕ) → asksForce s ≡ false → ServedSame (ruled engine true) (ruled engine false) b clock s out

@@ -32,10 +32,11 @@ use Rattle.engines.specs.Damage.{soundBy}
 use Rattle.rows.specs.Table.{Table, tableOf, tableAt, clockAt, tableBytes}
 use Rattle.rows.specs.Find.{findRow}
 use Rattle.serving.specs.Reply.{replyShows, replyBytes}
-use Rattle.serving.specs.Serve.{servedOutcome, servedStatus, servedLength, servedNeeded, gateAll, contextOn, refusal, reachesDecision, decisionOn, frameEffect, tableChanged, frameTable, frameReply, answerBy, tableBy, replyBy, served, servedTable, servedReply}
-use Rattle.promises.specs.Expiry.{opcode, extrasIn, keyIn, withMetas}
+use Rattle.serving.specs.Serve.{servedOutcome, servedStatus, servedLength, servedNeeded, gateAll}
+use Rattle.serving.specs.Serve.{contextOn, refusal, reachesDecision, decisionOn, frameEffect, tableChanged, frameTable, frameReply, answerBy, tableBy, replyBy, served, servedTable, servedReply}
+use Rattle.promises.specs.Expiry.{opcode, extrasIn, keyIn, valueIn, withMetas}
 use Rattle.promises.proofs.Asks.{at-opcode}
-use Rattle.layouts.specs.Layouts.{valueIn, Formed, OneWrite, ServedAlike, EitherLayout}
+use Rattle.layouts.specs.Layouts.{RightForm, OneWrite, ServedAlike, EitherLayout}
 
 -- ---- what goes by the write alone
 -- the command, by its opcode
@@ -101,7 +102,7 @@ module _ (s : List ℕ) (h : Header) (whole : 24 + h .body ≤ length s) (form :
   bare-cut = rw (value-length, take-take (valueSpan h .len - section) (valueSpan h .len) _ (omega arith))
 
 -- ---- two frames that carry one write
-module _ (config : Config) (s s′ : List ℕ) (formed : Formed s) (formed′ : Formed s′) (o : OneWrite s s′) where
+module _ (config : Config) (s s′ : List ℕ) (formed : RightForm s) (formed′ : RightForm s′) (o : OneWrite s s′) where
   abbrev h : Header
   h = headerOf s
 

@@ -50,7 +50,8 @@ faulty : (c : Context) (n : ℕ) (extras : List ℕ) → among n withMetas ≡ t
 unfolding ruleOf metaCommand
 faulty c n extras m o l = let (k, e) = carries c extras n m in rw (e, o, l)
 
-module _ (config : Config) (t : Table) (clock : ℕ) (s : List ℕ) (h : Header) (whole : 24 + h .body ≤ length s) (command : among (h .opcode) withMetas ≡ true) (size : h .extlen ≡ 25) (last : modeOf (t .head .mode) ≡ LastWrite) where
+module _ (config : Config) (t : Table) (clock : ℕ) (s : List ℕ) (h : Header) (whole : 24 + h .body ≤ length s)
+    (command : among (h .opcode) withMetas ≡ true) (size : h .extlen ≡ 25) (last : modeOf (t .head .mode) ≡ LastWrite) where
   abbrev extras : List ℕ
   extras = bytesIn s (extrasSpan h)
 

@@ -18,7 +18,7 @@ use Rattle.engines.proofs.Tables.{sound-good-by, good-sound-by, state-good-by}
 use Rattle.owning.specs.declared.Activated.{Activated}
 use Rattle.owning.specs.declared.Activated.the-variants.{Damaged, Dead, Active}
 use Rattle.owning.specs.Owner.{isDead, activateOutcome, activateStatus, activateOf, activatedTable, activatedBytes}
-use Rattle.owning.specs.Claims.{Answers, SameButActive, ActivateDamaged, ActivateDead, ActivateActive, ActivateMakes, ActivateKeeps, ActivateTwice}
+use Rattle.owning.specs.Claims.{ActivateAnswers, SameButActive, ActivateDamaged, ActivateDead, ActivateActive, ActivateMakes, ActivateKeeps, ActivateTwice}
 
 -- ---- by the damage test and the state
 module _ (config : Config) (b : List ℕ) where
@@ -70,7 +70,7 @@ same-size t = refl
 
 -- ---- the claims
 answered : (config : Config) (b after : List ℕ) (a : Activated) → (activateOf config b ≡ a) × (activatedBytes config b ≡ after)
-    → Answers config b (activateOutcome a) (activateStatus a) after
+    → ActivateAnswers config b (activateOutcome a) (activateStatus a) after
 answered config b after a (e, f) = record { outcome-is = ap activateOutcome e; status-is = ap activateStatus e; memory = f }
 
 pub damaged-stays : ActivateDamaged

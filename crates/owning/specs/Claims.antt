@@ -11,22 +11,22 @@ use Rattle.engines.specs.Damage.{soundBy}
 use Rattle.owning.specs.Owner.{activateOutcome, activateStatus, activateOf, activatedBytes}
 
 -- what a call answers, by outcome and status, and the memory after it
-pub record Answers (config : Config) (b : List ℕ) (outcome status : ℕ) (after : List ℕ) : Type 0 where
+pub record ActivateAnswers (config : Config) (b : List ℕ) (outcome status : ℕ) (after : List ℕ) : Type 0 where
   pub outcome-is : activateOutcome (activateOf config b) ≡ outcome
   pub status-is : activateStatus (activateOf config b) ≡ status
   pub memory : activatedBytes config b ≡ after
 
 -- "It answers 5 on a damaged table", and changes nothing
 abbrev pub ActivateDamaged : Type 0
-ActivateDamaged = (config : Config) (b : List ℕ) → soundBy config b ≡ false → Answers config b 5 0 b
+ActivateDamaged = (config : Config) (b : List ℕ) → soundBy config b ≡ false → ActivateAnswers config b 5 0 b
 
 -- "and 0x07 on a dead one", and changes nothing
 abbrev pub ActivateDead : Type 0
-ActivateDead = (config : Config) (b : List ℕ) → soundBy config b ≡ true → tableOf b .head .state ≡ 4 → Answers config b 0 0x07 b
+ActivateDead = (config : Config) (b : List ℕ) → soundBy config b ≡ true → tableOf b .head .state ≡ 4 → ActivateAnswers config b 0 0x07 b
 
 -- "leaves an active one"
 abbrev pub ActivateActive : Type 0
-ActivateActive = (config : Config) (b : List ℕ) → Bytes b → soundBy config b ≡ true → tableOf b .head .state ≡ 1 → Answers config b 0 0 b
+ActivateActive = (config : Config) (b : List ℕ) → Bytes b → soundBy config b ≡ true → tableOf b .head .state ≡ 1 → ActivateAnswers config b 0 0 b
 
 -- the table in these bytes is sound and active, and but for its state the one in those
 pub record SameButActive (config : Config) (b after : List ℕ) : Type 0 where
@@ -42,7 +42,7 @@ pub record SameButActive (config : Config) (b after : List ℕ) : Type 0 where
 abbrev pub ActivateMakes : Type 0
 ActivateMakes =
     (config : Config) (b : List ℕ) → Bytes b → soundBy config b ≡ true → (tableOf b .head .state ≡ 4 → ⊥)
-    → Answers config b 0 0 (1 ∷ drop 1 b) × SameButActive config b (activatedBytes config b)
+    → ActivateAnswers config b 0 0 (1 ∷ drop 1 b) × SameButActive config b (activatedBytes config b)
 
 -- "changes nothing but the state", on any memory: not its size, and no byte after the first
 abbrev pub ActivateKeeps : Type 0

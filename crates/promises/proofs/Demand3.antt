@@ -74,7 +74,8 @@ gate-go : (config : Config) (t : Table) (c : Call) → GoodBy config t → Passe
 unfolding gateAll
 gate-go config t c g w = rw (good-sound-by config t g .0, le-ltb (length (c .reply)) 1302 (w .room)) (w .whole)
 
-status-same : (config : Config) (t : Table) (c : Call) → GoodBy config t → Passes c → servedStatus (servedBy config (tableBytes t) c) ≡ effectOn (engineOf config) (viewed config t) (asked (config .forcing) c) .status
+status-same : (config : Config) (t : Table) (c : Call) → GoodBy config t → Passes c
+    → servedStatus (servedBy config (tableBytes t) c) ≡ effectOn (engineOf config) (viewed config t) (asked (config .forcing) c) .status
 unfolding served
 status-same config t c g w = rw (gate-go config t c g w, good-sound-by config t g .1) (ap (λ (x : Effect). x .status) (effect-same config t c w))
 
@@ -112,7 +113,8 @@ lifted config t (c ∷ cs) g w =
           ap (λ (x : List ℕ). servedStatus (servedBy config (tableBytes t) c) ∷ callStatuses config x cs) e
           ∙ ap (λ (n : ℕ). n ∷ callStatuses config (tableBytes (stepped config t c)) cs) (status-same config t c g (w .0))
           ∙ ap (λ (l : List ℕ). effectOn (engineOf config) (viewed config t) (asked (config .forcing) c) .status ∷ l) (r .statuses)
-          ∙ ap (λ (x : abstract.State (engineOf config)). effectOn (engineOf config) (viewed config t) (asked (config .forcing) c) .status ∷ statusesOf (engineOf config) x (map (asked (config .forcing)) cs)) v;
+          ∙ ap (λ (x : abstract.State (engineOf config)).
+          effectOn (engineOf config) (viewed config t) (asked (config .forcing) c) .status ∷ statusesOf (engineOf config) x (map (asked (config .forcing)) cs)) v;
     }
 
 -- ---- the premises and the promises

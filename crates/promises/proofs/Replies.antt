@@ -124,7 +124,8 @@ abbrev statusAlone : Head → ℕ → ℕ → Decision
 statusAlone hd op st = record { status = st; silent = silentMiss op st; done = nothing hd Bare (record { 0 = 0 }) }
 
 decided-alone : (config : Config) (t : Table) (clock : ℕ) (s : List ℕ) (h : Header) → (decision (contextFor t clock s h) (instructionOf (requestOf (config .forcing) s h)) .status ≡ 0 → ⊥)
-    → decision (contextFor t clock s h) (instructionOf (requestOf (config .forcing) s h)) ≡ statusAlone (t .head) (h .opcode) (decision (contextFor t clock s h) (instructionOf (requestOf (config .forcing) s h)) .status)
+    → decision (contextFor t clock s h) (instructionOf (requestOf (config .forcing) s h))
+    ≡ statusAlone (t .head) (h .opcode) (decision (contextFor t clock s h) (instructionOf (requestOf (config .forcing) s h)) .status)
 unfolding decision requestOf
 decided-alone config t clock s h n =
     let c = contextFor t clock s h in

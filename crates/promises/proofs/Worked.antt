@@ -147,10 +147,13 @@ module _ (config : Config) (b : List ℕ) (cs : List Call) where
       unique = λ k x y p q e. all-told k x p ∙ ap told e ∙ sym (all-told k y q);
     }
 
--- ---- computed from bytes to bytes, on both engines
-computed : (engine : EngineKind) (forcing : Bool) → Computed (record { engine = engine; forcing = forcing }) (table 1) (calls 1) × Computed (record { engine = engine; forcing = forcing }) (table 2) (calls 2)
-unfolding be bytesOf zeros same among shapeOf headerOf withMeta sectionOk status gateOf keySpan frameStatus commandOf bareValue metaSize slotOf rowOf rowBytes tableOf tableBytes sizeOk
-    headOk usedOk rowSound sound soundOrdered soundBy sideOf
+-- ---- computed from bytes to bytes, on both engines, by either rule of force
+abbrev ruled : EngineKind → Bool → Config
+ruled engine forcing = record { engine = engine; forcing = forcing }
+
+computed : (engine : EngineKind) (forcing : Bool) → Computed (ruled engine forcing) (table 1) (calls 1) × Computed (ruled engine forcing) (table 2) (calls 2)
+unfolding be bytesOf zeros same among shapeOf headerOf withMeta sectionOk status gateOf keySpan frameStatus commandOf bareValue metaSize slotOf rowOf rowBytes tableOf
+    tableBytes sizeOk headOk usedOk rowSound sound soundOrdered soundBy sideOf
 computed Plain forcing = (
   record { bytes = refl; undamaged = refl; active = refl; merging = refl; room = refl; rows = search; sent = search },
   record { bytes = refl; undamaged = refl; active = refl; merging = refl; room = refl; rows = search; sent = search },
@@ -160,22 +163,22 @@ computed Ordered forcing = (
   record { bytes = refl; undamaged = refl; active = refl; merging = refl; room = refl; rows = search; sent = search },
 )
 
-plain-worked : (forcing : Bool) → Worked (record { engine = Plain; forcing = forcing })
+plain-worked : (forcing : Bool) → Worked (ruled Plain forcing)
 unfolding written be bytesOf zeros same greater accepted shapeOf headerOf withMeta sectionOk status gateOf keySpan frameStatus ruleOf testsOf
-    firstStatus firstFailure decision doneOf requestOf keepsRules forces isForced slotOf rowOf rowBytes tableOf tableBytes sizeOk headOk usedOk rowSound sound soundOrdered soundBy sideOf gateAll decisionOn
-    frameEffect frameTable served servedTable
+    firstStatus firstFailure decision doneOf requestOf keepsRules forces isForced slotOf rowOf rowBytes tableOf tableBytes sizeOk headOk usedOk rowSound
+    sound soundOrdered soundBy sideOf gateAll decisionOn frameEffect frameTable served servedTable
 plain-worked forcing = record {
   by-revision = record {
-    premises = premises (record { engine = Plain; forcing = forcing }) (table 1) (calls 1) (computed Plain forcing .0);
-    merged = merge-on-bytes (record { engine = Plain; forcing = forcing }) (table 1) (calls 1) (premises (record { engine = Plain; forcing = forcing }) (table 1) (calls 1) (computed Plain forcing .0));
+    premises = premises (ruled Plain forcing) (table 1) (calls 1) (computed Plain forcing .0);
+    merged = merge-on-bytes (ruled Plain forcing) (table 1) (calls 1) (premises (ruled Plain forcing) (table 1) (calls 1) (computed Plain forcing .0));
     statuses = refl;
     after = refl;
     hello-ends = refl;
     mykey-ends = refl;
   };
   last-write = record {
-    premises = premises (record { engine = Plain; forcing = forcing }) (table 2) (calls 2) (computed Plain forcing .1);
-    merged = merge-on-bytes (record { engine = Plain; forcing = forcing }) (table 2) (calls 2) (premises (record { engine = Plain; forcing = forcing }) (table 2) (calls 2) (computed Plain forcing .1));
+    premises = premises (ruled Plain forcing) (table 2) (calls 2) (computed Plain forcing .1);
+    merged = merge-on-bytes (ruled Plain forcing) (table 2) (calls 2) (premises (ruled Plain forcing) (table 2) (calls 2) (computed Plain forcing .1));
     statuses = refl;
     after = refl;
     hello-ends = refl;
@@ -183,22 +186,22 @@ plain-worked forcing = record {
   };
 }
 
-ordered-worked : (forcing : Bool) → Worked (record { engine = Ordered; forcing = forcing })
+ordered-worked : (forcing : Bool) → Worked (ruled Ordered forcing)
 unfolding written be bytesOf zeros same greater accepted shapeOf headerOf withMeta sectionOk status gateOf keySpan frameStatus ruleOf testsOf
-    firstStatus firstFailure decision doneOf requestOf keepsRules forces isForced slotOf rowOf rowBytes tableOf tableBytes sizeOk headOk usedOk rowSound sound soundOrdered soundBy sideOf gateAll decisionOn
-    frameEffect frameTable served servedTable
+    firstStatus firstFailure decision doneOf requestOf keepsRules forces isForced slotOf rowOf rowBytes tableOf tableBytes sizeOk headOk usedOk rowSound
+    sound soundOrdered soundBy sideOf gateAll decisionOn frameEffect frameTable served servedTable
 ordered-worked forcing = record {
   by-revision = record {
-    premises = premises (record { engine = Ordered; forcing = forcing }) (table 1) (calls 1) (computed Ordered forcing .0);
-    merged = merge-on-bytes (record { engine = Ordered; forcing = forcing }) (table 1) (calls 1) (premises (record { engine = Ordered; forcing = forcing }) (table 1) (calls 1) (computed Ordered forcing .0));
+    premises = premises (ruled Ordered forcing) (table 1) (calls 1) (computed Ordered forcing .0);
+    merged = merge-on-bytes (ruled Ordered forcing) (table 1) (calls 1) (premises (ruled Ordered forcing) (table 1) (calls 1) (computed Ordered forcing .0));
     statuses = refl;
     after = refl;
     hello-ends = refl;
     mykey-ends = refl;
   };
   last-write = record {
-    premises = premises (record { engine = Ordered; forcing = forcing }) (table 2) (calls 2) (computed Ordered forcing .1);
-    merged = merge-on-bytes (record { engine = Ordered; forcing = forcing }) (table 2) (calls 2) (premises (record { engine = Ordered; forcing = forcing }) (table 2) (calls 2) (computed Ordered forcing .1));
+    premises = premises (ruled Ordered forcing) (table 2) (calls 2) (computed Ordered forcing .1);
+    merged = merge-on-bytes (ruled Ordered forcing) (table 2) (calls 2) (premises (ruled Ordered forcing) (table 2) (calls 2) (computed Ordered forcing .1));
     statuses = refl;
     after = refl;
     hello-ends = refl;
@@ -206,7 +209,7 @@ ordered-worked forcing = record {
   };
 }
 
-worked-in : (engine : EngineKind) (forcing : Bool) → Worked (record { engine = engine; forcing = forcing })
+worked-in : (engine : EngineKind) (forcing : Bool) → Worked (ruled engine forcing)
 worked-in Plain forcing = plain-worked forcing
 worked-in Ordered forcing = ordered-worked forcing
 

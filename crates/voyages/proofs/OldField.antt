@@ -20,13 +20,13 @@ use Rattle.trace_writer.proofs.FieldLaws.{length-rule}
 use Rattle.trace_writer.proofs.ReadBack.{rule-back}
 use Rattle.replay.specs.Replay.{Voyage, isOneFrame, withClock, withFrame, withPurge, onField, onTurn, After, walked, setOut, ruledBy, replayed}
 use Rattle.voyages.specs.Spelling.{WellOpened}
-use Rattle.voyages.specs.Forcing.{later, OldRuleAsNone}
+use Rattle.voyages.specs.Forcing.{fourLater, OldRuleAsNone}
 use Rattle.voyages.proofs.Spelling.{opening-read, spelt-first}
 use Rattle.voyages.proofs.Forcing.{says-old}
 use Rattle.voyages.proofs.Recorded.{at-first, at-any, first-at}
 
 abbrev moved : After → After
-moved a = record { answer = later (a .answer); table = a .table }
+moved a = record { answer = fourLater (a .answer); table = a .table }
 
 abbrev move : Placed → Placed
 move p = record { at = p .at + 4; field = p .field; bytes = p .bytes }

@@ -51,15 +51,15 @@ OtherRuleStops config =
     → replayed config b trace ≡ record { answer = Stopped (p .at); table = memoryAfter (ruledBy config trace) (tableFor trace) (callsOf 0 before) }
 
 -- "a 1 there means the old": such a field does nothing but put what follows 4 bytes later
-abbrev pub later : Ending → Ending
-later (Differs at) = Differs (at + 4)
-later (Stopped at) = Stopped (at + 4)
-later (Replayed n) = Replayed n
-later Damaged = Damaged
+abbrev pub fourLater : Ending → Ending
+fourLater (Differs at) = Differs (at + 4)
+fourLater (Stopped at) = Stopped (at + 4)
+fourLater (Replayed n) = Replayed n
+fourLater Damaged = Damaged
 
 -- a trace of three bytes of opening, and of fields that don't begin with tag 5, replays as it does with that field before them
 abbrev pub OldRuleAsNone : Config → Type 0
 OldRuleAsNone config =
     (b : List ℕ) (mode high low : ℕ) (fields : List ℕ) → WellOpened (mode ∷ (high ∷ (low ∷ (ruleField true ++ fields)))) → (num fields 0 1 ≡ 5 → ⊥)
     → replayed config b (mode ∷ (high ∷ (low ∷ (ruleField true ++ fields))))
-    ≡ record { answer = later (replayed config b (mode ∷ (high ∷ (low ∷ fields))) .answer); table = replayed config b (mode ∷ (high ∷ (low ∷ fields))) .table }
+    ≡ record { answer = fourLater (replayed config b (mode ∷ (high ∷ (low ∷ fields))) .answer); table = replayed config b (mode ∷ (high ∷ (low ∷ fields))) .table }

@@ -72,7 +72,8 @@ instruction-with-requires-4 c κs = search needs
 returns : tie.Need-returns
 returns c =
     let a = c .before .before .before .before .before .before .before .args in
-    ap Whole (c .instruction-with .ensures) ∙ told (a .forcing) (a .shape) (a .h) (now (a .extras)) (now (a .value)) _ _ (c .before .before .before .before .family-of .ensures) (c .before .before .c .given .1)
+    ap Whole (c .instruction-with .ensures)
+    ∙ told (a .forcing) (a .shape) (a .h) (now (a .extras)) (now (a .value)) _ _ (c .before .before .before .before .family-of .ensures) (c .before .before .c .given .1)
 
 returns-2 : tie.Need-returns-2
 returns-2 c =
