@@ -2,8 +2,8 @@
  * contacts.h: a store of sonar contacts in lent memory that speaks Couchbase's binary protocol.
  *
  * Link with libcontacts.a, which is for x86-64 Linux. A table is plain memory of yours: the library makes it, serves
- * requests on it, reads and purges it, and keeps nothing between calls. It allocates nothing, does no input or output,
- * and takes less than 5 KiB of stack, contacts_replay less than 6 KiB (measured).
+ * requests on it, reads and purges it, makes it active, and keeps nothing between calls. It allocates nothing, does no
+ * input or output, and takes less than 5 KiB of stack, contacts_replay less than 6 KiB (measured).
  *
  * Every call is proved to return and to meet a contract that fixes its answer and every lent byte, whatever numbers and
  * bytes you pass. This header says the contracts in words. docs/LAYOUT.md has the layout of tables, frames, traces and
@@ -73,7 +73,7 @@ extern "C" {
 #define CONTACTS_STATUS_NOT_MY_VBUCKET 0x07   /* another vbucket, or a table that isn't active */
 #define CONTACTS_STATUS_UNKNOWN_COMMAND 0x81
 #define CONTACTS_STATUS_OUT_OF_MEMORY 0x82    /* the key has no row and no row is free */
-#define CONTACTS_STATUS_NOT_SUPPORTED 0x83    /* a command of the protocol that this store leaves out */
+#define CONTACTS_STATUS_NOT_SUPPORTED 0x83    /* a command of the protocol that this store leaves out, or option 0x01 */
 #define CONTACTS_STATUS_INTERNAL 0x84         /* a CAS or revision that must grow is at 2^64 - 1 */
 
 /* ---- A table's memory: big-endian numbers at these offsets ----------------------------------------------------- */
@@ -204,7 +204,7 @@ extern "C" {
 #define CONTACTS_META_2012_AT_REVISION 16     /* 8 bytes */
 #define CONTACTS_META_2012_AT_NRU 24          /* 1 byte, any: it is ignored */
 
-#define CONTACTS_OPTION_FORCE 0x01            /* no comparison; replica and pending tables take it too */
+#define CONTACTS_OPTION_FORCE 0x01            /* retired: 0x83. Old traces alone are replayed with it */
 #define CONTACTS_OPTION_FORCE_ACCEPT 0x02     /* required in last-write-wins, refused in revision mode */
 #define CONTACTS_OPTION_REGENERATE_CAS 0x04   /* the stored CAS is mark + 1; only together with SKIP_CONFLICT */
 #define CONTACTS_OPTION_SKIP_CONFLICT 0x08    /* no comparison */
@@ -230,6 +230,11 @@ extern "C" {
 #define CONTACTS_TAG_FRAME 2                /* one request frame, and nothing after it */
 #define CONTACTS_TAG_REPLY 3                /* the reply expected for the frame before; empty for a silent frame */
 #define CONTACTS_TAG_BOUND 4                /* 8 bytes: the bound of a purge */
+#define CONTACTS_TAG_RULE 5                 /* 1 byte, in the first field alone: a rule of force */
+
+/* The rule of force that a trace is replayed by. One without it is replayed by the old. */
+#define CONTACTS_RULE_OLD 1                 /* CONTACTS_OPTION_FORCE is taken, as it was before it was retired */
+#define CONTACTS_RULE_NEW 2                 /* a with-meta request with CONTACTS_OPTION_FORCE gets status 0x83 */
 
 /* ---- The clock ------------------------------------------------------------------------------------------------- */
 
@@ -244,7 +249,7 @@ extern "C" {
  *
  * The kept clock is raised to the later clock by contacts_serve with outcome 0, whatever the status, so by each frame
  * that contacts_serve_run serves, and by contacts_purge with outcome 0, whether or not it frees a row. Outcomes 1 to 5,
- * contacts_read and contacts_sound leave it. Nothing lowers it but contacts_make, which makes it 0.
+ * contacts_read, contacts_activate and contacts_sound leave it. Nothing lowers it but contacts_make, which makes it 0.
  *
  * WARNING: a clock that is too late stays. After one of 2^32 - 1 every relative expiry is 0x04, and every document with
  * an expiry is expired, until the table is made anew. Check the clock before the first call.
@@ -299,7 +304,7 @@ uint8_t contacts_make(uint8_t *table, size_t table_len, size_t rows, uint8_t sta
 
 /*
  * Whether the memory is a sound table of this engine: of the size of 1 to 256 rows, and as docs/LAYOUT.md says in every
- * byte. All else is damaged. Reading, purging and serving test this themselves.
+ * byte. All else is damaged. Reading, purging, activating and serving test this themselves.
  *
  *   plain   false: rows in key order; true: the plain engine. So in all calls
  */
@@ -364,6 +369,22 @@ typedef struct contacts_purged {
  */
 contacts_purged contacts_purge(bool plain, uint8_t *table, size_t table_len, uint32_t clock, uint64_t bound);
 
+typedef struct contacts_activated {
+    uint8_t outcome;
+    uint8_t status;
+} contacts_activated;
+
+/*
+ * Makes a replica or pending table active, so that it takes writes. Its first byte, the state, is the only one that
+ * changes: rows, mode, vbucket, mark and kept clock stay. It takes no clock. An active table is left as it is.
+ *
+ * Answers
+ *   outcome 5                   the table is damaged; nothing is changed
+ *   outcome 0, status 0x07      the table is dead, and stays so; nothing is changed
+ *   outcome 0, status 0         the table is active
+ */
+contacts_activated contacts_activate(bool plain, uint8_t *table, size_t table_len);
+
 /* ---- Serving --------------------------------------------------------------------------------------------------- */
 
 /*
@@ -375,9 +396,9 @@ contacts_purged contacts_purge(bool plain, uint8_t *table, size_t table_len, uin
  *                where the expiry goes unused; the count of Get Keys is 0; with meta, also: CAS or revision out of
  *                range; option bits other than 0x0f; option 0x04 without 0x08; option 0x02 missing in last-write-wins
  *                or set in revision mode; flags or expiry of a Delete not 0; broken extended meta
+ *   0x83         with meta: option 0x01, which is retired
  *   0x03         the value is over 1,024 bytes, extended meta not counted
- *   0x07         another vbucket, or a state that isn't active, save with option 0x01 in states 2 and 3. Noop and
- *                Version never have it
+ *   0x07         another vbucket, or a state that isn't active. Noop and Version never have it
  *   0x05         the key isn't live, for Append and Prepend, whatever their header CAS
  *   0x01         the key isn't live, for Get, Replace, Delete, Touch, Get-and-touch, a counter without an initial number,
  *                and for every other write whose header CAS isn't 0
@@ -414,8 +435,8 @@ contacts_purged contacts_purge(bool plain, uint8_t *table, size_t table_len, uin
  *
  * A plain write stores CAS mark + 1, and revision 1 or one more than that of the key's row, an expired one or a
  * tombstone too. A with-meta write stores its own numbers, but CAS mark + 1 under option 0x04. Both raise the mark to
- * their CAS where it is lower, and reply that CAS. Without options 0x01 and 0x08 a with-meta write is compared with the
- * key's row, an expired one or a tombstone too, and must be greater: in revision mode by revision, then CAS; in
+ * their CAS where it is lower, and reply that CAS. Without option 0x08 a with-meta write is compared with the key's
+ * row, an expired one or a tombstone too, and must be greater: in revision mode by revision, then CAS; in
  * last-write-wins by CAS, then revision; then in both by expiry, then by smaller flags.
  */
 
@@ -509,6 +530,7 @@ typedef struct contacts_request {
  *   status 0x81              any other opcode that isn't above
  *   status 0x04              a request against its command's form or field rules, but for the two that need mode or
  *                            clock: option 0x02, and the sum of a clock and a relative expiry
+ *   status 0x83              with meta: option 0x01
  *   status 0x03              a value of over 1,024 bytes, extended meta not counted
  *   outcome 0, status 0      the request
  * Where outcome or status isn't 0, all else is 0. A request that reads well can still be refused when it is served.
@@ -563,6 +585,10 @@ typedef struct contacts_replayed {
  * the last frame was given, also where other replies, clocks or purges stand between. A frame need not be followed by its
  * reply. Keeps no tally.
  *
+ * Traces that were recorded before force was retired may hold forced writes. So every frame is served by the rule that the
+ * trace says: the new one where its first field is CONTACTS_TAG_RULE with CONTACTS_RULE_NEW; else the old one, which
+ * differs for CONTACTS_OPTION_FORCE alone.
+ *
  *   table       memory of CONTACTS_TABLE_SIZE(CONTACTS_REPLAY_ROWS) bytes; what stood in it doesn't matter
  *   trace       any bytes
  *
@@ -572,8 +598,9 @@ typedef struct contacts_replayed {
  *                                 or 2
  *   then, at the first such field, with the place of its tag:
  *   end STOPPED                   it is cut: fewer than 3 bytes are left, or fewer than its length says; it has a tag that
- *                                 isn't above; a clock isn't 4 bytes, a bound not 8; a frame field isn't exactly one frame,
- *                                 to which contacts_serve has outcome 0, whatever its status; a reply has no frame before
+ *                                 isn't above; a clock isn't 4 bytes, a bound not 8; a rule isn't the first field, isn't 1
+ *                                 byte or is neither 1 nor 2; a frame field isn't exactly one frame, to which
+ *                                 contacts_serve has outcome 0, whatever its status; a reply has no frame before
  *   end DIFFERS                   it is a reply that isn't the last frame's, in length or in a byte. One of length 0 is
  *                                 right for a silent frame
  *   and without one:

@@ -10,6 +10,8 @@ use std::hint::black_box;
 use std::time::Instant;
 
 const CLOCK: u32 = 1_000_000;
+/// Order 9's, as the box records it.
+const NEW_RULE: u8 = 2;
 const VALUE: [u8; 16] = [b'v'; 16];
 
 /// A replay takes as long as some hundreds of calls, so that fewer rounds are enough.
@@ -51,7 +53,7 @@ impl Voyage {
 
     fn recorded(keys: usize) -> Voyage {
         let mut table = fresh();
-        let mut trace = Trace::open(Mode::Revision.number(), 0).with([Field::clock(CLOCK)]);
+        let mut trace = Trace::open(Mode::Revision.number(), 0).with([Field::rule(NEW_RULE), Field::clock(CLOCK)]);
         let mut size = trace.size();
         let mut served = Vec::new();
         for number in 0.. {

@@ -205,3 +205,23 @@ impl fmt::Display for WriteRefusal {
 }
 
 impl Error for WriteRefusal {}
+
+/// Why a table isn't made active. It is unchanged.
+#[derive(Clone, Copy, Debug, PartialEq, Eq, Hash)]
+pub enum ActivateRefusal {
+    /// The memory is no sound table: outcome 5.
+    Damaged,
+    /// The table is dead: status 0x07.
+    Dead,
+}
+
+impl fmt::Display for ActivateRefusal {
+    fn fmt(&self, f: &mut fmt::Formatter<'_>) -> fmt::Result {
+        match self {
+            ActivateRefusal::Damaged => Outcome::Damaged.fmt(f),
+            ActivateRefusal::Dead => write!(f, "status 0x07: the table is dead"),
+        }
+    }
+}
+
+impl Error for ActivateRefusal {}

@@ -3,7 +3,8 @@
 
 use crate::raw::{self, Tally};
 use crate::{
-    size, Cas, Damaged, Document, Found, Left, Outcome, Ran, Replay, Revision, Served, Status, Stop, REPLAY_ROWS,
+    size, ActivateRefusal, Cas, Damaged, Document, Found, Left, Outcome, Ran, Replay, Revision, Served, Status, Stop,
+    REPLAY_ROWS,
 };
 
 /// What keeps a table's rows.
@@ -54,6 +55,15 @@ impl Engine {
         match answer.outcome {
             0 => Ok(answer.freed),
             _ => Err(Damaged),
+        }
+    }
+
+    pub fn activate(self, table: &mut [u8]) -> Result<(), ActivateRefusal> {
+        let answer = raw::activate(self.plain(), table);
+        match (answer.outcome, answer.status) {
+            (0, 0) => Ok(()),
+            (0, _) => Err(ActivateRefusal::Dead),
+            _ => Err(ActivateRefusal::Damaged),
         }
     }
 

@@ -1,12 +1,12 @@
 //! A store of sonar contacts in lent memory that speaks Couchbase's binary protocol.
 //!
-//! A table is plain bytes of yours. [`make`] makes one, [`serve`] and [`serve_run`] serve requests on it, [`read`] and
-//! [`purge`] are its owner's; [`read_request`] and [`write_request`] are for frames. The code behind these calls is
+//! A table is plain bytes of yours. [`make`] makes one, [`serve`] and [`serve_run`] serve requests on it, [`read`],
+//! [`purge`] and [`activate`] are its owner's; [`read_request`] and [`write_request`] are for frames. The code behind these calls is
 //! proved: whatever the bytes, each call answers and changes exactly what it says, and a refused one changes nothing.
 //!
 //! A table keeps the latest clock that it has been given, its kept clock, and every call goes by the later of that and
 //! its own: a clock that goes back brings no contact back. [`serve`] and [`serve_run`] raise the kept clock by every
-//! frame that they serve, whatever its status, and [`purge`] does; [`read`] and refused calls leave it, and [`make`]
+//! frame that they serve, whatever its status, and [`purge`] does; [`read`], [`activate`] and refused calls leave it, and [`make`]
 //! alone lowers it, to 0. So a clock that is too late stays: after one of 2^32 - 1 every relative expiry is
 //! [`Status::Invalid`], until the table is made anew. Check the clock before the first call.
 //!
@@ -56,11 +56,11 @@ mod serve;
 mod table;
 mod voyage;
 
-pub use answers::{Damaged, Outcome, Refusal, Status, Stop, WriteRefusal};
+pub use answers::{ActivateRefusal, Damaged, Outcome, Refusal, Status, Stop, WriteRefusal};
 pub use raw::Tally;
 pub use request::{read_request, write_request, Fields, Request};
 pub use serve::{serve, serve_run, Ran, Served};
-pub use table::{make, purge, read, size, sound, Cas, Document, Found, Left, Mode, Revision, State};
+pub use table::{activate, make, purge, read, size, sound, Cas, Document, Found, Left, Mode, Revision, State};
 pub use voyage::{replay, replay_in, Replay, Trace, TraceRefusal};
 
 /// The most rows of a table.

@@ -1,6 +1,6 @@
 //! The options in the extras of with-meta commands.
 
-/// No comparison; replica and pending tables take it too.
+/// Retired: a request with it gets status 0x83. It is taken in the replay of an old trace alone.
 pub const FORCE: u32 = 0x01;
 /// Required in last-write-wins, refused in revision mode.
 pub const FORCE_ACCEPT: u32 = 0x02;

@@ -23,7 +23,7 @@
 //! ```
 
 use crate::engine::Engine;
-use crate::{Cas, Damaged, Found, Ran, Replay, Served, Stop, Tally};
+use crate::{ActivateRefusal, Cas, Damaged, Found, Ran, Replay, Served, Stop, Tally};
 
 /// Whether the memory is a sound table of the plain engine: as for [`sound`](crate::sound), but for the order of its rows. No
 /// two have one key.
@@ -47,6 +47,15 @@ pub fn read<'t>(table: &'t [u8], clock: u32, key: &[u8]) -> Result<Found<'t>, Da
 /// [`Damaged`] where the table is; it is then unchanged.
 pub fn purge(table: &mut [u8], clock: u32, bound: Cas) -> Result<usize, Damaged> {
     Engine::Plain.purge(table, clock, bound)
+}
+
+/// Makes a table active as [`activate`](crate::activate) does.
+///
+/// # Errors
+///
+/// Those of [`activate`](crate::activate).
+pub fn activate(table: &mut [u8]) -> Result<(), ActivateRefusal> {
+    Engine::Plain.activate(table)
 }
 
 /// Serves the request at the start of the received bytes as [`serve`](crate::serve) does.

@@ -73,6 +73,12 @@ pub struct PurgedAnswer {
 }
 
 #[repr(C)]
+pub struct ActivatedAnswer {
+    pub outcome: u8,
+    pub status: u8,
+}
+
+#[repr(C)]
 pub struct RequestAnswer {
     pub outcome: u8,
     pub status: u8,
@@ -119,6 +125,7 @@ extern "C" {
         key_len: usize,
     ) -> DocumentAnswer;
     fn contacts_purge(plain: bool, table: *mut u8, table_len: usize, clock: u32, bound: u64) -> PurgedAnswer;
+    fn contacts_activate(plain: bool, table: *mut u8, table_len: usize) -> ActivatedAnswer;
     fn contacts_serve(
         plain: bool,
         table: *mut u8,
@@ -184,6 +191,10 @@ pub fn read(plain: bool, table: &[u8], clock: u32, key: &[u8]) -> DocumentAnswer
 
 pub fn purge(plain: bool, table: &mut [u8], clock: u32, bound: u64) -> PurgedAnswer {
     unsafe { contacts_purge(plain, table.as_mut_ptr(), table.len(), clock, bound) }
+}
+
+pub fn activate(plain: bool, table: &mut [u8]) -> ActivatedAnswer {
+    unsafe { contacts_activate(plain, table.as_mut_ptr(), table.len()) }
 }
 
 pub fn serve(
@@ -274,6 +285,7 @@ mod tests {
         assert_eq!((size_of::<ServedAnswer>(), offset_of!(ServedAnswer, used)), (32, 8));
         assert_eq!((size_of::<RanAnswer>(), offset_of!(RanAnswer, used)), (32, 8));
         assert_eq!((size_of::<PurgedAnswer>(), offset_of!(PurgedAnswer, freed)), (16, 8));
+        assert_eq!((size_of::<ActivatedAnswer>(), offset_of!(ActivatedAnswer, status)), (2, 1));
         assert_eq!((size_of::<WrittenAnswer>(), offset_of!(WrittenAnswer, len)), (16, 8));
         assert_eq!((size_of::<DocumentAnswer>(), offset_of!(DocumentAnswer, value)), (56, 40));
         assert_eq!((offset_of!(DocumentAnswer, lifetime), offset_of!(DocumentAnswer, left)), (2, 32));

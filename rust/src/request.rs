@@ -37,7 +37,8 @@ pub struct Request<'a> {
 /// # Errors
 ///
 /// In this order: outcomes 1, 2 and 3 as [`serve`](crate::serve) has them; statuses 0x83 and 0x81 by the opcode; 0x04 by
-/// the command's form and field rules, but for the two that need mode or clock; 0x03.
+/// the command's form and field rules, but for the two that need mode or clock; 0x83 for a with-meta request's option
+/// [`FORCE`](crate::option::FORCE); 0x03.
 pub fn read_request(received: &[u8]) -> Result<Request<'_>, Refusal> {
     let answer = raw::read_request(received);
     if let Some(outcome) = Outcome::from_number(answer.outcome) {

@@ -1,7 +1,7 @@
-//! The owner's calls: size, make, test, read and purge a table.
+//! The owner's calls: size, make, test, read and purge a table, and make it active.
 
 use crate::engine::Engine;
-use crate::{raw, Damaged};
+use crate::{raw, ActivateRefusal, Damaged};
 
 /// The number of a key's last change. No key's is above the table's mark.
 #[derive(Clone, Copy, Debug, Default, PartialEq, Eq, PartialOrd, Ord, Hash)]
@@ -17,9 +17,9 @@ pub struct Revision(pub u64);
 pub enum State {
     /// Serves every request.
     Active = 1,
-    /// Serves with-meta requests with option [`FORCE`](crate::option::FORCE).
+    /// Serves Noop and Version alone; [`activate`] makes it active.
     Replica = 2,
-    /// Serves what a replica does.
+    /// Serves and becomes active as a replica does.
     Pending = 3,
     /// Serves Noop and Version alone.
     Dead = 4,
@@ -138,7 +138,8 @@ pub fn make(table: &mut [u8], rows: usize, state: State, mode: Mode, vbucket: u1
 }
 
 /// Whether the memory is a sound table: as `docs/LAYOUT.md` says in every byte, with the used rows first and in ascending
-/// order of their keys' bytes. Reading, purging and serving test this themselves.
+/// order of their keys' bytes. Reading, purging, activating and serving test this
+/// themselves.
 pub fn sound(table: &[u8]) -> bool {
     Engine::Ordered.sound(table)
 }
@@ -186,4 +187,23 @@ pub fn read<'t>(table: &'t [u8], clock: u32, key: &[u8]) -> Result<Found<'t>, Da
 /// [`Damaged`] where the table is; it is then unchanged.
 pub fn purge(table: &mut [u8], clock: u32, bound: Cas) -> Result<usize, Damaged> {
     Engine::Ordered.purge(table, clock, bound)
+}
+
+/// Makes a replica or pending table active, so that it takes writes, and leaves an active one. Nothing but the state changes:
+/// rows, mode, vbucket, mark and kept clock stay.
+///
+/// ```
+/// # use contacts::{Mode, State};
+/// let mut table = vec![0; contacts::size(1).unwrap()];
+/// contacts::make(&mut table, 1, State::Replica, Mode::Revision, 0)?;
+/// contacts::activate(&mut table)?;
+/// assert_eq!(table[0], State::Active.number());
+/// # Ok::<(), Box<dyn std::error::Error>>(())
+/// ```
+///
+/// # Errors
+///
+/// [`ActivateRefusal::Damaged`] where the table is, and [`ActivateRefusal::Dead`] where it is dead; it is then unchanged.
+pub fn activate(table: &mut [u8]) -> Result<(), ActivateRefusal> {
+    Engine::Ordered.activate(table)
 }

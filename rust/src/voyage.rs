@@ -102,11 +102,15 @@ impl Trace {
     const TAG_FRAME: u8 = 2;
     const TAG_REPLY: u8 = 3;
     const TAG_BOUND: u8 = 4;
+    const TAG_RULE: u8 = 5;
+    const RULE_NEW: u8 = 2;
 
-    /// A trace without a field.
+    /// A trace without frames. Its first field says that they were served under the new rule of force, by which a with-meta
+    /// request with option 0x01 gets status 0x83. One without that field is replayed under the old rule, which takes it.
     pub fn new(mode: Mode, vbucket: u16) -> Trace {
         let [high, low] = vbucket.to_be_bytes();
-        Trace { bytes: vec![mode.number(), high, low], has_frame: false }
+        let rule = [Trace::TAG_RULE, 0, 1, Trace::RULE_NEW];
+        Trace { bytes: [&[mode.number(), high, low], &rule[..]].concat(), has_frame: false }
     }
 
     /// The clock of the frames and purges that follow, seconds since 1970. Before the first it is 0.

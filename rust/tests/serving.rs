@@ -3,7 +3,10 @@
 mod common;
 
 use common::*;
-use contacts::{opcode, option, serve, serve_run, Cas, Fields, Mode, Outcome, State, Status, Stop, Tally, REPLY_ROOM};
+use contacts::{
+    opcode, option, read_request, serve, serve_run, Cas, Fields, Mode, Outcome, Refusal, State, Status, Stop, Tally,
+    REPLY_ROOM,
+};
 
 const COUNTER: [u8; 20] = [0, 0, 0, 0, 0, 0, 0, 1, 0, 0, 0, 0, 0, 0, 0, 9, 0, 0, 0, 0];
 
@@ -117,13 +120,23 @@ fn every_status_is_answered_and_a_refused_request_changes_nothing() {
 }
 
 #[test]
-fn a_forced_with_meta_write_is_taken_by_a_replica() {
+fn a_forced_with_meta_write_is_refused_and_a_replica_takes_none() {
+    let fields = fields(opcode::SET_WITH_META);
+    let with = |options: u32| [meta(1, 0, 20, Cas(30)), options.to_be_bytes().to_vec()].concat();
+    let plain = frame_of(&fields, &with(option::FORCE_ACCEPT), b"k", b"v");
+    let mut forced = plain.clone();
+    forced[24 + 27] |= option::FORCE as u8;
+    assert_eq!(read_request(&forced), Err(Refusal::Status(Status::NotSupported)));
+
+    for state in [State::Active, State::Replica, State::Pending, State::Dead] {
+        let mut table = table_in(1, state, Mode::LastWriteWins);
+        assert_eq!(status(&mut table, &forced), Status::NotSupported);
+        assert!(contacts::read(&table, NOW, b"k").unwrap().live().is_none());
+    }
     let mut table = table_in(1, State::Replica, Mode::LastWriteWins);
-    let options = (option::FORCE | option::FORCE_ACCEPT).to_be_bytes();
-    let extras = [meta(1, 0, 20, Cas(30)), options.to_vec()].concat();
-    done(&mut table, &frame_of(&fields(opcode::SET_WITH_META), &extras, b"k", b"v"));
-    assert_eq!(status(&mut table, &set(b"k", b"w")), Status::NotMyVbucket);
-    assert_eq!(contacts::read(&table, NOW, b"k").unwrap().live().unwrap().cas, Cas(30));
+    assert_eq!(status(&mut table, &plain), Status::NotMyVbucket);
+    contacts::activate(&mut table).unwrap();
+    done(&mut table, &plain);
 }
 
 #[test]

@@ -3,7 +3,8 @@
 mod common;
 
 use common::*;
-use contacts::{make, opcode, purge, read, size, sound, Cas, Damaged, Document, Found, Left, Mode, Revision, State};
+use contacts::{activate, make, opcode, plain, purge, read, size, sound};
+use contacts::{ActivateRefusal, Cas, Damaged, Document, Found, Left, Mode, Revision, State, Status};
 
 const HOUR: u32 = 3600;
 
@@ -116,5 +117,45 @@ fn purging_refuses_a_damaged_table_and_changes_nothing() {
         let mut purged = memory.clone();
         assert_eq!(purge(&mut purged, NOW, Cas(u64::MAX)), Err(Damaged));
         assert_eq!(purged, memory);
+    }
+}
+
+#[test]
+fn activating_makes_a_replica_or_pending_table_active_and_changes_nothing_else() {
+    for state in [State::Active, State::Replica, State::Pending] {
+        for activate in [activate, plain::activate] {
+            let mut table = table(2);
+            done(&mut table, &set(b"k", b"v"));
+            table[0] = state.number();
+            let before = table.clone();
+            assert_eq!(activate(&mut table), Ok(()));
+            assert_eq!(table[0], State::Active.number());
+            assert_eq!(table[1..], before[1..]);
+            let once = table.clone();
+            assert_eq!(activate(&mut table), Ok(()));
+            assert_eq!(table, once);
+        }
+    }
+}
+
+#[test]
+fn a_replica_takes_writes_once_it_is_active() {
+    let mut table = table_in(1, State::Replica, Mode::Revision);
+    assert_eq!(status(&mut table, &set(b"k", b"v")), Status::NotMyVbucket);
+    assert_eq!(activate(&mut table), Ok(()));
+    assert_eq!(status(&mut table, &set(b"k", b"v")), Status::Success);
+}
+
+#[test]
+fn activating_refuses_a_dead_or_damaged_table_and_changes_nothing() {
+    let dead = table_in(2, State::Dead, Mode::Revision);
+    for (memory, refusal) in
+        [(dead, ActivateRefusal::Dead), (damaged(), ActivateRefusal::Damaged), (vec![], ActivateRefusal::Damaged)]
+    {
+        for activate in [activate, plain::activate] {
+            let mut table = memory.clone();
+            assert_eq!(activate(&mut table), Err(refusal));
+            assert_eq!(table, memory);
+        }
     }
 }

@@ -150,12 +150,12 @@ fn a_trace_refuses_what_would_stop_its_replay() {
     for bytes in [&[][..], &one[..23], &two, &short, &long, &answer] {
         assert_eq!(trace.frame(bytes), Err(TraceRefusal::NotOneFrame));
     }
-    assert_eq!(trace.bytes(), [1, 0, VBUCKET as u8]);
+    assert_eq!(trace.bytes(), [1, 0, VBUCKET as u8, 5, 0, 1, 2]);
     // any status is fine
     let unknown = [&[0x80, 0xff], &one[2..]].concat();
     assert_eq!(trace.frame(&unknown), Ok(()));
     assert_eq!(trace.reply(&[]), Ok(()));
-    assert_eq!(replay(trace.bytes()), Replay::Differs { place: 30 });
+    assert_eq!(replay(trace.bytes()), Replay::Differs { place: 34 });
 }
 
 #[test]
@@ -175,7 +175,7 @@ fn a_trace_refuses_what_does_not_fit() {
     assert_eq!(trace.reply(&[0; 6]), Ok(()));
     assert_eq!(trace.bytes().len(), TRACE_MAX);
     assert_eq!([trace.reply(&[]), trace.clock(1)], [Err(TraceRefusal::Full); 2]);
-    assert_eq!(replay(trace.bytes()), Replay::Differs { place: 30 });
+    assert_eq!(replay(trace.bytes()), Replay::Differs { place: 34 });
     let longer = [trace.into_bytes(), vec![0]].concat();
     assert_eq!(replay(&longer), Replay::Stopped { place: 0 });
 }
@@ -189,12 +189,37 @@ fn a_trace_is_laid_out_as_said() {
     trace.bound(Cas(0x0708_090a_0b0c_0d0e)).unwrap();
     let fields = [
         vec![2, 1, 2],
+        vec![5, 0, 1, 2],
         vec![1, 0, 4, 3, 4, 5, 6],
         [vec![2, 0, 24], noop()].concat(),
         vec![3, 0, 2, b'r', b'e'],
         vec![4, 0, 8, 7, 8, 9, 10, 11, 12, 13, 14],
     ];
     assert_eq!(trace.bytes(), fields.concat());
+}
+
+#[test]
+fn force_is_replayed_by_the_rule_of_the_trace() {
+    // the writer refuses option 0x01, so another is written and changed
+    let skipping = [meta(0, 0, 1, Cas(1)), vec![0, 0, 0, 8]].concat();
+    let mut frame = frame_of(&fields(opcode::SET_WITH_META), &skipping, b"k", b"v");
+    frame[24 + 27] = 1;
+    let mut boat = Boat::new(Mode::Revision);
+    boat.serve(NOW, &frame).unwrap();
+    let recorded = boat.trace.bytes();
+    assert_eq!(replay(recorded), Replay::Replayed { frames: 1 });
+    let with = |rule: &[u8]| replay(&[&recorded[..3], rule, &recorded[7..]].concat());
+    // the old rule takes what the boat refused
+    let place = 3 + 7 + 3 + frame.len();
+    assert_eq!(with(&[]), Replay::Differs { place });
+    assert_eq!(with(&[5, 0, 1, 1]), Replay::Differs { place: place + 4 });
+    for rule in [&[5, 0, 0][..], &[5, 0, 1, 0], &[5, 0, 1, 3], &[5, 0, 2, 2, 2], &[5, 0, 2, 0, 2]] {
+        assert_eq!(with(rule), Replay::Stopped { place: 3 }, "{rule:?}");
+    }
+    for rule in [1, 2] {
+        let twice = [recorded, &[5, 0, 1, rule]].concat();
+        assert_eq!(replay(&twice), Replay::Stopped { place: recorded.len() });
+    }
 }
 
 #[test]

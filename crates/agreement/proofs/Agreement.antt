@@ -4,13 +4,13 @@ use mathlib.Core.List.{List, [], _∷_}
 use Rattle.engine.specs.declared.Config.{Config}
 use Rattle.rows.specs.Table.{tableBytes, fresh}
 use Rattle.tally.specs.Counts.{countedOf}
-use Rattle.promises.specs.Clock.{TableCall, Serve, Purge, Read, Given}
-use Rattle.agreement.specs.Calls.{AnyCall, Make, Run, One, Owned, runOn, ownedAfter, Made, RanBy, ServedBy, Shown, Freeing, anyAnswer}
+use Rattle.promises.specs.Clock.{TableCall, Serve, Purge, Read, Activate, Given}
+use Rattle.agreement.specs.Calls.{AnyCall, Make, Run, One, Owned, runOn, ownedAfter, Made, RanBy, ServedBy, Shown, Freeing, Activating, anyAnswer}
 use Rattle.agreement.specs.Calls.{ownedAfterAll, anyAnswers, GivenAny, AllGivenAny}
 use Rattle.agreement.specs.Agreement.{EnginesAgree}
 use Rattle.agreement.proofs.Twins.{Twins, twins, same-table, fresh-twin}
 use Rattle.agreement.proofs.Frames.{serve-alike}
-use Rattle.agreement.proofs.Owning.{read-alike, purge-alike, made-alike}
+use Rattle.agreement.proofs.Owning.{read-alike, purge-alike, activate-alike, made-alike}
 use Rattle.agreement.proofs.Runs.{run-alike, ran-alike}
 
 -- twin tables in both memories, and one tally
@@ -41,6 +41,9 @@ module _ (config other : Config) where
     one (Read clock key) g =
         let s = read-alike config other (o .table) (p .table) (a .tables) clock key in
         record { answer = λ i. Shown (s .document i) (s .value i); after = a }
+    one Activate g =
+        let s = activate-alike config other (o .table) (p .table) (a .tables) in
+        record { answer = ap Activating (s .answer); after = record { tables = s .tables; tally = a .tally } }
 
     called : (x : AnyCall) → GivenAny x → CalledAlike config other o p x
     called (Make n state mode vbucket) g =
@@ -60,9 +63,9 @@ module _ (config other : Config) where
       record { answers = λ i. s .answer i ∷ r .answers i; after = r .after }
 
 pub engines-agree : EnginesAgree
-engines-agree config other n state mode vbucket t xs least most s m v g =
+engines-agree config other rule n state mode vbucket t xs least most s m v g =
     let o : Owned = record { table = tableBytes (fresh n state mode vbucket); tally = t } in
-    let w = twins config other (fresh n state mode vbucket) (fresh n state mode vbucket) (fresh-twin config other n state mode vbucket least most s m v) in
+    let w = twins config other (fresh n state mode vbucket) (fresh n state mode vbucket) (fresh-twin config other rule n state mode vbucket least most s m v) in
     let r = all-alike config other xs o o (record { tables = w; tally = refl }) g in
     record {
       answers = r .answers;

@@ -41,16 +41,16 @@ module _ (config other : Config) (t u : Table) (w : Twin config other t u) (now 
   key = bytesIn s (keySpan h)
 
   -- a decision sees the head, the key's document and whether a row is free
-  pub decision-alike : decisionOn t now s h ≡ decisionOn u now s h
+  pub decision-alike : decisionOn config t now s h ≡ decisionOn other u now s h
   unfolding decisionOn
   decision-alike =
-      λ i. cond (reachesDecision (frameStatus s h))
-      (decision (contextOf (w .head i) (w .alike .find key i) (ltb 0 (free-alike config other t u w i)) now) (instructionOf (requestOf s h)))
+      λ i. cond (reachesDecision s h)
+      (decision (contextOf (w .head i) (w .alike .find key i) (ltb 0 (free-alike config other t u w i)) now) (instructionOf (requestOf (w .rule i) s h)))
       (refusal (w .head i) (frameStatus s h))
 
-  pub effect-alike : frameEffect t now s h ≡ frameEffect u now s h
+  pub effect-alike : frameEffect config t now s h ≡ frameEffect other u now s h
   unfolding frameEffect
-  effect-alike = λ i. effectOf (requestOf s h) (w .alike .find key i) (decision-alike i)
+  effect-alike = λ i. effectOf (requestOf (w .rule i) s h) (w .alike .find key i) (decision-alike i)
 
   -- a reply shows the key's value, or the keys listed of the documents
   listed : (count : ℕ) → replyShows (Keys count) (t .rows) now key ≡ replyShows (Keys count) (u .rows) now key
@@ -70,16 +70,17 @@ module _ (config other : Config) (t u : Table) (w : Twin config other t u) (now 
   -- what is stored has room in both
   module _ (y : Bytes s) (inside : 24 + h .body ≤ length s) where
     abbrev store : Option Doc
-    store = frameEffect t now s h .store
+    store = frameEffect config t now s h .store
 
     stored : (o : Option Doc) → store ≡ o → Alike (engineOf config) (engineOf other) (storeRow (engineOf config) (t .rows) key o) (storeRow (engineOf other) (u .rows) key o)
     stored none e = w .alike
-    stored (some d) e = engines-alike config other .put (t .rows) (u .rows) key d (w .alike) (changing t now s h (w .good .good) y inside .stores d e .room)
+    stored (some d) e = engines-alike config other .put (t .rows) (u .rows) key d (w .alike) (changing config t now s h (w .good .good) y inside .stores d e .room)
 
     pub change-twin : Twin config other (frameChange config t now s h) (frameChange other u now s h)
     change-twin = record {
       good = change-good config t now s h (w .good) y inside;
       other-good = change-good other u now s h (w .other-good) y inside;
+      rule = w .rule;
       head = ap (λ (x : Effect). x .head) effect-alike;
       alike =
           subst (λ (o : Option Doc). Alike (engineOf config) (engineOf other) (storeRow (engineOf config) (t .rows) key store) (storeRow (engineOf other) (u .rows) key o))
@@ -120,24 +121,24 @@ module _ (config other : Config) (t u : Table) (w : Twin config other t u) (cloc
     at = twin-at config other t u w clock c
 
     -- what a frame sees of a table's memory is what it sees of the table
-    frame-effect : frameEffect (tableAt (tableOf b) clock) (clockAt (tableOf b) clock) s h ≡ frameEffect (tableAt (tableOf d) clock) (clockAt (tableOf d) clock) s h
+    frame-effect : frameEffect config (tableAt (tableOf b) clock) (clockAt (tableOf b) clock) s h ≡ frameEffect other (tableAt (tableOf d) clock) (clockAt (tableOf d) clock) s h
     frame-effect =
-        ap (λ (x : Table). frameEffect (tableAt x clock) (clockAt x clock) s h) back
+        ap (λ (x : Table). frameEffect config (tableAt x clock) (clockAt x clock) s h) back
         ∙ effect-alike config other (tableAt t clock) (tableAt u clock) at now s h
-        ∙ ap (λ (n : ℕ). frameEffect (tableAt u clock) n s h) (sym later-alike)
-        ∙ sym (ap (λ (x : Table). frameEffect (tableAt x clock) (clockAt x clock) s h) other-back)
+        ∙ ap (λ (n : ℕ). frameEffect other (tableAt u clock) n s h) (sym later-alike)
+        ∙ sym (ap (λ (x : Table). frameEffect other (tableAt x clock) (clockAt x clock) s h) other-back)
 
-    pub reply-alike : frameReply b clock s h ≡ frameReply d clock s h
+    pub reply-alike : frameReply config b clock s h ≡ frameReply other d clock s h
     unfolding frameReply
     reply-alike =
         let key = bytesIn s (keySpan h) in
         let replied : Table → ℕ → Decision → List ℕ = λ x n v. replyBytes (h .opcode) (h .opaque) v key (replyShows (v .done .reply) (x .rows) n key) in
-        let first = decisionOn (tableAt t clock) now s h in
-        ap (λ (x : Table). replied x (clockAt x clock) (decisionOn (tableAt x clock) (clockAt x clock) s h)) back
+        let first = decisionOn config (tableAt t clock) now s h in
+        ap (λ (x : Table). replied x (clockAt x clock) (decisionOn config (tableAt x clock) (clockAt x clock) s h)) back
         ∙ ap (replyBytes (h .opcode) (h .opaque) first key) (shows-alike config other (tableAt t clock) (tableAt u clock) at now s h (first .done .reply))
         ∙ ap (replied u now) (decision-alike config other (tableAt t clock) (tableAt u clock) at now s h)
-        ∙ ap (λ (n : ℕ). replied u n (decisionOn (tableAt u clock) n s h)) (sym later-alike)
-        ∙ sym (ap (λ (x : Table). replied x (clockAt x clock) (decisionOn (tableAt x clock) (clockAt x clock) s h)) other-back)
+        ∙ ap (λ (n : ℕ). replied u n (decisionOn other (tableAt u clock) n s h)) (sym later-alike)
+        ∙ sym (ap (λ (x : Table). replied x (clockAt x clock) (decisionOn other (tableAt x clock) (clockAt x clock) s h)) other-back)
 
     frame-twins : 24 + h .body ≤ length s → Twins config other (frameTable config b clock s h) (frameTable other d clock s h)
     unfolding frameTable
@@ -152,11 +153,11 @@ module _ (config other : Config) (t u : Table) (w : Twin config other t u) (cloc
     }
 
   -- by the gate
-  answers : (g : Gate) → answerBy b clock s g ≡ answerBy d clock s g
+  answers : (g : Gate) → answerBy config b clock s g ≡ answerBy other d clock s g
   answers (Stop n need) = refl
   answers (Whole h) = λ i. Done (frame-effect h i .status) (24 + h .body) (length (reply-alike h i))
 
-  replies : (out : List ℕ) (g : Gate) → replyBy b clock s out g ≡ replyBy d clock s out g
+  replies : (out : List ℕ) (g : Gate) → replyBy config b clock s out g ≡ replyBy other d clock s out g
   replies out (Stop n need) = refl
   replies out (Whole h) = ap (written out 0) (reply-alike h)
 
@@ -170,8 +171,8 @@ module _ (config other : Config) (t u : Table) (w : Twin config other t u) (cloc
       let g = gateAll config b (length out) s in
       let e = gate-alike (length out) in
       record {
-        answer = answers g ∙ ap (answerBy d clock s) e;
-        reply = replies out g ∙ ap (replyBy d clock s out) e;
+        answer = answers g ∙ ap (answerBy other d clock s) e;
+        reply = replies out g ∙ ap (replyBy other d clock s out) e;
         tables = subst (λ (x : Gate). Twins config other (tableBy config b clock s g) (tableBy other d clock s x)) e (tables (length out) g refl);
       }
 

@@ -1,4 +1,4 @@
--- The owner's calls on twin tables: a purge, a read and a table made anew.
+-- The owner's calls on twin tables: a purge, a read, a table made active and one made anew.
 use native.Mathlib.Omega.{arith}
 use Prim.Native.Nat.{ℕ, zero, suc, _+_, _-_, _^_, _<_}
 use mathlib.Core.Path.{_≡_, refl, sym, ap, _∙_}
@@ -27,7 +27,8 @@ use Rattle.engines.proofs.EngineLaws.{engines-alike}
 use Rattle.engines.proofs.Tables.{good-sound-by, purge-good-by}
 use Rattle.table.proofs.Looking.{finds-good}
 use Rattle.owning.specs.declared.Purged.the-variants.{Freed}
-use Rattle.owning.specs.Owner.{makeOk, makeOutcome, made, shown, readOf, purgeOf, purgedTable, purgedBytes}
+use Rattle.owning.specs.Owner.{makeOk, makeOutcome, made, shown, readOf, purgeOf, purgedTable, purgedBytes, isDead, activateOf, activated, activatedTable, activatedBytes}
+use Rattle.owning.proofs.Activating.{active-good, good-dead, good-active}
 use Rattle.owner.proofs.Making.{accepted, refused, in-range}
 use Rattle.owner.proofs.Reading.{read-sound}
 use Rattle.promises.proofs.Steps.{purged-bytes}
@@ -121,6 +122,10 @@ pub record PurgedAlike (config other : Config) (b c : List ℕ) (clock bound : �
   pub answer : purgeOf config b clock bound ≡ purgeOf other c clock bound
   pub tables : Twins config other (purgedBytes config b clock bound) (purgedBytes other c clock bound)
 
+pub record ActivatedAlike (config other : Config) (b c : List ℕ) : Type 0 where
+  pub answer : activateOf config b ≡ activateOf other c
+  pub tables : Twins config other (activatedBytes config b) (activatedBytes other c)
+
 pub record MadeAlike (config other : Config) (b c : List ℕ) (n state mode vbucket : ℕ) : Type 0 where
   pub answer : makeOutcome (length b) n state mode ≡ makeOutcome (length c) n state mode
   pub tables : Twins config other (made b n state mode vbucket) (made c n state mode vbucket)
@@ -161,11 +166,41 @@ module _ (config other : Config) (t u : Table) (w : Twin config other t u) where
           twin = record {
             good = purge-good-by config (tableAt t clock) p (at .good);
             other-good = purge-good-by other (tableAt u clock) p (at .other-good);
+            rule = w .rule;
             head = at .head;
             alike = engines-alike config other .purge (t .rows) (u .rows) p (w .alike);
           };
         };
       }
+
+  -- both are dead, or neither
+  activate-twins : ActivatedAlike config other (tableBytes t) (tableBytes u)
+  activate-twins =
+      let same : isDead (u .head) ≡ isDead (t .head) = sym (ap isDead (w .head)) in
+      cases (isDead (t .head))
+      (λ d.
+      let (e, f) = good-dead config t (w .good) d in
+      let (e′, f′) = good-dead other u (w .other-good) (same ∙ d) in
+      record { answer = e ∙ sym e′; tables = record { table = t; other-table = u; bytes = f; other-bytes = f′; twin = w } })
+      (λ d.
+      let (e, f) = good-active config t (w .good) d in
+      let (e′, f′) = good-active other u (w .other-good) (same ∙ d) in
+      record {
+        answer = e ∙ sym e′;
+        tables = record {
+          table = activatedTable t;
+          other-table = activatedTable u;
+          bytes = f;
+          other-bytes = f′;
+          twin = record {
+            good = active-good config t (w .good);
+            other-good = active-good other u (w .other-good);
+            rule = w .rule;
+            head = ap activated (w .head);
+            alike = w .alike;
+          };
+        };
+      })
 
   module _ (n state mode vbucket : ℕ) where
     -- the other memory is as large
@@ -182,7 +217,7 @@ module _ (config other : Config) (t u : Table) (w : Twin config other t u) where
           other-table = fresh n state mode vbucket;
           bytes = sym (accepted (tableBytes t) n state mode vbucket y .1);
           other-bytes = sym (accepted (tableBytes u) n state mode vbucket (as-large ∙ y) .1);
-          twin = fresh-twin config other n state mode vbucket (r .least) (r .most) (r .state) (r .mode) v;
+          twin = fresh-twin config other (w .rule) n state mode vbucket (r .least) (r .most) (r .state) (r .mode) v;
         })
         (λ f. record {
           table = t;
@@ -202,6 +237,9 @@ module _ (config other : Config) (b c : List ℕ) (w : Twins config other b c) w
 
   pub purge-alike : (clock bound : ℕ) → clock < 2 ^ 32 → PurgedAlike config other b c clock bound
   purge-alike clock bound l = by-tables config other b c w (λ x y. PurgedAlike config other x y clock bound) (λ t u v. purge-twins config other t u v clock bound l)
+
+  pub activate-alike : ActivatedAlike config other b c
+  activate-alike = by-tables config other b c w (ActivatedAlike config other) (activate-twins config other)
 
   pub made-alike : (n state mode vbucket : ℕ) → vbucket < 65536 → MadeAlike config other b c n state mode vbucket
   made-alike n state mode vbucket l =

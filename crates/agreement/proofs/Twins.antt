@@ -20,6 +20,8 @@ use Rattle.agreement.specs.Agreement.{SameTable}
 pub record Twin (config other : Config) (t u : Table) : Type 0 where
   pub good : GoodBy config t
   pub other-good : GoodBy other u
+  -- calls on them are made by one rule of force
+  pub rule : config .forcing ≡ other .forcing
   pub head : t .head ≡ u .head
   pub alike : Alike (engineOf config) (engineOf other) (t .rows) (u .rows)
 
@@ -49,6 +51,7 @@ module _ (config other : Config) (t u : Table) (w : Twin config other t u) where
   twin-at clock c = record {
     good = clock-good-by config t clock (w .good) c;
     other-good = clock-good-by other u clock (w .other-good) c;
+    rule = w .rule;
     head = ap (λ (h : Head). atClock h clock) (w .head);
     alike = w .alike;
   }
@@ -76,11 +79,12 @@ pub same-table : (config other : Config) (b c : List ℕ) → Twins config other
 same-table config other b c w = by-tables config other b c w (SameTable config other) (same-bytes config other)
 
 -- fresh tables made alike
-pub fresh-twin : (config other : Config) (n state mode vbucket : ℕ) → 1 ≤ n → n ≤ 256 → (1 ≤ state) × (state ≤ 4) → (1 ≤ mode) × (mode ≤ 2) → vbucket < 65536
+pub fresh-twin : (config other : Config) → config .forcing ≡ other .forcing → (n state mode vbucket : ℕ) → 1 ≤ n → n ≤ 256 → (1 ≤ state) × (state ≤ 4) → (1 ≤ mode) × (mode ≤ 2) → vbucket < 65536
     → Twin config other (fresh n state mode vbucket) (fresh n state mode vbucket)
-fresh-twin config other n state mode vbucket least most s m v = record {
+fresh-twin config other rule n state mode vbucket least most s m v = record {
   good = fresh-good-by config n state mode vbucket least most s m v;
   other-good = fresh-good-by other n state mode vbucket least most s m v;
+  rule = rule;
   head = refl;
   alike = fresh-alike-by config other n state mode vbucket;
 }

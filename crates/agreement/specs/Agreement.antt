@@ -29,5 +29,5 @@ pub record Agrees (config other : Config) (o : Owned) (xs : List AnyCall) : Type
 
 abbrev pub EnginesAgree : Type 0
 EnginesAgree =
-    (config other : Config) (n state mode vbucket : ℕ) (t : Tally) (xs : List AnyCall) → 1 ≤ n → n ≤ 256 → (1 ≤ state) × (state ≤ 4) → (1 ≤ mode) × (mode ≤ 2) → vbucket < 65536
+    (config other : Config) → config .forcing ≡ other .forcing → (n state mode vbucket : ℕ) (t : Tally) (xs : List AnyCall) → 1 ≤ n → n ≤ 256 → (1 ≤ state) × (state ≤ 4) → (1 ≤ mode) × (mode ≤ 2) → vbucket < 65536
     → AllGivenAny xs → Agrees config other (record { table = tableBytes (fresh n state mode vbucket); tally = t }) xs

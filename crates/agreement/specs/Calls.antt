@@ -1,4 +1,4 @@
--- Order 7: any list of calls (make, serve, run, read, purge) on one table memory, with the tally that they share.
+-- Order 7: any list of calls (make, serve, run, read, purge, activate) on one table memory, with the tally that they share.
 use Prim.Native.Nat.{ℕ, _^_, _<_}
 use mathlib.Core.List.{List, [], _∷_}
 use lib.ListN.{length}
@@ -7,7 +7,8 @@ use Rattle.engine.specs.declared.Config.{Config}
 use Rattle.owning.specs.declared.Document.{Document}
 use Rattle.owning.specs.declared.Document.the-variants.{Damaged, Missing, Expired, Live}
 use Rattle.owning.specs.declared.Purged.{Purged}
-use Rattle.owning.specs.Owner.{made, makeOutcome, readOf, purgeOf}
+use Rattle.owning.specs.declared.Activated.{Activated}
+use Rattle.owning.specs.Owner.{made, makeOutcome, readOf, purgeOf, activateOf}
 use Rattle.serving.specs.declared.Served.{Served}
 use Rattle.serving.specs.Serve.{servedReply}
 use Rattle.tally.specs.declared.Tally.{Tally}
@@ -15,7 +16,7 @@ use Rattle.tally.specs.Counts.{countedOf}
 use Rattle.run.specs.declared.Ran.{Ran}
 use Rattle.run.specs.Run.{Stand, begun, runEnd, ranOf}
 use Rattle.promises.specs.Calls.{Call, servedBy}
-use Rattle.promises.specs.Clock.{TableCall, Serve, Purge, Read, Given, tableCalled}
+use Rattle.promises.specs.Clock.{TableCall, Serve, Purge, Read, Activate, Given, tableCalled}
 
 -- a table made anew in the memory, with its rows, state, mode and vbucket; a run of frames, as a call whose received bytes are the run; or one of the others
 pub data AnyCall : Type 0 where
@@ -37,6 +38,7 @@ abbrev pub tallied : Config → Owned → TableCall → Tally
 tallied config o (Serve c) = countedOf (o .tally) (servedBy config (o .table) c)
 tallied config o (Purge clock bound) = o .tally
 tallied config o (Read clock key) = o .tally
+tallied config o Activate = o .tally
 
 abbrev pub ownedAfter : Config → Owned → AnyCall → Owned
 ownedAfter config o (Make n state mode vbucket) = record { table = made (o .table) n state mode vbucket; tally = o .tally }
@@ -57,18 +59,20 @@ bytesShown b Missing = []
 bytesShown b (Expired s) = []
 bytesShown b (Live numbers left at len) = part b at len
 
--- an outcome; a run's answer and a call's, each with the reply area as it is left; a document without its place, with the bytes of its value; what was freed
+-- an outcome; a run's answer and a call's, each with the reply area as it is left; a document without its place, with the bytes of its value; what was freed; whether the table is active
 pub data AnyAnswer : Type 0 where
   Made : ℕ → AnyAnswer
   RanBy : Ran → List ℕ → AnyAnswer
   ServedBy : Served → List ℕ → AnyAnswer
   Shown : Document → List ℕ → AnyAnswer
   Freeing : Purged → AnyAnswer
+  Activating : Activated → AnyAnswer
 
 abbrev pub oneAnswer : Config → List ℕ → TableCall → AnyAnswer
 oneAnswer config b (Serve c) = ServedBy (servedBy config b c) (servedReply config b (c .clock) (c .received) (c .reply))
 oneAnswer config b (Purge clock bound) = Freeing (purgeOf config b clock bound)
 oneAnswer config b (Read clock key) = Shown (placeless (readOf config b clock key)) (bytesShown b (readOf config b clock key))
+oneAnswer config b Activate = Activating (activateOf config b)
 
 abbrev pub anyAnswer : Config → Owned → AnyCall → AnyAnswer
 anyAnswer config o (Make n state mode vbucket) = Made (makeOutcome (length (o .table)) n state mode)

@@ -1,23 +1,25 @@
 -- A worked list of calls on a table of three rows: what the two engines answer, which is the same, and the rows that they leave, which are the same in another order. Proved in proofs/Worked.antt.
 use Prim.Native.Nat.{ℕ, _-_}
 use mathlib.Core.Path.{_≡_}
+use mathlib.Core.Bool.{true, false}
 use mathlib.Core.List.{List, [], _∷_, _++_}
 use lib.ListN.{length, replicate}
 use Rattle.engine.specs.declared.Config.{Config}
-use Rattle.engine.specs.declared.EngineKind.the-variants.{Plain, Ordered}
+use Rattle.engine.specs.Config.{configFor}
 use Rattle.numbers.specs.declared.Left.the-variants.{Never}
 use Rattle.document.specs.Documents.{Key}
 use Rattle.rows.specs.Row.{Row}
 use Rattle.rows.specs.Table.{tableBytes, fresh}
 use Rattle.owning.specs.declared.Document.the-variants.{Live}
 use Rattle.owning.specs.declared.Purged.the-variants.{Freed}
+use Rattle.owning.specs.declared.Activated.the-variants.{Active}
 use Rattle.owning.specs.Owner.{readOf}
 use Rattle.serving.specs.declared.Served.the-variants.{Refused, Done}
 use Rattle.tally.specs.declared.Tally.{Tally}
-use Rattle.promises.specs.Clock.{Serve, Purge, Read}
+use Rattle.promises.specs.Clock.{Serve, Purge, Read, Activate}
 use Rattle.promises.specs.Judged.{at, mykey, hello, ask, reply, stored, declined}
 use Rattle.promises.specs.Worked.{doc, row, head}
-use Rattle.agreement.specs.Calls.{AnyCall, Make, Run, One, Owned, AnyAnswer, Made, RanBy, ServedBy, Shown, Freeing, anyAnswers, ownedAfterAll, AllGivenAny}
+use Rattle.agreement.specs.Calls.{AnyCall, Make, Run, One, Owned, AnyAnswer, Made, RanBy, ServedBy, Shown, Freeing, Activating, anyAnswers, ownedAfterAll, AllGivenAny}
 use Rattle.agreement.specs.Agreement.{Agrees}
 
 -- ---- frames: `Alpha`, `Delta`, `Hello`, `mykey` is the order of the keys
@@ -50,9 +52,10 @@ start = record { table = tableBytes (fresh 3 1 1 0); tally = record { served = 0
 
 abbrev first : List AnyCall
 first =
-    -- four rows don't fit, three do
+    -- four rows don't fit, three do; the table is a replica, and takes writes once it is active
     Make 4 1 1 0
-    ∷ Make 3 1 1 0
+    ∷ Make 3 2 1 0
+    ∷ One Activate
     ∷ serves 100 (set mykey 1)
     -- two frames in one run: `Hello` goes before `mykey` in key order, and after it on the plain engine's rows
     ∷ Run (record { clock = 101; received = set hello 2 ++ get hello; reply = replicate 1400 0 })
@@ -94,6 +97,7 @@ abbrev wanted : List AnyAnswer
 wanted =
     Made 5
     ∷ Made 0
+    ∷ Activating Active
     ∷ answer 0 38 (stored 1 1)
     ∷ RanBy (record { cursor = record { at = 67 }; filled = 53; tally = counts 3 0; stop = Refused 1 24 }) (area 1400 (stored 1 2 ++ hit 2))
     ∷ answer 0 29 (hit 1)
@@ -115,15 +119,15 @@ pub record LeavesRows (config : Config) (place : ℕ) (rows : List Row) : Type 0
 
 -- as they came, `Delta` in the row that the purge freed
 abbrev pub PlainLeaves : Type 0
-PlainLeaves = LeavesRows (record { engine = Plain }) 53 (row mykey (doc 0 1 1) ∷ row delta (doc 0 1 5) ∷ row alpha (doc 0 1 3) ∷ [])
+PlainLeaves = LeavesRows (configFor true) 53 (row mykey (doc 0 1 1) ∷ row delta (doc 0 1 5) ∷ row alpha (doc 0 1 3) ∷ [])
 
 -- in key order
 abbrev pub OrderedLeaves : Type 0
-OrderedLeaves = LeavesRows (record { engine = Ordered }) 2677 (row alpha (doc 0 1 3) ∷ row delta (doc 0 1 5) ∷ row mykey (doc 0 1 1) ∷ [])
+OrderedLeaves = LeavesRows (configFor false) 2677 (row alpha (doc 0 1 3) ∷ row delta (doc 0 1 5) ∷ row mykey (doc 0 1 1) ∷ [])
 
 pub record WorkedAlike : Type 0 where
   -- the premises of the theorem are met
   pub given : AllGivenAny workedCalls
-  pub agree : Agrees (record { engine = Plain }) (record { engine = Ordered }) start workedCalls
+  pub agree : Agrees (configFor true) (configFor false) start workedCalls
   pub plain : PlainLeaves
   pub ordered : OrderedLeaves

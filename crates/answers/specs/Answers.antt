@@ -19,7 +19,8 @@ use Rattle.serving.specs.Serve.{servedOutcome, servedStatus, servedUsed, served
 use Rattle.owning.specs.declared.Document.{Document}
 use Rattle.owning.specs.declared.Document.the-variants.{Damaged, Missing, Expired, Live}
 use Rattle.owning.specs.declared.Purged.{Purged}
-use Rattle.owning.specs.Owner.{readOutcome, readStatus, purgeOutcome, purgedCount}
+use Rattle.owning.specs.declared.Activated.{Activated}
+use Rattle.owning.specs.Owner.{readOutcome, readStatus, purgeOutcome, purgedCount, activateOutcome, activateStatus}
 use Rattle.run.specs.declared.Ran.{Ran}
 use Rattle.replay.specs.declared.Ending.{Ending}
 use Rattle.replay.specs.declared.Ending.the-variants.{Damaged as NotReplayed, Differs, Stopped, Replayed}
@@ -29,6 +30,7 @@ use Rattle.answers.specs.declared.ServedAnswer.{ServedAnswer}
 use Rattle.answers.specs.declared.RanAnswer.{RanAnswer}
 use Rattle.answers.specs.declared.DocumentAnswer.{DocumentAnswer}
 use Rattle.answers.specs.declared.PurgedAnswer.{PurgedAnswer}
+use Rattle.answers.specs.declared.ActivatedAnswer.{ActivatedAnswer}
 use Rattle.answers.specs.declared.RequestAnswer.{RequestAnswer}
 use Rattle.answers.specs.declared.WrittenAnswer.{WrittenAnswer}
 use Rattle.answers.specs.declared.ReplayedAnswer.{ReplayedAnswer}
@@ -91,6 +93,9 @@ documentAnswer (Live n left at len) = liveAnswer n left at len
 
 abbrev pub purgedAnswer : Purged → PurgedAnswer
 purgedAnswer p = record { outcome = purgeOutcome p; freed = purgedCount p }
+
+abbrev pub activatedAnswer : Activated → ActivatedAnswer
+activatedAnswer a = record { outcome = activateOutcome a; status = activateStatus a }
 
 abbrev pub requestRefused : ℕ → ℕ → RequestAnswer
 requestRefused outcome status = record {

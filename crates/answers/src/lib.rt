@@ -1,9 +1,10 @@
 // The answers as C takes them: structs of numbers, in which outcomes and statuses are document 01's. What an answer
 // doesn't have is 0.
 ghost use mathlib.Core.Path.{_≡_};
-ghost use Rattle.answers.specs.Answers.{servedAnswer, ranAnswer, partOf, lifetimeOf, liveAnswer, noDocument, documentAnswer, purgedAnswer, requestRefused, requestShown, requestAnswer, writtenAnswer, replayedAnswer};
+ghost use Rattle.answers.specs.Answers.{servedAnswer, ranAnswer, partOf, lifetimeOf, liveAnswer, noDocument, documentAnswer, purgedAnswer, activatedAnswer, requestRefused, requestShown, requestAnswer, writtenAnswer, replayedAnswer};
 use numbers::Left;
 use numbers::Numbers;
+use owning::Activated;
 use owning::Document;
 use owning::Purged;
 use replay::Ending;
@@ -58,6 +59,12 @@ pub struct DocumentAnswer {
 pub struct PurgedAnswer {
     pub outcome: u8,
     pub freed: usize,
+}
+
+#[repr(C)]
+pub struct ActivatedAnswer {
+    pub outcome: u8,
+    pub status: u8,
 }
 
 // The value ends with `meta` bytes of extended meta.
@@ -205,6 +212,25 @@ pub fn purged_answer(p: Purged) -> PurgedAnswer
         Purged::Freed(n) => PurgedAnswer {
             outcome: 0,
             freed: n,
+        },
+    }
+}
+
+pub fn activated_answer(a: Activated) -> ActivatedAnswer
+    ensures { λ r. ⌜ r ≡ activatedAnswer a ⌝ }
+{
+    match a {
+        Activated::Damaged => ActivatedAnswer {
+            outcome: 5,
+            status: 0,
+        },
+        Activated::Dead => ActivatedAnswer {
+            outcome: 0,
+            status: 0x07,
+        },
+        Activated::Active => ActivatedAnswer {
+            outcome: 0,
+            status: 0,
         },
     }
 }

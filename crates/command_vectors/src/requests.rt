@@ -172,6 +172,11 @@ fn command(opcode: u8, f: Fields) -> Command {
     }
 }
 
+// Option 0x01 of a with-meta write, which is retired.
+fn is_forced(opcode: u8, f: Fields) -> bool {
+    ((opcode == 0xa2) | (opcode == 0xa4) | (opcode == 0xa8)) & is_set(text::field(f, 6), 0x01)
+}
+
 fn request(opcode: u8, quiet: bool, f: Fields) -> Instruction {
     let command = command(opcode, f);
     Instruction {
@@ -179,6 +184,7 @@ fn request(opcode: u8, quiet: bool, f: Fields) -> Instruction {
         cas: Cas(text::field(f, 1)),
         quiet,
         size: size(opcode, f),
+        unsupported: is_forced(opcode, f),
         command,
     }
 }

@@ -31,8 +31,6 @@ pub record Rule : Type 0 where
   pub fault : Bool
   -- skips the vbucket test
   pub anywhere : Bool
-  -- passes on replica and pending tables too
-  pub standby : Bool
   -- needs a live document
   pub needs : Bool
   -- refused on a live document
@@ -58,7 +56,6 @@ abbrev pub readRule : Bool → Bool → ℕ → Rule
 readRule anywhere needs silentOn = record {
   fault = false;
   anywhere = anywhere;
-  standby = false;
   needs = needs;
   fresh = false;
   guarded = false;
@@ -88,7 +85,6 @@ abbrev pub plainRule : Bool → Bool → Bool → Bool → Rule
 plainRule fault needs fresh counts = record {
   fault = fault;
   anywhere = false;
-  standby = false;
   needs = needs;
   fresh = fresh;
   guarded = true;
@@ -137,13 +133,12 @@ isAddMeta SetMeta = false
 isAddMeta AddMeta = true
 isAddMeta DeleteMeta = false
 
--- Set, Add and Delete with meta. "with-meta with option 0x01 also passes in states 2 and 3"; "Header CAS not 0: not live 0x01, different 0x02."
+-- Set, Add and Delete with meta. "Header CAS not 0: not live 0x01, different 0x02."
 -- "Without options 0x01 and 0x08, a key with any row, expired or tombstone included, is compared; the write must be greater, else 0x02."
 abbrev pub metaRule : Context → Meta → Bool → Rule
 metaRule c w fresh = record {
   fault = not (Bool·beq (w .last) (isLast (modeOf (c .head .mode))));
   anywhere = false;
-  standby = w .force;
   needs = false;
   fresh = fresh;
   guarded = true;
@@ -161,7 +156,6 @@ abbrev pub joinRule : Rule
 joinRule = record {
   fault = false;
   anywhere = false;
-  standby = false;
   needs = false;
   fresh = false;
   guarded = true;
@@ -179,7 +173,6 @@ abbrev pub touchRule : Context → Touching → Rule
 touchRule c t = record {
   fault = passes (t .expiry) (c .clock);
   anywhere = false;
-  standby = false;
   needs = true;
   fresh = false;
   guarded = false;
@@ -205,9 +198,9 @@ ruleOf c (Join side) = joinRule
 ruleOf c (Touch t) = touchRule c t
 
 -- ---- the tests
--- the request is for this table, in its state; standby: replica and pending tables take it too
-abbrev pub isHere : Head → ℕ → Bool → Bool
-isHere h vbucket standby = eqb vbucket (h .vbucket) && (eqb (h .state) 1 || (standby && (eqb (h .state) 2 || eqb (h .state) 3)))
+-- the request is for this table, and the table is active; order 9: "Replica and pending tables now take no write"
+abbrev pub isHere : Head → ℕ → Bool
+isHere h vbucket = eqb vbucket (h .vbucket) && eqb (h .state) 1
 
 abbrev pub guard : Instruction → Rule → Bool
 guard i t = t .guarded && not (eqb (i .cas .0) 0)
@@ -220,8 +213,9 @@ isNumber NoNumber = false
 unfoldable pub testsOf : Context → Instruction → Rule → Tests
 testsOf c i t = record {
   fault = t .fault;
+  unsupported = i .unsupported;
   long = ltb 1024 (i .size);
-  elsewhere = not (t .anywhere || isHere (c .head) (i .vbucket) (t .standby));
+  elsewhere = not (t .anywhere || isHere (c .head) (i .vbucket));
   unstored = t .joins && not (live (c .row) (c .clock));
   missing = (t .needs || guard i t) && not (live (c .row) (c .clock));
   conflict = t .beaten || ((t .fresh && live (c .row) (c .clock)) || (guard i t && not (eqb (i .cas .0) (numbersOf (c .row) .cas .0))));
@@ -248,6 +242,7 @@ firstFailure (c ∷ cs) = cond (c .fails) (c .status) (firstFailure cs)
 unfoldable pub firstStatus : Tests → ℕ
 firstStatus x = firstFailure (
     x .fault ⇒ 0x04
+    ∷ x .unsupported ⇒ 0x83
     ∷ x .long ⇒ 0x03
     ∷ x .elsewhere ⇒ 0x07
     ∷ x .unstored ⇒ 0x05

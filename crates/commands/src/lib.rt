@@ -78,6 +78,8 @@ pub struct Instruction {
     pub quiet: bool,
     // the value's bytes, extended meta not counted
     pub size: usize,
+    // it asks for what is no longer served: 0x83
+    pub unsupported: bool,
     pub command: Command,
 }
 
@@ -92,10 +94,11 @@ pub struct Context {
     pub size: usize,
 }
 
-// What each status asks, in 01's order with order 4's: 0x04, 0x03, 0x07, 0x05, 0x01, 0x02, 0x03 of a joined value, 0x06, 0x84,
-// 0x82.
+// What each status asks, in 01's order with those of orders 4 and 9: 0x04, 0x83, 0x03, 0x07, 0x05, 0x01, 0x02, 0x03 of a joined
+// value, 0x06, 0x84, 0x82.
 pub struct Tests {
     pub fault: bool,
+    pub unsupported: bool,
     pub long: bool,
     pub elsewhere: bool,
     pub unstored: bool,

@@ -23,12 +23,16 @@ pub fn first_status(x: Tests) -> u8
         first(x.conflict, 0x02, first(x.joined, 0x03, late)),
     );
     let here = first(x.elsewhere, 0x07, first(x.unstored, 0x05, row));
-    first(x.fault, 0x04, first(x.long, 0x03, here))
+    first(
+        x.fault,
+        0x04,
+        first(x.unsupported, 0x83, first(x.long, 0x03, here)),
+    )
 }
 
-// The request is for this table, in its state. standby: replica and pending tables take it too.
-pub fn is_here(h: Head, vbucket: u16, standby: bool) -> bool
-    ensures { λ r. ⌜ r ≡ isHere h vbucket standby ⌝ }
+// The request is for this table, and the table is active.
+pub fn is_here(h: Head, vbucket: u16) -> bool
+    ensures { λ r. ⌜ r ≡ isHere h vbucket ⌝ }
 {
-    (vbucket == h.vbucket) & ((h.state == 1) | (standby & ((h.state == 2) | (h.state == 3))))
+    (vbucket == h.vbucket) & (h.state == 1)
 }

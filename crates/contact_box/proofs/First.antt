@@ -45,7 +45,7 @@ module _ (run : List ℕ) where
       omega (arith, c .0, c .1, l, same-body)
 
   whole-by : (config : Config) (b : List ℕ) (clock room st used len : ℕ) (g : Gate) → gateAll config b room (firstFrame run) ≡ g
-      → answerBy b clock (firstFrame run) g ≡ Done st used len → used ≡ length (firstFrame run)
+      → answerBy config b clock (firstFrame run) g ≡ Done st used len → used ≡ length (firstFrame run)
   whole-by config b clock room st used len (Stop k need) q e = absurd (let y : _≡_ {A = ℕ} 0 1 = cc in omega arith)
   whole-by config b clock room st used len (Whole h) q e =
       let u : 24 + h .body ≡ used = cc in

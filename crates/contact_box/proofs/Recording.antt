@@ -30,10 +30,10 @@ use Rattle.contact_box.proofs.First.{first-whole}
 abbrev Bounded : Served → Type 0
 Bounded r = (servedUsed r ≤ 1424) × (servedLength r ≤ 1302)
 
-bounded-by : (config : Config) (b s : List ℕ) (clock room : ℕ) (g : Gate) → gateAll config b room s ≡ g → Bytes b → Bounded (answerBy b clock s g)
+bounded-by : (config : Config) (b s : List ℕ) (clock room : ℕ) (g : Gate) → gateAll config b room s ≡ g → Bytes b → Bounded (answerBy config b clock s g)
 bounded-by config b s clock room (Stop n need) q y = (omega arith, omega arith)
 bounded-by config b s clock room (Whole h) q y =
-    let w = was-open config b s room h q in (omega (arith, w .frame .limit), reply-most b clock s h y (sound-plain config b (w .undamaged)))
+    let w = was-open config b s room h q in (omega (arith, w .frame .limit), reply-most config b clock s h y (sound-plain config b (w .undamaged)))
 
 bounded : (config : Config) (b : List ℕ) (clock : ℕ) (s : List ℕ) (room : ℕ) (r : Served) → r ≡ served config b clock s room → Bytes b → Bounded r
 unfolding served

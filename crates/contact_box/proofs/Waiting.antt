@@ -49,7 +49,7 @@ module _ (config : Config) where
       cond-elim (not (soundBy config b)) _ _ _ e (λ t z. absurd (let y : _≡_ {A = ℕ} 5 1 = cc in omega arith))
       (λ f e. cond-elim (ltb room 1302) _ _ _ e (λ t z. absurd (let y : _≡_ {A = ℕ} 4 1 = cc in omega arith)) (λ t z. cut-gate s need z))
 
-  cut-by : (b s : List ℕ) (clock room need : ℕ) (g : Gate) → gateAll config b room s ≡ g → answerBy b clock s g ≡ Refused 1 need → Cut s
+  cut-by : (b s : List ℕ) (clock room need : ℕ) (g : Gate) → gateAll config b room s ≡ g → answerBy config b clock s g ≡ Refused 1 need → Cut s
   cut-by b s clock room need (Stop k need′) q e = let y : Stop k need′ ≡ Stop 1 need = cc in cut-all b s room need (cc)
   cut-by b s clock room need (Whole h) q e = absurd (let y : _≡_ {A = ℕ} 0 1 = cc in omega arith)
 

@@ -15,11 +15,11 @@ use Rattle.contact_box.specs.declared.recorder.Recording.{Recording}
 use Rattle.contact_box.specs.declared.recorder.Recording.the-variants.{Off, On, Full, Failed}
 use Rattle.contact_box.specs.declared.recorder.Recorder.{Recorder}
 
--- after the opening's three bytes
+-- after the opening's three bytes and the rule's four
 abbrev pub opened : ℤ → Bool → Recorder
 opened file written =
     cond written
-    (record { file = file; at = 3; frames = 0; clock = 0; recording = On })
+    (record { file = file; at = 7; frames = 0; clock = 0; recording = On })
     (record { file = file; at = 0; frames = 0; clock = 0; recording = Failed })
 
 abbrev pub isOn : Recording → Bool

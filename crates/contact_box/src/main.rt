@@ -8,8 +8,8 @@
 //     MODE        revision or last-write-wins
 //     TRACE       a file; ROWS is 32 then
 //
-// With a TRACE it records what it serves there, as a trace that can be replayed: each frame with its clock and its reply, up to 65,536
-// bytes in all. The first frame that doesn't fit ends the recording, and a write that fails does too; serving goes on.
+// With a TRACE it records what it serves there, as a trace that can be replayed: that force is refused, then each frame with its clock
+// and its reply, up to 65,536 bytes in all. The first frame that doesn't fit ends the recording, and a write that fails does too; serving goes on.
 //
 // The table keeps the latest clock: where the system's goes back, no contact that was expired to a frame comes alive again.
 //

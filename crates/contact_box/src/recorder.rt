@@ -7,7 +7,7 @@ ghost use Rattle.contact_box.specs.Recorder.{opened, isOn, stopped, grow
 use crate::report;
 use serving::Served;
 use trace::LONGEST;
-use trace::OPENING;
+use trace_writer::BEGINNING;
 
 // Nothing is recorded; all is, so far; or the recording has stopped for good: the next fields would make the trace longer than one
 // may be, or the file couldn't be written.
@@ -59,7 +59,7 @@ fn opened(file: i32, written: bool) -> Recorder
     if written {
         return Recorder {
             file,
-            at: OPENING,
+            at: BEGINNING,
             frames: 0,
             clock: 0,
             recording: Recording::On,
@@ -74,9 +74,9 @@ fn opened(file: i32, written: bool) -> Recorder
     }
 }
 
-// Begins a trace by its opening.
+// Begins a trace by its opening and the rule of force that the box serves by.
 pub(crate) fn begin(file: i32, mode: u8, vbucket: u16) -> Recorder {
-    let mut opening = [0u8; 3];
+    let mut opening = [0u8; BEGINNING];
     trace_writer::put_opening(&mut opening, mode, vbucket);
     opened(file, io::write_all(file, &opening))
 }

@@ -12,10 +12,10 @@ use Rattle.serving.specs.Serve.{served}
 use Rattle.trace.specs.declared.Opening.{Opening}
 use Rattle.trace.specs.declared.Opening.the-variants.{Broken as NotOpened, Opened}
 use Rattle.trace.specs.declared.Field.{Field}
-use Rattle.trace.specs.declared.Field.the-variants.{Clock, Frame, Reply, Purge, Broken}
+use Rattle.trace.specs.declared.Field.the-variants.{Clock, Frame, Reply, Purge, Rule, Broken}
 use Rattle.trace.specs.Trace.{Placed, openingOf, fieldsIn}
 use Rattle.replay.specs.declared.Ending.the-variants.{Differs, Stopped}
-use Rattle.replay.specs.Replay.{Voyage, Turn, On, End, After, isOneFrame, withClock, withFrame, withPurge, onField, onTurn, walked, setOut, onOpening, replayed, replayOutcome}
+use Rattle.replay.specs.Replay.{Voyage, Turn, On, End, After, isOneFrame, withClock, withFrame, withPurge, onField, onTurn, walked, setOut, ruledBy, onOpening, replayed, replayOutcome}
 
 abbrev Zero : After → Type 0
 Zero a = replayOutcome (a .answer) ≡ 0
@@ -34,16 +34,17 @@ module _ (config : Config) where
       by-choice v go (eqb (v .frames) 0) (End (Stopped at)) (cond (same bytes (v .reply)) (On v) (End (Differs at))) refl
       (by-choice v go (same bytes (v .reply)) (On v) (End (Differs at)) (h v) refl)
   turn-zero at v (Purge bound) bytes go h = h (withPurge config (bound .0) v)
+  turn-zero at v (Rule forcing) bytes go h = h v
   turn-zero at v Broken bytes go h = refl
 
   walked-zero : (v : Voyage) (ps : List Placed) → Zero (walked config v ps)
   walked-zero v [] = refl
   walked-zero v (p ∷ ps) = turn-zero (p .at) v (p .field) (p .bytes) (λ w. walked config w ps) (λ w. walked-zero w ps)
 
-  opening-zero : (b trace : List ℕ) (o : Opening) → Zero (onOpening config b trace o)
-  opening-zero b trace NotOpened = refl
-  opening-zero b trace (Opened mode vbucket) = walked-zero (setOut mode vbucket) (fieldsIn trace)
+opening-zero : (config : Config) (b trace : List ℕ) (o : Opening) → Zero (onOpening config b trace o)
+opening-zero config b trace NotOpened = refl
+opening-zero config b trace (Opened mode vbucket) = walked-zero (ruledBy config trace) (setOut mode vbucket) (fieldsIn trace)
 
-  pub answers : (b trace : List ℕ) → length b ≡ 42000 → Zero (replayed config b trace)
-  unfolding replayed
-  answers b trace e = rw (eq-eqb (length b) 42000 e) (opening-zero b trace (openingOf trace))
+pub answers : (config : Config) (b trace : List ℕ) → length b ≡ 42000 → Zero (replayed config b trace)
+unfolding replayed
+answers config b trace e = rw (eq-eqb (length b) 42000 e) (opening-zero config b trace (openingOf trace))

@@ -7,6 +7,9 @@
 //     stopped P       the field at P can't be replayed; P is 0 for a bad opening or a trace over 65,536 bytes
 //     replayed N      all of it was replayed, N frames
 //
+// Force, option 0x01 of with-meta writes, is refused with status 0x83 where the trace's first field is tag 5 with one byte of 2. A 1
+// there, or no tag 5, has it taken as it was before it was retired. Any other tag 5 is a field that can't be replayed.
+//
 // P is the offset of a field's tag. The trace ends where the input does, or where it can't be read on: what was read until then is
 // replayed. Of an input over 65,536 bytes one byte more is read, and no frame of it is served. Input may come in pieces of any
 // size. The exit status is 0 in every case, since a Rattle program has no other.

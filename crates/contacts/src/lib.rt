@@ -4,13 +4,14 @@ ghost use mathlib.Core.Path.{_≡_};
 ghost use lib.ListN.{length};
 ghost use Rattle.engine.specs.Config.{configFor};
 ghost use Rattle.engines.specs.Damage.{soundBy};
-ghost use Rattle.owning.specs.Owner.{sizeOf, makeOutcome, made, readOf, purgeOf, purgedBytes};
+ghost use Rattle.owning.specs.Owner.{sizeOf, makeOutcome, made, readOf, purgeOf, purgedBytes, activateOf, activatedBytes};
 ghost use Rattle.request.specs.Reading.{reading};
 ghost use Rattle.request_writer.specs.Writing.{writing, frameBytes, outputOf};
 ghost use Rattle.run.specs.Run.{begun, runEnd, ranOf};
 ghost use Rattle.replay.specs.Replay.{replayed};
 ghost use Rattle.contacts.specs.Contacts.{ServesOne};
-ghost use Rattle.answers.specs.Answers.{ranAnswer, documentAnswer, purgedAnswer, requestAnswer, fieldsFor, writtenAnswer, replayedAnswer};
+ghost use Rattle.answers.specs.Answers.{ranAnswer, documentAnswer, purgedAnswer, activatedAnswer, requestAnswer, fieldsFor, writtenAnswer, replayedAnswer};
+use answers::ActivatedAnswer;
 use answers::DocumentAnswer;
 use answers::PurgedAnswer;
 use answers::RanAnswer;
@@ -98,6 +99,14 @@ pub extern "C" fn contacts_purge(plain: bool, b: &mut [u8], clock: u32, bound: u
     ensures { λ r. ⌜ (r ≡ purgedAnswer (purgeOf (configFor plain) (now (b .entry)) clock bound)) × (now (b .exit) ≡ purgedBytes (configFor plain) (now (b .entry)) clock bound) ⌝ }
 {
     answers::purged_answer(owner::purge(engine::config_for(plain), b, clock, Cas(bound)))
+}
+
+// Makes a table active, unless it is damaged or dead. Nothing but the state changes.
+#[no_mangle]
+pub extern "C" fn contacts_activate(plain: bool, b: &mut [u8]) -> ActivatedAnswer
+    ensures { λ r. ⌜ (r ≡ activatedAnswer (activateOf (configFor plain) (now (b .entry)))) × (now (b .exit) ≡ activatedBytes (configFor plain) (now (b .entry))) ⌝ }
+{
+    answers::activated_answer(owner::activate(engine::config_for(plain), b))
 }
 
 // Reads the request at the start of the received bytes.

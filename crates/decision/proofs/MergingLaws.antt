@@ -37,5 +37,5 @@ merging-decided h row free w c active p room =
     let fault : not (Bool·beq (w .last) (isLast (modeOf (h .mode)))) ≡ false = rw (p .mode) (same-beq (isLast (modeOf (h .mode)))) in
     let long = le-ltb 1024 (length (c .request .value)) (p .short) in
     let here = eq-eqb (c .request .vbucket) (h .vbucket) (p .here) in
-    rw (p .with-meta, fault, long, here, active, p .header-cas, p .force, p .regenerate, p .skip, not-add (w .kind) (p .kind), room)
+    rw (p .with-meta, fault, p .supported, long, here, active, p .header-cas, p .force, p .regenerate, p .skip, not-add (w .kind) (p .kind), room)
     (cases (accepted (modeOf (h .mode)) (storedOf row) (w .numbers)) (λ t. rw t (rw source-bytes)) (λ t. rw t))

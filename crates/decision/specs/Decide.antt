@@ -29,6 +29,8 @@ pub record Request : Type 0 where
   pub quiet : Bool
   pub key : Key
   pub value : List ℕ
+  -- it asks for what is no longer served
+  pub unsupported : Bool
   pub command : Command
 
 -- what the table is told
@@ -38,7 +40,7 @@ pub record Effect : Type 0 where
   pub head : Head
 
 abbrev pub instructionOf : Request → Instruction
-instructionOf a = record { vbucket = a .vbucket; cas = a .cas; quiet = a .quiet; size = length (a .value); command = a .command }
+instructionOf a = record { vbucket = a .vbucket; cas = a .cas; quiet = a .quiet; size = length (a .value); unsupported = a .unsupported; command = a .command }
 
 -- ---- the bytes of a decision: those of the frame and the stored ones
 abbrev pub bytesFrom : Source → List ℕ → List ℕ → List ℕ

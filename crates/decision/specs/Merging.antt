@@ -57,6 +57,7 @@ writeOf c = record { key = c .request .key; doc = carriedDoc c }
 -- a set- or delete-with-meta call for a table of this mode and vbucket, "that break no form, field or size rule of its mode, with header CAS 0 and none of options 0x01, 0x04, 0x08"
 pub record MergingRequest (m : Mode) (vbucket : ℕ) (w : Meta) (c : RequestAt) : Type 0 where
   pub with-meta : c .request .command ≡ WithMeta w
+  pub supported : c .request .unsupported ≡ false
   pub kind : SetOrDelete (w .kind)
   pub mode : w .last ≡ isLast m
   pub short : length (c .request .value) ≤ 1024

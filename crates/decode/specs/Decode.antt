@@ -1,6 +1,6 @@
 -- What a whole frame asks for: the command that its opcode and extras spell, with key and value.
 use Prim.Native.Nat.{ℕ, _-_, _/_, _%_}
-use mathlib.Core.Bool.{Bool, true, false, cond}
+use mathlib.Core.Bool.{Bool, true, false, not, cond, _&&_}
 use mathlib.Core.List.{List}
 use lib.ListN.{length}
 use lib.Dec.{eqb}
@@ -15,7 +15,7 @@ use Rattle.document.specs.declared.Side.the-variants.{Front, Back}
 use Rattle.with_meta.specs.WithMeta.{withMeta}
 use Rattle.with_meta.specs.declared.WithMeta.{WithMeta}
 use Rattle.with_meta.specs.FieldRules.{withMetaOk}
-use Rattle.rules.specs.Rules.{metaSize, countOf}
+use Rattle.rules.specs.Rules.{metaSize, countOf, isForced, forces}
 use Rattle.request.specs.Reading.{extrasSpan, keySpan, valueSpan, bytesIn}
 use Rattle.commands.specs.declared.Kind.{Kind}
 use Rattle.commands.specs.declared.Kind.the-variants.{Set, Add, Replace}
@@ -94,8 +94,8 @@ unfoldable pub bareValue : List ℕ → Header → List ℕ
 bareValue s h = part s (valueSpan h .at) (valueSpan h .len - metaSize (shapeOf (h .opcode)) (bytesIn s (extrasSpan h)))
 
 -- an ask of a command and a value of this size; the rest is the header's and the opcode's
-abbrev pub instructionWith : Shape → Header → Command → ℕ → Instruction
-instructionWith s h command size = record { vbucket = h .vbucket; cas = h .cas; quiet = s .quiet; size = size; command = command }
+abbrev pub instructionWith : Shape → Header → Command → ℕ → Bool → Instruction
+instructionWith s h command size unsupported = record { vbucket = h .vbucket; cas = h .cas; quiet = s .quiet; size = size; unsupported = unsupported; command = command }
 
 -- 01's number for each answer: "any field rule below" is 0x04, and 0 where none is broken
 abbrev pub decodedStatus : Decoded → ℕ
@@ -104,35 +104,37 @@ decodedStatus (Whole i) = 0
 
 -- order 1, a listing: "count 0 is 0x04"
 unfoldable pub listDecoded : Shape → Header → List ℕ → ℕ → Decoded
-listDecoded s h extras size = cond (eqb (countOf extras) 0) Broken (Whole (instructionWith s h (GetKeys (countOf extras)) size))
+listDecoded s h extras size = cond (eqb (countOf extras) 0) Broken (Whole (instructionWith s h (GetKeys (countOf extras)) size false))
 
--- a with-meta command unless its fields break the rules
-unfoldable pub metaDecoded : Shape → Header → MetaKind → List ℕ → List ℕ → Decoded
-metaDecoded s h k extras value =
+-- a with-meta command unless its fields break the rules; forcing: option 0x01 is taken
+unfoldable pub metaDecoded : Bool → Shape → Header → MetaKind → List ℕ → List ℕ → Decoded
+metaDecoded forcing s h k extras value =
     cond (withMetaOk (s .meta) (withMeta extras) value)
-    (Whole (instructionWith s h (metaCommand k (withMeta extras)) (length value - withMeta extras .section)))
+    (Whole (instructionWith s h (metaCommand k (withMeta extras)) (length value - withMeta extras .section) (isForced (withMeta extras) && not forcing)))
     Broken
 
-abbrev pub decodedAs : Family → Shape → Header → List ℕ → List ℕ → Decoded
-decodedAs (Bare c) s h extras value = Whole (instructionWith s h c (length value))
-decodedAs (Stored k) s h extras value = Whole (instructionWith s h (plainOf k extras) (length value))
-decodedAs (Counted up) s h extras value = Whole (instructionWith s h (counterOf up extras) (length value))
-decodedAs (Carried k) s h extras value = metaDecoded s h k extras value
-decodedAs Listed s h extras value = listDecoded s h extras (length value)
-decodedAs (Touched shown) s h extras value = Whole (instructionWith s h (touchOf shown extras) (length value))
+abbrev pub decodedAs : Bool → Family → Shape → Header → List ℕ → List ℕ → Decoded
+decodedAs forcing (Bare c) s h extras value = Whole (instructionWith s h c (length value) false)
+decodedAs forcing (Stored k) s h extras value = Whole (instructionWith s h (plainOf k extras) (length value) false)
+decodedAs forcing (Counted up) s h extras value = Whole (instructionWith s h (counterOf up extras) (length value) false)
+decodedAs forcing (Carried k) s h extras value = metaDecoded forcing s h k extras value
+decodedAs forcing Listed s h extras value = listDecoded s h extras (length value)
+decodedAs forcing (Touched shown) s h extras value = Whole (instructionWith s h (touchOf shown extras) (length value) false)
 
 -- what a frame asks for unless it breaks the field rules, from its header, its opcode's shape, its extras and what follows its key
-unfoldable pub decodedBy : Shape → Header → List ℕ → List ℕ → Decoded
+unfoldable pub decodedBy : Bool → Shape → Header → List ℕ → List ℕ → Decoded
 unfolding listDecoded metaDecoded
-decodedBy s h extras value = decodedAs (familyOf (s .operation)) s h extras value
+decodedBy forcing s h extras value = decodedAs forcing (familyOf (s .operation)) s h extras value
 
-unfoldable pub requestOf : List ℕ → Header → Request
-unfolding bareValue commandOf
-requestOf s h = record {
+-- order 9: a with-meta request with option 0x01 is unsupported, unless force is taken
+unfoldable pub requestOf : Bool → List ℕ → Header → Request
+unfolding bareValue commandOf forces
+requestOf forcing s h = record {
   vbucket = h .vbucket;
   cas = h .cas;
   quiet = shapeOf (h .opcode) .quiet;
   key = bytesIn s (keySpan h);
   value = bareValue s h;
+  unsupported = forces (shapeOf (h .opcode)) (bytesIn s (extrasSpan h)) && not forcing;
   command = commandOf (shapeOf (h .opcode) .operation) (bytesIn s (extrasSpan h));
 }

@@ -99,8 +99,14 @@ fn family_of(operation: Operation) -> Family
     }
 }
 
-fn instruction_with(shape: Shape, h: Header, command: Command, size: usize) -> Instruction
-    ensures { λ r. ⌜ r ≡ instructionWith shape h command size ⌝ }
+fn instruction_with(
+    shape: Shape,
+    h: Header,
+    command: Command,
+    size: usize,
+    unsupported: bool,
+) -> Instruction
+    ensures { λ r. ⌜ r ≡ instructionWith shape h command size unsupported ⌝ }
 {
     let cas = h.cas;
     Instruction {
@@ -108,6 +114,7 @@ fn instruction_with(shape: Shape, h: Header, command: Command, size: usize) -> I
         cas,
         quiet: shape.quiet,
         size,
+        unsupported,
         command,
     }
 }
@@ -126,12 +133,19 @@ fn list_decoded(shape: Shape, h: Header, extras: &[u8], size: usize) -> Decoded
     if count == 0 {
         return Decoded::Broken;
     }
-    Decoded::Whole(instruction_with(shape, h, Command::GetKeys(count), size))
+    Decoded::Whole(instruction_with(shape, h, Command::GetKeys(count), size, false))
 }
 
-// A with-meta command, unless its fields break the rules.
-fn meta_decoded(shape: Shape, h: Header, kind: MetaKind, extras: &[u8], value: &[u8]) -> Decoded
-    ensures { λ r. ⌜ r ≡ metaDecoded shape h kind (now (extras .entry)) (now (value .entry)) ⌝ }
+// A with-meta command, unless its fields break the rules. forcing: option 0x01 is taken.
+fn meta_decoded(
+    forcing: bool,
+    shape: Shape,
+    h: Header,
+    kind: MetaKind,
+    extras: &[u8],
+    value: &[u8],
+) -> Decoded
+    ensures { λ r. ⌜ r ≡ metaDecoded forcing shape h kind (now (extras .entry)) (now (value .entry)) ⌝ }
 {
     let w = with_meta::read(extras);
     if !with_meta::with_meta_ok(shape.meta, w, value) {
@@ -142,28 +156,42 @@ fn meta_decoded(shape: Shape, h: Header, kind: MetaKind, extras: &[u8], value: &
         h,
         meta_of(kind, w),
         octets::minus(value.len(), w.section as usize),
+        rules::is_forced(w) & !forcing,
     ))
 }
 
 // Field rules and command by one reading of the extras, from a frame's header, its opcode's shape, its extras and what
 // follows its key. Each kind of command is made at one place, so that the compiler puts it there, and its extras are read
 // only once the kind is known: each read past their end is a slow one.
-pub fn decoded_by(shape: Shape, h: Header, extras: &[u8], value: &[u8]) -> Decoded
-    ensures { λ r. ⌜ r ≡ decodedBy shape h (now (extras .entry)) (now (value .entry)) ⌝ }
+pub fn decoded_by(forcing: bool, shape: Shape, h: Header, extras: &[u8], value: &[u8]) -> Decoded
+    ensures { λ r. ⌜ r ≡ decodedBy forcing shape h (now (extras .entry)) (now (value .entry)) ⌝ }
 {
     let size = value.len();
     let operation = shape.operation;
     match family_of(operation) {
-        Family::Bare(c) => Decoded::Whole(instruction_with(shape, h, c, size)),
-        Family::Stored(k) => Decoded::Whole(instruction_with(shape, h, plain_of(k, extras), size)),
+        Family::Bare(c) => Decoded::Whole(instruction_with(shape, h, c, size, false)),
+        Family::Stored(k) => Decoded::Whole(instruction_with(
+            shape,
+            h,
+            plain_of(k, extras),
+            size,
+            false,
+        )),
         Family::Counted(u) => Decoded::Whole(instruction_with(
             shape,
             h,
             counter_of(u, extras),
             size,
+            false,
         )),
-        Family::Carried(k) => meta_decoded(shape, h, k, extras, value),
+        Family::Carried(k) => meta_decoded(forcing, shape, h, k, extras, value),
         Family::Listed => list_decoded(shape, h, extras, size),
-        Family::Touched(s) => Decoded::Whole(instruction_with(shape, h, touch_of(s, extras), size)),
+        Family::Touched(s) => Decoded::Whole(instruction_with(
+            shape,
+            h,
+            touch_of(s, extras),
+            size,
+            false,
+        )),
     }
 }

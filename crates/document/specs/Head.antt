@@ -1,7 +1,10 @@
--- A table's head with another mark or another clock.
+-- A table's head with another state, mark or clock.
 use Prim.Native.Nat.{ℕ, max}
 use Rattle.numbers.specs.Expiry.{later}
 use Rattle.document.specs.declared.Head.{Head}
+
+abbrev pub stated : Head → ℕ → Head
+stated h s = record { state = s; mode = h .mode; vbucket = h .vbucket; clock = h .clock; mark = h .mark }
 
 abbrev pub marked : Head → ℕ → Head
 marked h m = record { state = h .state; mode = h .mode; vbucket = h .vbucket; clock = h .clock; mark = record { 0 = m } }

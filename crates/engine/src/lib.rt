@@ -30,18 +30,22 @@ pub enum EngineKind {
 // What a call is told beside its memory and its clock.
 pub struct Config {
     pub engine: EngineKind,
+    // whether option 0x01 of a with-meta write is taken: the rule of old traces, and of nothing else
+    pub forcing: bool,
 }
 
-// The plain engine, or rows in key order.
+// The plain engine, or rows in key order; force is retired.
 pub fn config_for(plain: bool) -> Config
     ensures { λ r. ⌜ r ≡ configFor plain ⌝ }
 {
     if plain {
         return Config {
             engine: EngineKind::Plain,
+            forcing: false,
         };
     }
     Config {
         engine: EngineKind::Ordered,
+        forcing: false,
     }
 }

@@ -17,10 +17,10 @@ use Rattle.plain.proofs.PlainLaws.{plain-laws}
 use Rattle.ordered.proofs.OrderLaws.{ordered-each, ordered-distinct, fresh-ordered}
 use Rattle.ordered.proofs.InsertLaws.{insert-replaces}
 use Rattle.ordered.proofs.OrderedLaws.{ordered-laws}
-use Rattle.engines.specs.Engines.{rowsKept, putBy, engineOf}
+use Rattle.engines.specs.Engines.{rowsKept, putBy, engineIn, engineOf}
 use Rattle.engines.specs.Claims.{EnginesLaws, EnginesAlike, FreshAlikeBy}
 
-laws-in : (k : EngineKind) → Laws (engineOf (record { engine = k }))
+laws-in : (k : EngineKind) → Laws (engineIn k)
 laws-in Plain = plain-laws
 laws-in Ordered = ordered-laws
 

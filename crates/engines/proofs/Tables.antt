@@ -31,9 +31,9 @@ use Rattle.ordered.specs.Purge.{stayingRows, purgeOrdered}
 use Rattle.ordered.specs.Damage.{soundOrdered}
 use Rattle.ordered.proofs.OrderLaws.{ordered-distinct}
 use Rattle.ordered.proofs.OrderedLaws.{ordered-laws}
-use Rattle.engines.specs.Engines.{rowsKept, putBy, purgeBy, engineOf}
+use Rattle.engines.specs.Engines.{rowsKept, putBy, purgeBy, engineIn}
 use Rattle.engines.specs.Damage.{soundIn, soundBy}
-use Rattle.engines.specs.Claims.{SoundPlain, SoundGoodBy, GoodSoundBy, PutGoodBy, PurgeGoodBy, FreshGoodBy, HeadGoodBy, ClockGoodBy, HeadPut, ClockPut}
+use Rattle.engines.specs.Claims.{SoundPlain, SoundGoodBy, GoodSoundBy, PutGoodBy, PurgeGoodBy, FreshGoodBy, HeadGoodBy, ClockGoodBy, StateGoodBy, HeadPut, ClockPut, StatePut}
 use Rattle.engines.proofs.EngineLaws.{engines-laws, fresh-kept}
 
 -- ---- damage: in order, and sound by 01's rule
@@ -131,7 +131,7 @@ rows-changed t ws g n a o = record {
 }
 
 module _ (t : Table) (key : Key) (d : Doc) (e : EntryGood (t .head .mark .0) (record { key = key; doc = d })) where
-  put-in : (k : EngineKind) → Good t → rowsKept k (t .rows) → Room (engineOf (record { engine = k })) (t .rows) key
+  put-in : (k : EngineKind) → Good t → rowsKept k (t .rows) → Room (engineIn k) (t .rows) key
       → Good (record { head = t .head; rows = putBy k (t .rows) key d })
   put-in Plain g o room = put-good t key d g e room
   put-in Ordered g o room =
@@ -199,6 +199,24 @@ clock-good-by config t clock g s =
       kept = g .kept;
     }
 
+pub state-good-by : StateGoodBy
+state-good-by config t state g s =
+    let h = g .good in
+    record {
+      good = record {
+        least = h .least;
+        most = h .most;
+        state = s;
+        mode = h .mode;
+        vbucket = h .vbucket;
+        clock = h .clock;
+        mark = h .mark;
+        rows = h .rows;
+        keys = h .keys;
+      };
+      kept = g .kept;
+    }
+
 pub head-put : HeadPut
 unfolding tableBytes
 head-put t h =
@@ -212,3 +230,9 @@ unfolding tableBytes headBytes bytesOf pasted
 clock-put t clock =
     let n : length (tableBytes t) ≡ length (headBytes (t .head)) + length (rowsBytes (t .rows)) = length-append (headBytes (t .head)) (rowsBytes (t .rows)) in
     written-fits (tableBytes t) 4 (bytesOf 4 (clockAt t clock)) (omega (arith, n, head-length (t .head)))
+
+pub state-put : StatePut
+unfolding tableBytes headBytes bytesOf pasted
+state-put t state =
+    let n : length (tableBytes t) ≡ length (headBytes (t .head)) + length (rowsBytes (t .rows)) = length-append (headBytes (t .head)) (rowsBytes (t .rows)) in
+    written-fits (tableBytes t) 0 (bytesOf 1 state) (omega (arith, n, head-length (t .head)))

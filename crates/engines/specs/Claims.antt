@@ -7,7 +7,7 @@ use Rattle.octets.specs.Parts.{Bytes, written}
 use Rattle.octets.specs.BigEndian.{bytesOf}
 use Rattle.document.specs.Documents.{Key, Doc}
 use Rattle.document.specs.declared.Head.{Head}
-use Rattle.document.specs.Head.{marked}
+use Rattle.document.specs.Head.{stated, marked}
 use Rattle.engine.specs.declared.Config.{Config}
 use Rattle.engine.specs.Engine.{Laws, Room}
 use Rattle.engine.specs.Alike.{Alike, StaysAlike}
@@ -59,16 +59,22 @@ FreshGoodBy =
     (config : Config) (n state mode vbucket : ℕ) → 1 ≤ n → n ≤ 256 → (1 ≤ state) × (state ≤ 4) → (1 ≤ mode) × (mode ≤ 2) → vbucket < 65536
     → GoodBy config (fresh n state mode vbucket)
 
--- a higher mark and any clock
+-- a higher mark, any clock, and any other state
 abbrev pub HeadGoodBy : Type 0
 HeadGoodBy = (config : Config) (t : Table) (m : ℕ) → GoodBy config t → t .head .mark .0 ≤ m → m < 2 ^ 64 → GoodBy config (record { head = marked (t .head) m; rows = t .rows })
 
 abbrev pub ClockGoodBy : Type 0
 ClockGoodBy = (config : Config) (t : Table) (clock : ℕ) → GoodBy config t → clock < 2 ^ 32 → GoodBy config (tableAt t clock)
 
--- the head is written apart, and changes no row; order 2: the kept clock's four bytes, written alone
+abbrev pub StateGoodBy : Type 0
+StateGoodBy = (config : Config) (t : Table) (state : ℕ) → GoodBy config t → (1 ≤ state) × (state ≤ 4) → GoodBy config (record { head = stated (t .head) state; rows = t .rows })
+
+-- the head is written apart, and changes no row; order 2: the kept clock's four bytes, written alone; order 9: the state's byte, written alone
 abbrev pub HeadPut : Type 0
 HeadPut = (t : Table) (h : Head) → written (tableBytes t) 0 (headBytes h) ≡ tableBytes (record { head = h; rows = t .rows })
 
 abbrev pub ClockPut : Type 0
 ClockPut = (t : Table) (clock : ℕ) → written (tableBytes t) 4 (bytesOf 4 (clockAt t clock)) ≡ tableBytes (tableAt t clock)
+
+abbrev pub StatePut : Type 0
+StatePut = (t : Table) (state : ℕ) → written (tableBytes t) 0 (bytesOf 1 state) ≡ tableBytes (record { head = stated (t .head) state; rows = t .rows })

@@ -28,14 +28,17 @@ abbrev pub purgeBy : EngineKind → List Row → (Doc → Bool) → List Row
 purgeBy Plain r p = purgeRows r p
 purgeBy Ordered r p = purgeOrdered r p
 
-abbrev pub engineOf : Config → Engine
-engineOf config = record {
+abbrev pub engineIn : EngineKind → Engine
+engineIn k = record {
   Rows = List Row;
-  Good = rowsKept (config .engine);
+  Good = rowsKept k;
   find = findRow;
   free = freeRows;
-  put = putBy (config .engine);
-  purge = purgeBy (config .engine);
+  put = putBy k;
+  purge = purgeBy k;
   size = length;
   docs = usedRows;
 }
+
+abbrev pub engineOf : Config → Engine
+engineOf config = engineIn (config .engine)

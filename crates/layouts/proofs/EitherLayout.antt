@@ -1,7 +1,7 @@
 -- Serving goes by the write that the extras carry, and not by their layout.
 use Prim.Native.Nat.{ℕ, _+_, _-_, _≤_}
 use mathlib.Core.Path.{_≡_, refl, sym, ap, _∙_}
-use mathlib.Core.Bool.{Bool, true, false, not, cond}
+use mathlib.Core.Bool.{Bool, true, false, not, cond, _&&_}
 use mathlib.Core.List.{List}
 use native.Mathlib.Omega.{arith}
 use lib.ListN.{length, take}
@@ -17,7 +17,7 @@ use Rattle.header.specs.Header.{headerOf}
 use Rattle.with_meta.specs.declared.WithMeta.{WithMeta}
 use Rattle.with_meta.specs.WithMeta.{withMeta}
 use Rattle.with_meta.specs.FieldRules.{withMetaOk}
-use Rattle.rules.specs.Rules.{formOk, metaSize, fieldRulesOk, judged, status}
+use Rattle.rules.specs.Rules.{formOk, metaSize, fieldRulesOk, keepsRules, isForced, forces, judged, status}
 use Rattle.request.proofs.Gated.{whole-frame}
 use Rattle.request.specs.declared.Gate.{Gate}
 use Rattle.request.specs.declared.Gate.the-variants.{Stop, Whole}
@@ -32,10 +32,11 @@ use Rattle.engines.specs.Damage.{soundBy}
 use Rattle.rows.specs.Table.{Table, tableOf, tableAt, clockAt, tableBytes}
 use Rattle.rows.specs.Find.{findRow}
 use Rattle.serving.specs.Reply.{replyShows, replyBytes}
-use Rattle.serving.specs.Serve.{servedOutcome, servedStatus, servedLength, servedNeeded, gateAll, contextOn, refusal, reachesDecision, decisionOn, frameEffect, tableChanged, frameTable, frameReply, answerBy, tableBy, replyBy, served, servedTable, servedReply}
-use Rattle.promises.specs.Expiry.{opcode, extrasIn, keyIn, withMetas}
+use Rattle.serving.specs.Serve.{servedOutcome, servedStatus, servedLength, servedNeeded, gateAll}
+use Rattle.serving.specs.Serve.{contextOn, refusal, reachesDecision, decisionOn, frameEffect, tableChanged, frameTable, frameReply, answerBy, tableBy, replyBy, served, servedTable, servedReply}
+use Rattle.promises.specs.Expiry.{opcode, extrasIn, keyIn, valueIn, withMetas}
 use Rattle.promises.proofs.Asks.{at-opcode}
-use Rattle.layouts.specs.Layouts.{valueIn, Formed, OneWrite, ServedAlike, EitherLayout}
+use Rattle.layouts.specs.Layouts.{RightForm, OneWrite, ServedAlike, EitherLayout}
 
 -- ---- what goes by the write alone
 -- the command, by its opcode
@@ -54,21 +55,32 @@ same-fields n e e′ value m w =
     at-opcode (λ x. fieldRulesOk (shapeOf x) e value ≡ fieldRulesOk (shapeOf x) e′ value) n withMetas
     (set, (set, (set, (set, (delete, (delete, tt)))))) m
 
+-- option 0x01
+same-forces : (n : ℕ) (e e′ : List ℕ) → withMeta e ≡ withMeta e′ → forces (shapeOf n) e ≡ forces (shapeOf n) e′
+unfolding forces
+same-forces n e e′ w = ap (λ (x : WithMeta). not (eqb (shapeOf n .meta) 0) && isForced x) w
+
 -- the bytes of extended meta
 same-meta : (n : ℕ) (e e′ : List ℕ) → withMeta e ≡ withMeta e′ → metaSize (shapeOf n) e ≡ metaSize (shapeOf n) e′
 unfolding metaSize withMeta
 same-meta n e e′ w = ap (λ (x : WithMeta). cond (eqb (shapeOf n .meta) 0) 0 (x .section)) w
 
 -- the reader's status of a right form
-abbrev statusFor : ℕ → Bool → ℕ → ℕ
-statusFor n fields size = cond (not (eqb (shapeOf n .status) 0)) (shapeOf n .status) (cond (not fields) 0x04 (cond (ltb 1024 size) 0x03 0))
+abbrev statusFor : ℕ → Bool → Bool → ℕ → ℕ
+statusFor n fields forced size = cond (not (eqb (shapeOf n .status) 0)) (shapeOf n .status) (cond (not fields) 0x04 (cond forced 0x83 (cond (ltb 1024 size) 0x03 0)))
 
 status-by : (s : List ℕ) (h : Header) → formOk (shapeOf (h .opcode)) h ≡ true
     → frameStatus s h
-    ≡ statusFor (h .opcode) (fieldRulesOk (shapeOf (h .opcode)) (bytesIn s (extrasSpan h)) (bytesIn s (valueSpan h)))
+    ≡ statusFor (h .opcode) (fieldRulesOk (shapeOf (h .opcode)) (bytesIn s (extrasSpan h)) (bytesIn s (valueSpan h))) (forces (shapeOf (h .opcode)) (bytesIn s (extrasSpan h)))
     (length (bytesIn s (valueSpan h)) - metaSize (shapeOf (h .opcode)) (bytesIn s (extrasSpan h)))
 unfolding frameStatus status judged
 status-by s h e = rw e
+
+-- and whether it goes on
+reaches-by : (s : List ℕ) (h : Header) → formOk (shapeOf (h .opcode)) h ≡ true
+    → reachesDecision s h ≡ (eqb (shapeOf (h .opcode) .status) 0 && fieldRulesOk (shapeOf (h .opcode)) (bytesIn s (extrasSpan h)) (bytesIn s (valueSpan h)))
+unfolding keepsRules
+reaches-by s h e = rw e
 
 -- a value before its extended meta is cut from what follows the key
 module _ (s : List ℕ) (h : Header) (whole : 24 + h .body ≤ length s) (form : formOk (shapeOf (h .opcode)) h ≡ true) where
@@ -90,7 +102,7 @@ module _ (s : List ℕ) (h : Header) (whole : 24 + h .body ≤ length s) (form :
   bare-cut = rw (value-length, take-take (valueSpan h .len - section) (valueSpan h .len) _ (omega arith))
 
 -- ---- two frames that carry one write
-module _ (s s′ : List ℕ) (formed : Formed s) (formed′ : Formed s′) (o : OneWrite s s′) where
+module _ (config : Config) (s s′ : List ℕ) (formed : RightForm s) (formed′ : RightForm s′) (o : OneWrite s s′) where
   abbrev h : Header
   h = headerOf s
 
@@ -105,8 +117,20 @@ module _ (s s′ : List ℕ) (formed : Formed s) (formed′ : Formed s′) (o : 
       same-fields (h .opcode) (extrasIn s) (extrasIn s′) (valueIn s) (formed .command) (o .write)
       ∙ (λ i. fieldRulesOk (shapeOf (o .opcode i)) (extrasIn s′) (o .value i))
 
+  forced : forces (shapeOf (h .opcode)) (extrasIn s) ≡ forces (shapeOf (h′ .opcode)) (extrasIn s′)
+  forced = same-forces (h .opcode) (extrasIn s) (extrasIn s′) (o .write) ∙ ap (λ (n : ℕ). forces (shapeOf n) (extrasIn s′)) (o .opcode)
+
   same-status : frameStatus s h ≡ frameStatus s′ h′
-  same-status = status-by s h (formed .form) ∙ (λ i. statusFor (o .opcode i) (fields i) (length (o .value i) - meta i)) ∙ sym (status-by s′ h′ (formed′ .form))
+  same-status =
+      status-by s h (formed .form)
+      ∙ (λ i. statusFor (o .opcode i) (fields i) (forced i) (length (o .value i) - meta i))
+      ∙ sym (status-by s′ h′ (formed′ .form))
+
+  same-reaches : reachesDecision s h ≡ reachesDecision s′ h′
+  same-reaches =
+      reaches-by s h (formed .form)
+      ∙ (λ i. eqb (shapeOf (o .opcode i) .status) 0 && fields i)
+      ∙ sym (reaches-by s′ h′ (formed′ .form))
 
   same-value : bareValue s h ≡ bareValue s′ h′
   same-value =
@@ -114,7 +138,7 @@ module _ (s s′ : List ℕ) (formed : Formed s) (formed′ : Formed s′) (o : 
       ∙ (λ i. take (length (o .value i) - meta i) (o .value i))
       ∙ sym (bare-cut s′ h′ (whole-frame s′ h′ (formed′ .whole) .inside) (formed′ .form))
 
-  same-request : requestOf s h ≡ requestOf s′ h′
+  same-request : requestOf (config .forcing) s h ≡ requestOf (config .forcing) s′ h′
   unfolding requestOf
   same-request =
       let command : commandOf (shapeOf (h .opcode) .operation) (extrasIn s) ≡ commandOf (shapeOf (h′ .opcode) .operation) (extrasIn s′) =
@@ -125,19 +149,20 @@ module _ (s s′ : List ℕ) (formed : Formed s) (formed′ : Formed s′) (o : 
         quiet = shapeOf (o .opcode i) .quiet;
         key = o .key i;
         value = same-value i;
+        unsupported = forced i && not (config .forcing);
         command = command i;
       }
 
-  same-decision : (t : Table) (clock : ℕ) → decisionOn t clock s h ≡ decisionOn t clock s′ h′
+  same-decision : (t : Table) (clock : ℕ) → decisionOn config t clock s h ≡ decisionOn config t clock s′ h′
   unfolding decisionOn
   same-decision t clock =
-      λ i. cond (reachesDecision (same-status i)) (decision (contextOn t clock (findRow (t .rows) (o .key i))) (instructionOf (same-request i))) (refusal (t .head) (same-status i))
+      λ i. cond (same-reaches i) (decision (contextOn t clock (findRow (t .rows) (o .key i))) (instructionOf (same-request i))) (refusal (t .head) (same-status i))
 
-  same-effect : (t : Table) (clock : ℕ) → frameEffect t clock s h ≡ frameEffect t clock s′ h′
+  same-effect : (t : Table) (clock : ℕ) → frameEffect config t clock s h ≡ frameEffect config t clock s′ h′
   unfolding frameEffect
   same-effect t clock = λ i. effectOf (same-request i) (findRow (t .rows) (o .key i)) (same-decision t clock i)
 
-  module _ (config : Config) (b : List ℕ) (clock : ℕ) where
+  module _ (b : List ℕ) (clock : ℕ) where
     abbrev now : ℕ
     now = clockAt (tableOf b) clock
 
@@ -145,7 +170,7 @@ module _ (s s′ : List ℕ) (formed : Formed s) (formed′ : Formed s′) (o : 
     unfolding frameTable
     same-table = λ i. tableBytes (tableChanged config (tableAt (tableOf b) clock) (o .key i) (same-effect (tableAt (tableOf b) clock) now i))
 
-    same-reply : frameReply b clock s h ≡ frameReply b clock s′ h′
+    same-reply : frameReply config b clock s h ≡ frameReply config b clock s′ h′
     unfolding frameReply
     same-reply = λ i.
         let x : Decision = same-decision (tableAt (tableOf b) clock) now i in
@@ -167,14 +192,14 @@ module _ (s s′ : List ℕ) (formed : Formed s) (formed′ : Formed s′) (o : 
           let status = ap (λ (x : Effect). x .status) (same-effect (tableAt (tableOf b) clock) now) in
           record {
             answer = record {
-              outcome = meet (λ g. servedOutcome (answerBy b clock s g)) (λ g. servedOutcome (answerBy b clock s′ g)) (λ n need. refl) refl;
-              status = meet (λ g. servedStatus (answerBy b clock s g)) (λ g. servedStatus (answerBy b clock s′ g)) (λ n need. refl) status;
-              reply = meet (λ g. servedLength (answerBy b clock s g)) (λ g. servedLength (answerBy b clock s′ g)) (λ n need. refl) (ap length same-reply);
-              needed = meet (λ g. servedNeeded (answerBy b clock s g)) (λ g. servedNeeded (answerBy b clock s′ g)) (λ n need. refl) refl;
+              outcome = meet (λ g. servedOutcome (answerBy config b clock s g)) (λ g. servedOutcome (answerBy config b clock s′ g)) (λ n need. refl) refl;
+              status = meet (λ g. servedStatus (answerBy config b clock s g)) (λ g. servedStatus (answerBy config b clock s′ g)) (λ n need. refl) status;
+              reply = meet (λ g. servedLength (answerBy config b clock s g)) (λ g. servedLength (answerBy config b clock s′ g)) (λ n need. refl) (ap length same-reply);
+              needed = meet (λ g. servedNeeded (answerBy config b clock s g)) (λ g. servedNeeded (answerBy config b clock s′ g)) (λ n need. refl) refl;
             };
             table = meet (tableBy config b clock s) (tableBy config b clock s′) (λ n need. refl) same-table;
-            reply = meet (replyBy b clock s out) (replyBy b clock s′ out) (λ n need. refl) (ap (written out 0) same-reply);
+            reply = meet (replyBy config b clock s out) (replyBy config b clock s′ out) (λ n need. refl) (ap (written out 0) same-reply);
           }
 
 pub either-layout : (config : Config) → EitherLayout config
-either-layout config b clock s s′ out f f′ o = alike s s′ f f′ o config b clock out
+either-layout config b clock s s′ out f f′ o = alike config s s′ f f′ o b clock out

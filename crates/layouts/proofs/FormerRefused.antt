@@ -50,19 +50,20 @@ faulty : (c : Context) (n : ℕ) (extras : List ℕ) → among n withMetas ≡ t
 unfolding ruleOf metaCommand
 faulty c n extras m o l = let (k, e) = carries c extras n m in rw (e, o, l)
 
-module _ (t : Table) (clock : ℕ) (s : List ℕ) (h : Header) (whole : 24 + h .body ≤ length s) (command : among (h .opcode) withMetas ≡ true) (size : h .extlen ≡ 25) (last : modeOf (t .head .mode) ≡ LastWrite) where
+module _ (config : Config) (t : Table) (clock : ℕ) (s : List ℕ) (h : Header) (whole : 24 + h .body ≤ length s)
+    (command : among (h .opcode) withMetas ≡ true) (size : h .extlen ≡ 25) (last : modeOf (t .head .mode) ≡ LastWrite) where
   abbrev extras : List ℕ
   extras = bytesIn s (extrasSpan h)
 
-  at-fault : formOk (shapeOf (h .opcode)) h ≡ true → testsOn t clock s h .fault ≡ true
+  at-fault : formOk (shapeOf (h .opcode)) h ≡ true → testsOn config t clock s h .fault ≡ true
   unfolding testsOf requestOf extrasSpan
   at-fault f =
       faulty _ (h .opcode) extras command (no-options extras (part-length s 24 (h .extlen) (omega (arith, inside s h whole f)) ∙ size)) last
 
-  refused : decisionOn t clock s h .status ≡ 0x04
+  refused : decisionOn config t clock s h .status ≡ 0x04
   unfolding firstFailure
   refused =
-      sym (statuses-in-order t clock s h)
+      sym (statuses-in-order config t clock s h)
       ∙ cases (formOk (shapeOf (h .opcode)) h)
       (λ f. cases (fieldRulesOk (shapeOf (h .opcode)) extras (bytesIn s (valueSpan h)))
       (λ g. rw (f, g, at-fault f, built (h .opcode) command))
@@ -73,4 +74,4 @@ pub former-refused : (config : Config) → FormerRefused config
 unfolding served gateAll frameEffect
 former-refused config b clock s room sound roomy last whole command size =
     rw (sound, le-ltb room 1302 roomy, whole)
-    (refused (tableAt (tableOf b) clock) (clockAt (tableOf b) clock) s (headerOf s) (whole-frame s (headerOf s) whole .inside) command size last)
+    (refused config (tableAt (tableOf b) clock) (clockAt (tableOf b) clock) s (headerOf s) (whole-frame s (headerOf s) whole .inside) command size last)

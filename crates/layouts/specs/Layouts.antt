@@ -10,20 +10,16 @@ use Rattle.header.specs.Header.{headerOf}
 use Rattle.with_meta.specs.WithMeta.{withMeta}
 use Rattle.rules.specs.Rules.{formOk}
 use Rattle.request.specs.declared.Gate.the-variants.{Whole}
-use Rattle.request.specs.Reading.{gateOf, valueSpan, bytesIn}
+use Rattle.request.specs.Reading.{gateOf}
 use Rattle.engine.specs.declared.Config.{Config}
 use Rattle.engines.specs.Damage.{soundBy}
 use Rattle.serving.specs.declared.Served.{Served}
 use Rattle.serving.specs.Serve.{servedOutcome, servedStatus, servedLength, servedNeeded, served, servedTable, servedReply}
 use Rattle.promises.specs.Merge.{modeAt}
-use Rattle.promises.specs.Expiry.{opcode, extrasIn, keyIn, withMetas}
-
--- what follows the key
-abbrev pub valueIn : List ℕ → List ℕ
-valueIn s = bytesIn s (valueSpan (headerOf s))
+use Rattle.promises.specs.Expiry.{opcode, extrasIn, keyIn, valueIn, withMetas}
 
 -- a whole frame of a with-meta command in a right form, as 01's status 2 has it of the header
-pub record Formed (s : List ℕ) : Type 0 where
+pub record RightForm (s : List ℕ) : Type 0 where
   pub whole : gateOf s ≡ Whole (headerOf s)
   pub command : among (opcode s) withMetas ≡ true
   pub form : formOk (shapeOf (opcode s)) (headerOf s) ≡ true
@@ -52,7 +48,7 @@ pub record ServedAlike (config : Config) (b : List ℕ) (clock : ℕ) (s s′ ou
   pub reply : servedReply config b clock s out ≡ servedReply config b clock s′ out
 
 abbrev pub EitherLayout : Config → Type 0
-EitherLayout config = (b : List ℕ) (clock : ℕ) (s s′ out : List ℕ) → Formed s → Formed s′ → OneWrite s s′ → ServedAlike config b clock s s′ out
+EitherLayout config = (b : List ℕ) (clock : ℕ) (s s′ out : List ℕ) → RightForm s → RightForm s′ → OneWrite s s′ → ServedAlike config b clock s s′ out
 
 -- "No options fit in it, so it is 0x04 in last-write-wins.": whatever else the frame has, its form and its nru too. It rules out a store that takes the nru for an option
 abbrev pub FormerRefused : Config → Type 0

@@ -46,6 +46,7 @@ module _ (E : Engine) (L : Laws E) where
   at-any-clock : (m : Mode) (v : ℕ) (w : Meta) (c : RequestAt) (clock : ℕ) → MergingRequest m v w c → MergingRequest m v w (record { clock = clock; request = c .request })
   at-any-clock m v w c clock p = record {
     with-meta = p .with-meta;
+    supported = p .supported;
     kind = p .kind;
     mode = p .mode;
     short = p .short;

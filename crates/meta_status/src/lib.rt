@@ -27,13 +27,14 @@ pub fn meta_status(c: Context, i: Instruction, w: Meta, fresh: bool) -> u8
     let m = numbers::mode_of(head.mode);
     let lww = is_last(m);
     let wins = document::accepted(m, row, given);
-    let here = status::is_here(head, i.vbucket, w.force);
+    let here = status::is_here(head, i.vbucket);
     let live = document::live(row, c.clock);
     let old = document::numbers_of(row);
     let used = document::has_row(row);
     let guard = i.cas.0 != 0;
     status::first_status(Tests {
         fault: w.last != lww,
+        unsupported: i.unsupported,
         long: 1024 < i.size,
         elsewhere: !here,
         unstored: false,

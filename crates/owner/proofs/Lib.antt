@@ -1,3 +1,4 @@
 pub mod Making
 pub mod Reading
+pub mod Activating
 pub mod Tells

@@ -1,14 +1,15 @@
-// The owner's calls on a table in lent memory: make a fresh one, read a document, purge.
+// The owner's calls on a table in lent memory: make a fresh one, read a document, purge, and make it active.
 ghost use mathlib.Core.Path.{_≡_};
 ghost use Prim.Native.Nat.{_+_, _*_, _≤_};
 ghost use lib.ListN.{length};
 ghost use Rattle.rows.specs.Table.{tableBytes, fresh};
-ghost use Rattle.owning.specs.Owner.{sizeOf, makeOk, makeOutcome, made, readOf, purgeOf, purgedBytes};
-ghost use Rattle.owner.specs.Shown.{shownBy};
+ghost use Rattle.owning.specs.Owner.{sizeOf, makeOk, makeOutcome, made, readOf, purgeOf, purgedBytes, activateOf, activatedBytes};
+ghost use Rattle.owner.specs.Shown.{shownBy, activationOf};
 use document::Head;
 use engine::Checked;
 use engine::Config;
 use numbers::Cas;
+use owning::Activated;
 use owning::Document;
 use owning::Purged;
 use rows::HEADER;
@@ -100,6 +101,34 @@ pub fn purge(config: Config, s: &mut [u8], clock: u32, bound: Cas) -> Purged
             let now = numbers::later(head.clock, clock);
             row_writer::put_clock(s, now);
             Purged::Freed(table::purge(config, s, now, bound))
+        }
+    }
+}
+
+fn activation(c: Checked) -> Activated
+    ensures { λ r. ⌜ r ≡ activationOf c ⌝ }
+{
+    match c {
+        Checked::Damaged => Activated::Damaged,
+        Checked::Sound(head) => {
+            if head.state == 4 {
+                return Activated::Dead;
+            }
+            Activated::Active
+        }
+    }
+}
+
+// Makes a table active, unless it is damaged or dead. Nothing but the state changes.
+pub fn activate(config: Config, s: &mut [u8]) -> Activated
+    ensures { λ r. ⌜ (r ≡ activateOf config (now (s .entry))) × (now (s .exit) ≡ activatedBytes config (now (s .entry))) ⌝ }
+{
+    match activation(table::checked(config, s)) {
+        Activated::Damaged => Activated::Damaged,
+        Activated::Dead => Activated::Dead,
+        Activated::Active => {
+            row_writer::put_state(s, 1);
+            Activated::Active
         }
     }
 }

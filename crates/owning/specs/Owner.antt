@@ -1,13 +1,15 @@
--- The owner's calls, on any memory: make a fresh table, read a document, purge. "Both answer 5 on a damaged table and change nothing."
+-- The owner's calls, on any memory: make a fresh table, read a document, purge, and make a table active. Of reading and purging: "Both answer 5 on a damaged table and change nothing."
 use Prim.Native.Nat.{ℕ, _+_, _*_}
 use mathlib.Core.List.{List}
 use mathlib.Core.Bool.{Bool, cond, _&&_}
 use mathlib.Core.Option.{Option, none, some}
 use lib.ListN.{length}
-use lib.Dec.{leb}
+use lib.Dec.{leb, eqb}
 use Rattle.document.specs.Documents.{Key, Doc}
 use Rattle.numbers.specs.declared.Left.{Left}
 use Rattle.numbers.specs.Expiry.{secondsLeft, isPast, secondsIn}
+use Rattle.document.specs.declared.Head.{Head}
+use Rattle.document.specs.Head.{stated}
 use Rattle.document.specs.Stored.{goneDoc}
 use Rattle.rows.specs.Row.{Row}
 use Rattle.rows.specs.Table.{Table, tableOf, tableAt, clockAt, tableBytes, fresh}
@@ -23,6 +25,8 @@ use Rattle.owning.specs.declared.Document.{Document}
 use Rattle.owning.specs.declared.Document.the-variants.{Damaged, Missing, Expired, Live}
 use Rattle.owning.specs.declared.Purged.{Purged}
 use Rattle.owning.specs.declared.Purged.the-variants.{Damaged as NotPurged, Freed}
+use Rattle.owning.specs.declared.Activated.{Activated}
+use Rattle.owning.specs.declared.Activated.the-variants.{Damaged as NotActivated, Dead, Active}
 
 -- 01's numbers for the answers: outcome 5 on a damaged table, status 0x01 where there is no live document
 abbrev pub readOutcome : Document → ℕ
@@ -45,6 +49,17 @@ purgeOutcome (Freed n) = 0
 abbrev pub purgedCount : Purged → ℕ
 purgedCount NotPurged = 0
 purgedCount (Freed n) = n
+
+-- order 9, of making a table active: "It answers 5 on a damaged table and 0x07 on a dead one."
+abbrev pub activateOutcome : Activated → ℕ
+activateOutcome NotActivated = checkedOutcome NotSound
+activateOutcome Dead = 0
+activateOutcome Active = 0
+
+abbrev pub activateStatus : Activated → ℕ
+activateStatus NotActivated = 0
+activateStatus Dead = 0x07
+activateStatus Active = 0
 
 -- the bytes that a table of n rows needs, 0 where no table has so many
 unfoldable pub sizeOf : ℕ → ℕ
@@ -87,3 +102,22 @@ purgedTable config t p = record { head = t .head; rows = engineOf config .purge 
 unfoldable pub purgedBytes : Config → List ℕ → ℕ → ℕ → List ℕ
 purgedBytes config b clock bound =
     cond (soundBy config b) (tableBytes (purgedTable config (tableAt (tableOf b) clock) (goneDoc (clockAt (tableOf b) clock) bound))) b
+
+-- a head in state 4
+abbrev pub isDead : Head → Bool
+isDead h = eqb (h .state) 4
+
+-- order 9: "Replica and pending tables now take no write; a new owner call makes one active, leaves an active one, and changes nothing but the state.
+-- It answers 5 on a damaged table and 0x07 on a dead one." It takes no clock, and raises none.
+unfoldable pub activateOf : Config → List ℕ → Activated
+activateOf config b = cond (soundBy config b) (cond (isDead (tableOf b .head)) Dead Active) NotActivated
+
+-- the same head in state 1
+abbrev pub activated : Head → Head
+activated h = stated h 1
+
+abbrev pub activatedTable : Table → Table
+activatedTable t = record { head = activated (t .head); rows = t .rows }
+
+unfoldable pub activatedBytes : Config → List ℕ → List ℕ
+activatedBytes config b = cond (soundBy config b) (cond (isDead (tableOf b .head)) b (tableBytes (activatedTable (tableOf b)))) b

@@ -16,3 +16,10 @@ pub enum Purged {
     Damaged,
     Freed(usize),
 }
+
+// Outcome 5; status 0x07, for a dead table; or the table is active.
+pub enum Activated {
+    Damaged,
+    Dead,
+    Active,
+}

@@ -81,51 +81,51 @@ module _ (config : Config) (b : List ℕ) (clock : ℕ) (s : List ℕ) where
   abbrev lives : Bool
   lives = live (storedOf (docAt b (keyIn s))) (clockAt (tableOf b) clock)
 
-  found : lives ≡ true → tests b clock s .missing ≡ false
+  found : lives ≡ true → tests config b clock s .missing ≡ false
   unfolding testsOf
-  found t = rw t (and-false (rule b clock s .needs || guard (instruction b clock s) (rule b clock s)))
+  found t = rw t (and-false (rule config b clock s .needs || guard (instruction config b clock s) (rule config b clock s)))
 
-  not-found : needsLive s ≡ true → lives ≡ false → tests b clock s .missing ≡ true
+  not-found : needsLive s ≡ true → lives ≡ false → tests config b clock s .missing ≡ true
   unfolding testsOf
-  not-found e t = rw (sought b clock s e, t)
+  not-found e t = rw (sought config b clock s e, t)
 
   -- a join
-  stored : lives ≡ true → tests b clock s .unstored ≡ false
+  stored : lives ≡ true → tests config b clock s .unstored ≡ false
   unfolding testsOf
-  stored t = rw t (and-false (rule b clock s .joins))
+  stored t = rw t (and-false (rule config b clock s .joins))
 
-  not-stored : among (opcode s) joins ≡ true → lives ≡ false → tests b clock s .unstored ≡ true
+  not-stored : among (opcode s) joins ≡ true → lives ≡ false → tests config b clock s .unstored ≡ true
   unfolding testsOf
-  not-stored e t = rw (join-joins b clock s e, t)
+  not-stored e t = rw (join-joins config b clock s e, t)
 
   -- an Add without a header CAS
-  contest : rule b clock s .beaten ≡ false → rule b clock s .fresh ≡ true → headerCas s ≡ 0 → (x : Bool) → lives ≡ x → tests b clock s .conflict ≡ x
+  contest : rule config b clock s .beaten ≡ false → rule config b clock s .fresh ≡ true → headerCas s ≡ 0 → (x : Bool) → lives ≡ x → tests config b clock s .conflict ≡ x
   unfolding testsOf
-  contest u f z true t = rw (u, f, unguarded b clock s z, t)
-  contest u f z false t = rw (u, f, unguarded b clock s z, t)
+  contest u f z true t = rw (u, f, unguarded config b clock s z, t)
+  contest u f z false t = rw (u, f, unguarded config b clock s z, t)
 
   module _ (room : ℕ) (r : Reaches config b clock s room) where
-    needed-told : needsLive s ≡ true → (n : ℕ) → status b clock s ≡ n → not (eqb n 0x01) ≡ lives
+    needed-told : needsLive s ≡ true → (n : ℕ) → status config b clock s ≡ n → not (eqb n 0x01) ≡ lives
     needed-told e n z =
         cases lives
-        (λ t. rw (t, ne-eqb n 0x01 (λ y. without 0x01 _ (without-missing b clock s (found t)) (z ∙ y))))
-        (λ t. rw (t, eq-eqb n 0x01 (sym z ∙ is-missing b clock s (r .earlier) (not-unstored b clock s (needs-keyed s e)) (not-found e t))))
+        (λ t. rw (t, ne-eqb n 0x01 (λ y. without 0x01 _ (without-missing config b clock s (found t)) (z ∙ y))))
+        (λ t. rw (t, eq-eqb n 0x01 (sym z ∙ is-missing config b clock s (r .earlier) (not-unstored config b clock s (needs-keyed s e)) (not-found e t))))
 
-    joined-told : among (opcode s) joins ≡ true → (n : ℕ) → status b clock s ≡ n → not (eqb n 0x05) ≡ lives
+    joined-told : among (opcode s) joins ≡ true → (n : ℕ) → status config b clock s ≡ n → not (eqb n 0x05) ≡ lives
     joined-told e n z =
         cases lives
-        (λ t. rw (t, ne-eqb n 0x05 (λ y. without 0x05 _ (without-unstored b clock s (stored t)) (z ∙ y))))
-        (λ t. rw (t, eq-eqb n 0x05 (sym z ∙ is-unstored b clock s (r .earlier) (not-stored e t))))
+        (λ t. rw (t, ne-eqb n 0x05 (λ y. without 0x05 _ (without-unstored config b clock s (stored t)) (z ∙ y))))
+        (λ t. rw (t, eq-eqb n 0x05 (sym z ∙ is-unstored config b clock s (r .earlier) (not-stored e t))))
 
-    added-told : among (opcode s) adds ≡ true → headerCas s ≡ 0 → (n : ℕ) → status b clock s ≡ n → eqb n 0x02 ≡ lives
+    added-told : among (opcode s) adds ≡ true → headerCas s ≡ 0 → (n : ℕ) → status config b clock s ≡ n → eqb n 0x02 ≡ lives
     unfolding requestOf
     added-told e c n z =
-        let (needless, (unbeaten, fresh)) = added (seen b clock s) (extrasIn s) (opcode s) e in
+        let (needless, (unbeaten, fresh)) = added (seen config b clock s) (extrasIn s) (opcode s) e in
         cases lives
         (λ t.
-        let first = is-conflict b clock s (r .earlier) (not-unstored b clock s (add-keyed (opcode s) e)) (not-missing b clock s needless c) (contest unbeaten fresh c true t) in
+        let first = is-conflict config b clock s (r .earlier) (not-unstored config b clock s (add-keyed (opcode s) e)) (not-missing config b clock s needless c) (contest unbeaten fresh c true t) in
         rw (t, eq-eqb n 0x02 (sym z ∙ first)))
-        (λ t. rw (t, ne-eqb n 0x02 (λ y. without 0x02 _ (without-conflict b clock s (contest unbeaten fresh c false t)) (z ∙ y))))
+        (λ t. rw (t, ne-eqb n 0x02 (λ y. without 0x02 _ (without-conflict config b clock s (contest unbeaten fresh c false t)) (z ∙ y))))
 
 -- where a document isn't needed, an Add has no header CAS
 add-bare : (s : List ℕ) → among (opcode s) adds ≡ true → needsLive s ≡ false → headerCas s ≡ 0
@@ -134,7 +134,7 @@ add-bare s e f =
     let (h, _) = neither (among (opcode s) keyed && not (eqb (headerCas s) 0)) _ g in
     eqb-true (headerCas s) 0 (not-false (eqb (headerCas s) 0) (rw (add-keyed (opcode s) e) at h))
 
-told : (config : Config) (b : List ℕ) (clock : ℕ) (s : List ℕ) (room n : ℕ) → Reaches config b clock s room → tells s ≡ true → status b clock s ≡ n → toldLive s n ≡ lives config b clock s
+told : (config : Config) (b : List ℕ) (clock : ℕ) (s : List ℕ) (room n : ℕ) → Reaches config b clock s room → tells s ≡ true → status config b clock s ≡ n → toldLive s n ≡ lives config b clock s
 told config b clock s room n r e z =
     cases (among (opcode s) joins)
     (λ j. rw j (joined-told config b clock s room r j n z))
@@ -149,31 +149,31 @@ one-liveness config b clock s room n r e (len, a) =
 pub live-is-found : (config : Config) → LiveIsFound config
 live-is-found config b clock s room d r at l e =
     let t : lives config b clock s ≡ true = rw at (alive-at b clock d l) in
-    let missed = avoids config b clock s room 0x01 (without-missing b clock s (found config b clock s t)) in
-    let unstored = avoids config b clock s room 0x05 (without-unstored b clock s (stored config b clock s t)) in
+    let missed = avoids config b clock s room 0x01 (without-missing config b clock s (found config b clock s t)) in
+    let unstored = avoids config b clock s room 0x05 (without-unstored config b clock s (stored config b clock s t)) in
     ((missed, unstored), read-live config b clock (keyIn s) (r .undamaged) ∙ t)
 
 -- ---- with-meta
 module _ (config : Config) (b : List ℕ) (clock : ℕ) (s : List ℕ) (d : Doc) (at : docAt b (keyIn s) ≡ some d) (n : NotLive (laterAt b clock) (some d)) (c : headerCas s ≡ 0)
-    (k : MetaKind) (asks : command b clock s ≡ metaCommand k (withMeta (extrasIn s)))
+    (k : MetaKind) (asks : command config b clock s ≡ metaCommand k (withMeta (extrasIn s)))
     (unforced : eqb (withMeta (extrasIn s) .options % 2) 1 ≡ false) (unskipped : eqb (withMeta (extrasIn s) .options / 8 % 2) 1 ≡ false) where
   abbrev wins : Bool
   wins = greater (modeAt b) (withMeta (extrasIn s) .numbers) (d .numbers)
 
-  needless : rule b clock s .needs ≡ false
+  needless : rule config b clock s .needs ≡ false
   unfolding ruleOf metaCommand
   needless = rw asks
 
-  beaten : rule b clock s .beaten ≡ not wins
+  beaten : rule config b clock s .beaten ≡ not wins
   unfolding ruleOf metaCommand accepted
   beaten = rw (asks, unforced, unskipped, at)
 
   unfound : lives config b clock s ≡ false
   unfound = rw at (dead-at b clock (some d) n)
 
-  compared : tests b clock s .conflict ≡ not wins
+  compared : tests config b clock s .conflict ≡ not wins
   unfolding testsOf
-  compared = rw (beaten, unguarded b clock s c, unfound, and-false (rule b clock s .fresh)) (or-false (not wins))
+  compared = rw (beaten, unguarded config b clock s c, unfound, and-false (rule config b clock s .fresh)) (or-false (not wins))
 
 meta-keyed : (n : ℕ) → among n withMetas ≡ true → among n keyed ≡ true
 unfolding among
@@ -182,11 +182,11 @@ meta-keyed n e = tested (λ x. among x keyed) n withMetas refl e
 pub dead-is-compared : (config : Config) → DeadIsCompared config
 unfolding requestOf
 dead-is-compared config b clock s room d r at n e c unforced unskipped =
-    let (k, asks) = carries (seen b clock s) (extrasIn s) (opcode s) e in
-    let needs = not-missing b clock s (needless config b clock s d at n c k asks unforced unskipped) c in
+    let (k, asks) = carries (seen config b clock s) (extrasIn s) (opcode s) e in
+    let needs = not-missing config b clock s (needless config b clock s d at n c k asks unforced unskipped) c in
     let x = compared config b clock s d at n c k asks unforced unskipped in (
-      λ f. answers config b clock s room r 0x02 (is-conflict b clock s (r .earlier) (not-unstored b clock s (meta-keyed (opcode s) e)) needs (x ∙ ap not f)),
-      λ t. (avoids config b clock s room 0x01 (without-missing b clock s needs), avoids config b clock s room 0x02 (without-conflict b clock s (x ∙ ap not t))),
+      λ f. answers config b clock s room r 0x02 (is-conflict config b clock s (r .earlier) (not-unstored config b clock s (meta-keyed (opcode s) e)) needs (x ∙ ap not f)),
+      λ t. (avoids config b clock s room 0x01 (without-missing config b clock s needs), avoids config b clock s room 0x02 (without-conflict config b clock s (x ∙ ap not t))),
     )
 
 -- ---- a command that stores nothing
@@ -201,41 +201,41 @@ module _ (c : Context) where
       (λ t. subst (λ (y : Command). Kept (doneOf c y)) (sym e) k) (λ t. (refl, refl))
 
 -- a frame that asks for one, on any table
-module _ (t : Table) (clock : ℕ) (s : List ℕ) where
+module _ (config : Config) (t : Table) (clock : ℕ) (s : List ℕ) where
   abbrev sees : Context
   sees = contextOn t clock (findRow (t .rows) (keyIn s))
 
-  frame-kept : (x : Command) → requestOf s (headerOf s) .command ≡ x → Kept sees (doneOf sees x)
-      → (frameEffect t clock s (headerOf s) .store ≡ none) × (frameEffect t clock s (headerOf s) .head ≡ t .head)
+  frame-kept : (x : Command) → requestOf (config .forcing) s (headerOf s) .command ≡ x → Kept sees (doneOf sees x)
+      → (frameEffect config t clock s (headerOf s) .store ≡ none) × (frameEffect config t clock s (headerOf s) .head ≡ t .head)
   unfolding frameEffect decisionOn
   frame-kept x asks k =
-      let (none-stored, same-head) = kept sees (instructionOf (requestOf s (headerOf s))) x asks k in
-      cases (reachesDecision (frameStatus s (headerOf s))) (λ t. rw t (rw none-stored refl, same-head)) (λ t. rw t (refl, refl))
+      let (none-stored, same-head) = kept sees (instructionOf (requestOf (config .forcing) s (headerOf s))) x asks k in
+      cases (reachesDecision s (headerOf s)) (λ t. rw t (rw none-stored refl, same-head)) (λ t. rw t (refl, refl))
 
   -- so do a Get of any form, Noop, Version and Get Keys
   abbrev Reads : ℕ → Type 0
   Reads n = Kept sees (doneOf sees (ask sees (extrasIn s) n))
 
-  pub read-only-keeps : among (opcode s) readOnly ≡ true → frameEffect t clock s (headerOf s) .store ≡ none
+  pub read-only-keeps : among (opcode s) readOnly ≡ true → frameEffect config t clock s (headerOf s) .store ≡ none
   unfolding shapeOf commandOf doneOf requestOf
   read-only-keeps e =
       let all : Each Reads readOnly =
       ((refl, refl), ((refl, refl), ((refl, refl), ((refl, refl), ((refl, refl), ((refl, refl), ((refl, refl), tt))))))) in
       frame-kept (ask sees (extrasIn s) (opcode s)) refl (at-opcode Reads (opcode s) readOnly all e) .0
 
-module _ (config : Config) (b : List ℕ) (clock : ℕ) (s : List ℕ) (x : Command) (asks : command b clock s ≡ x) (k : Kept (seen b clock s) (doneOf (seen b clock s) x)) where
+module _ (config : Config) (b : List ℕ) (clock : ℕ) (s : List ℕ) (x : Command) (asks : command config b clock s ≡ x) (k : Kept (seen config b clock s) (doneOf (seen config b clock s) x)) where
   abbrev t : Table
   t = tableAt (tableOf b) clock
 
   abbrev now : ℕ
   now = clockAt (tableOf b) clock
 
-  kept-by : (room : ℕ) → Bytes b → (g : Gate) → gateAll config b room s ≡ g → tableBy config b clock s g ≡ keptBy (answerBy b clock s g) b clock
+  kept-by : (room : ℕ) → Bytes b → (g : Gate) → gateAll config b room s ≡ g → tableBy config b clock s g ≡ keptBy (answerBy config b clock s g) b clock
   unfolding frameTable
   kept-by room y (Stop n need) o = refl
   kept-by room y (Whole h) o =
       let w = was-open config b s room h o in
-      let same = frame-kept t now s x asks k in
+      let same = frame-kept config t now s x asks k in
       ap (λ (x : Header). frameTable config b clock s x) (sym (w .frame .header))
       ∙ ap tableBytes (unchanged config t now s (headerOf s) (same .0) (same .1)) ∙ raised-bytes config b clock y (w .undamaged)
 
@@ -250,5 +250,5 @@ got c k = (refl, refl)
 pub get-keeps : (config : Config) → GetKeeps config
 unfolding requestOf
 get-keeps config b clock s room y e =
-    let (k, asks) = reads (seen b clock s) (extrasIn s) (opcode s) e in
-    keeps config b clock s (Get k) asks (got (seen b clock s) k) room y
+    let (k, asks) = reads (seen config b clock s) (extrasIn s) (opcode s) e in
+    keeps config b clock s (Get k) asks (got (seen config b clock s) k) room y

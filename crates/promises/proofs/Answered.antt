@@ -88,10 +88,10 @@ by-silence s done key false shown y l = good-bytes s done key shown y l
 module _ (config : Config) (b : List ℕ) (clock : ℕ) (s : List ℕ) where
   -- what its command does
   abbrev done : Effects
-  done = doneOf (seen b clock s) (command b clock s)
+  done = doneOf (seen config b clock s) (command config b clock s)
 
   abbrev silent : Bool
-  silent = instruction b clock s .quiet && eqb 0 (ruleOf (seen b clock s) (command b clock s) .silentOn)
+  silent = instruction config b clock s .quiet && eqb 0 (ruleOf (seen config b clock s) (command config b clock s) .silentOn)
 
   -- the reply to it where it isn't silent
   abbrev said : Effects → List ℕ
@@ -99,14 +99,14 @@ module _ (config : Config) (b : List ℕ) (clock : ℕ) (s : List ℕ) where
       goodReply s (replyExtras (x .reply)) (replyKey (x .reply) (keyIn s))
       (replyValue (x .reply) (replyShows (x .reply) (tableOf b .rows) (clockAt (tableOf b) clock) (keyIn s))) (x .cas .0)
 
-  replied : Bytes s → 24 ≤ length s → decisionAt b clock s (headerOf s) .status ≡ 0 → frameReply b clock s (headerOf s) ≡ cond silent [] (said done)
+  replied : Bytes s → 24 ≤ length s → decisionAt config b clock s (headerOf s) .status ≡ 0 → frameReply config b clock s (headerOf s) ≡ cond silent [] (said done)
   unfolding frameReply
   replied z l zero =
       let h = headerOf s in
       let shows : Decision → List ℕ = λ x. replyShows (x .done .reply) (tableOf b .rows) (clockAt (tableOf b) clock) (keyIn s) in
       let whole : Decision → List ℕ = λ x. replyBytes (h .opcode) (h .opaque) x (keyIn s) (shows x) in
-      let r = reached b clock s zero in
-      ap whole (r ∙ zero-decision (seen b clock s) (instruction b clock s) (ap (λ (x : Decision). x .status) (sym r) ∙ zero))
+      let r = reached config b clock s zero in
+      ap whole (r ∙ zero-decision (seen config b clock s) (instruction config b clock s) (ap (λ (x : Decision). x .status) (sym r) ∙ zero))
       ∙ by-silence s done (keyIn s) silent (shows (record { status = 0; silent = silent; done = done })) z l
 
   -- at the start of the reply area
@@ -115,12 +115,12 @@ module _ (config : Config) (b : List ℕ) (clock : ℕ) (s : List ℕ) where
   unfolding served servedReply
   sent out len reply y z r e =
       let o = was-whole config b clock s (length out) 0 _ len r in
-      let zero = listed b clock s ∙ answered config b clock s (length out) 0 _ len r in
+      let zero = listed config b clock s ∙ answered config b clock s (length out) 0 _ len r in
       let f = replied z (was-open config b s (length out) (headerOf s) o .frame .long) zero ∙ e in
-      let size : len ≡ length reply = sym (ap servedLength (ap (answerBy b clock s) (sym o) ∙ r)) ∙ ap length f in
+      let size : len ≡ length reply = sym (ap servedLength (ap (answerBy config b clock s) (sym o) ∙ r)) ∙ ap length f in
       let inside = reply-fits config b clock s out 0 _ len y r .inside in (
         size,
-        ap (replyBy b clock s out) o ∙ ap (written out 0) f ∙ put out reply (omega (arith, size, inside)) ∙ ap (λ (k : ℕ). reply ++ drop k out) (sym size),
+        ap (replyBy config b clock s out) o ∙ ap (written out 0) f ∙ put out reply (omega (arith, size, inside)) ∙ ap (λ (k : ℕ). reply ++ drop k out) (sym size),
       )
 
 -- ---- a command that writes stores a row, and answers with its CAS
@@ -160,28 +160,28 @@ sent-cas op opaque x key shown rest sent =
     (λ t. rw t (ap (λ (l : List ℕ). part l 16 8) (append-assoc (headerBytes h) body rest) ∙ cas-at h (body ++ rest)))
 
 module _ (config : Config) (b : List ℕ) (clock : ℕ) (s : List ℕ) (e : among (opcode s) writers ≡ true) where
-  mutates : isMutation (command b clock s) ≡ true
+  mutates : isMutation (command config b clock s) ≡ true
   unfolding shapeOf commandOf plainOf counterOf touchOf metaCommand
-  mutates = ap isMutation (command-asked b clock s) ∙ tested (λ n. isMutation (ask (seen b clock s) (extrasIn s) n)) (opcode s) writers refl e
+  mutates = ap isMutation (command-asked config b clock s) ∙ tested (λ n. isMutation (ask (seen config b clock s) (extrasIn s) n)) (opcode s) writers refl e
 
   stores : Stores (done config b clock s)
-  stores = done-stores (seen b clock s) (command b clock s) mutates
+  stores = done-stores (seen config b clock s) (command config b clock s) mutates
 
   -- what the key has then
   abbrev document : Doc
   document = record {
     tomb = stores .row .tomb;
-    value = bytesFrom (done config b clock s .source) (requestOf s (headerOf s) .value) (docValue (docAt b (keyIn s)));
+    value = bytesFrom (done config b clock s .source) (requestOf (config .forcing) s (headerOf s) .value) (docValue (docAt b (keyIn s)));
     numbers = stores .row .numbers;
   }
 
-  stored : does b clock s ≡ some document
+  stored : does config b clock s ≡ some document
   stored = ap (λ (x : Stored). docFrom x (document .value)) (stores .stored)
 
-  cas-is : decisionAt b clock s (headerOf s) .status ≡ 0 → decisionAt b clock s (headerOf s) .done .cas .0 ≡ document .numbers .cas .0
+  cas-is : decisionAt config b clock s (headerOf s) .status ≡ 0 → decisionAt config b clock s (headerOf s) .done .cas .0 ≡ document .numbers .cas .0
   cas-is zero =
-      let r = reached b clock s zero in
-      let decided = r ∙ zero-decision (seen b clock s) (instruction b clock s) (ap (λ (x : Decision). x .status) (sym r) ∙ zero) in
+      let r = reached config b clock s zero in
+      let decided = r ∙ zero-decision (seen config b clock s) (instruction config b clock s) (ap (λ (x : Decision). x .status) (sym r) ∙ zero) in
       ap (λ (x : Decision). x .done .cas .0) decided ∙ stores .cas
 
 pub write-replies : (config : Config) → WriteReplies config
@@ -189,14 +189,14 @@ unfolding served servedReply frameReply
 write-replies config b clock s out len y z small e r sent =
     let a : Answers config b clock s (length out) 0 = (len, r) in
     let h = headerOf s in
-    let x = decisionAt b clock s h in
+    let x = decisionAt config b clock s h in
     let shown = replyShows (x .done .reply) (tableOf b .rows) (clockAt (tableOf b) clock) (keyIn s) in
     let reply = replyBytes (h .opcode) (h .opaque) x (keyIn s) shown in
     let o = was-whole config b clock s (length out) 0 _ len r in
-    let zero = listed b clock s ∙ answered config b clock s (length out) 0 _ len r in
-    let size : len ≡ length reply = sym (ap servedLength (ap (answerBy b clock s) (sym o) ∙ r)) in
+    let zero = listed config b clock s ∙ answered config b clock s (length out) 0 _ len r in
+    let size : len ≡ length reply = sym (ap servedLength (ap (answerBy config b clock s) (sym o) ∙ r)) in
     let inside = reply-fits config b clock s out 0 _ len y r .inside in
-    let whole = ap (replyBy b clock s out) o ∙ put out reply (omega (arith, size, inside)) in (
+    let whole = ap (replyBy config b clock s out) o ∙ put out reply (omega (arith, size, inside)) in (
       document config b clock s e,
       (
         done-at config b clock s (length out) (document config b clock s e) (stored config b clock s e) y z small a,
@@ -211,15 +211,15 @@ module _ (config : Config) (b : List ℕ) (clock : ℕ) (s : List ℕ) (e : amon
   abbrev keyed : Bool
   keyed = among (opcode s) (0x0c ∷ 0x0d ∷ [])
 
-  gets-it : command b clock s ≡ Get keyed
+  gets-it : command config b clock s ≡ Get keyed
   unfolding shapeOf commandOf among
   gets-it =
-      command-asked b clock s
-      ∙ at-opcode (λ n. ask (seen b clock s) (extrasIn s) n ≡ Get (among n (0x0c ∷ 0x0d ∷ []))) (opcode s) gets (refl, (refl, (refl, (refl, tt)))) e
+      command-asked config b clock s
+      ∙ at-opcode (λ n. ask (seen config b clock s) (extrasIn s) n ≡ Get (among n (0x0c ∷ 0x0d ∷ []))) (opcode s) gets (refl, (refl, (refl, (refl, tt)))) e
 
   shows-it : (d : Doc) → docAt b (keyIn s) ≡ some d → cond (silent config b clock s) [] (said config b clock s (done config b clock s)) ≡ getReply s d
   unfolding doneOf ruleOf
-  shows-it d there = rw (gets-it, and-false (instruction b clock s .quiet), there)
+  shows-it d there = rw (gets-it, and-false (instruction config b clock s .quiet), there)
 
 pub get-replies : (config : Config) → GetReplies config
 get-replies config b clock s out d len y z there e r = sent config b clock s out len (getReply s d) y z r (shows-it config b clock s e d there)
@@ -249,10 +249,10 @@ by-shown s true flags key rows now cas = refl
 by-shown s false flags key rows now cas = refl
 
 module _ (config : Config) (b : List ℕ) (clock : ℕ) (s : List ℕ) (e : among (opcode s) touches ≡ true) where
-  asks-touch : command b clock s ≡ Touch (record { expiry = num (extrasIn s) 0 4; shown = eqb (opcode s) 0x1d })
-  asks-touch = command-asked b clock s ∙ showing (seen b clock s) (extrasIn s) (opcode s) e
+  asks-touch : command config b clock s ≡ Touch (record { expiry = num (extrasIn s) 0 4; shown = eqb (opcode s) 0x1d })
+  asks-touch = command-asked config b clock s ∙ showing (seen config b clock s) (extrasIn s) (opcode s) e
 
-  touch-loud : instruction b clock s .quiet ≡ false
+  touch-loud : instruction config b clock s .quiet ≡ false
   unfolding requestOf shapeOf
   touch-loud = at-opcode (λ n. shapeOf n .quiet ≡ false) (opcode s) touches (refl, (refl, tt)) e
 
@@ -261,9 +261,9 @@ module _ (config : Config) (b : List ℕ) (clock : ℕ) (s : List ℕ) (e : amon
   unfolding doneOf
   touch-said d there =
       let shown = eqb (opcode s) 0x1d in
-      let cas = casAfter (seen b clock s .head .mark) .0 in
+      let cas = casAfter (seen config b clock s .head .mark) .0 in
       rw (touch-loud, asks-touch)
-      (by-shown s shown (numbersOf (seen b clock s .row) .flags) (keyIn s) (tableOf b .rows) (clockAt (tableOf b) clock) cas
+      (by-shown s shown (numbersOf (seen config b clock s .row) .flags) (keyIn s) (tableOf b .rows) (clockAt (tableOf b) clock) cas
       ∙ (λ i. touchReply s shown (numbersOf (storedOf (there i)) .flags) (docValue (there i)) cas))
 
 pub touch-replies : (config : Config) → TouchReplies config
@@ -278,21 +278,21 @@ touch-replies config b clock s out d len y z small there e r =
     )
 
 module _ (config : Config) (b : List ℕ) (clock : ℕ) (s : List ℕ) (e : among (opcode s) joins ≡ true) where
-  join-quiet : instruction b clock s .quiet ≡ among (opcode s) (0x19 ∷ 0x1a ∷ [])
+  join-quiet : instruction config b clock s .quiet ≡ among (opcode s) (0x19 ∷ 0x1a ∷ [])
   unfolding requestOf shapeOf among
   join-quiet = at-opcode (λ n. shapeOf n .quiet ≡ among n (0x19 ∷ 0x1a ∷ [])) (opcode s) joins (refl, (refl, (refl, (refl, tt)))) e
 
-  join-said : (side : Side) → command b clock s ≡ Join side → cond (silent config b clock s) [] (said config b clock s (done config b clock s)) ≡ joinReply s (done config b clock s .cas .0)
+  join-said : (side : Side) → command config b clock s ≡ Join side → cond (silent config b clock s) [] (said config b clock s (done config b clock s)) ≡ joinReply s (done config b clock s .cas .0)
   unfolding doneOf ruleOf
   join-said side asks =
-      let q = instruction b clock s .quiet in
-      rw asks (ap (λ (x : Bool). cond x [] (goodReply s [] [] [] (joinDone (seen b clock s) side .cas .0))) (and-true q ∙ join-quiet))
+      let q = instruction config b clock s .quiet in
+      rw asks (ap (λ (x : Bool). cond x [] (goodReply s [] [] [] (joinDone (seen config b clock s) side .cas .0))) (and-true q ∙ join-quiet))
 
 pub join-replies : (config : Config) → JoinReplies config
 unfolding requestOf
 join-replies config b clock s out d len y z small there e r =
     let w = tested (λ n. among n writers) (opcode s) joins joins-write e in
-    let (side, asks) = joining (seen b clock s) (extrasIn s) (opcode s) e in (
+    let (side, asks) = joining (seen config b clock s) (extrasIn s) (opcode s) e in (
       document config b clock s w,
       (
         done-at config b clock s (length out) (document config b clock s w) (stored config b clock s w) y z small (len, r),

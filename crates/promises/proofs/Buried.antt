@@ -158,7 +158,7 @@ module _ (config : Config) (b : List ℕ) (clock : ℕ) (s : List ℕ) (d : Doc)
   abbrev Same : Decision → Decision → Type 0
   Same x x′ = (x ≡ x′) × Blind (x .done)
 
-  plain-command : IsPlain (requestOf s h .command)
+  plain-command : IsPlain (requestOf (config .forcing) s h .command)
   unfolding requestOf
   plain-command = plain-asked (opcode s) (extrasIn s) plain-op
 
@@ -170,35 +170,35 @@ module _ (config : Config) (b : List ℕ) (clock : ℕ) (s : List ℕ) (d : Doc)
 
   -- the decision where the key has this document and so many rows are free
   abbrev with : Option Doc → ℕ → Decision
-  with o free = decision (contextOf (t .head) o (ltb 0 free) c) (instructionOf (requestOf s h))
+  with o free = decision (contextOf (t .head) o (ltb 0 free) c) (instructionOf (requestOf (config .forcing) s h))
 
   rows-alike : Same (with (findRow (t .rows) k) (freeRows (t .rows))) (with (findRow (u .rows) k) (freeRows (u .rows)))
   rows-alike =
       let alike = same-decision (t .head) (ltb 0 (freeRows (t .rows))) c (metadataOf d) (metadataOf (tombstoneOf d)) (numberOf (d .value)) (numberOf []) (length (d .value)) 0
-      dead-row dead-grave refl refl (instructionOf (requestOf s h)) plain-command in
+      dead-row dead-grave refl refl (instructionOf (requestOf (config .forcing) s h)) plain-command in
       let e : with (findRow (t .rows) k) (freeRows (t .rows)) ≡ with (some d) (freeRows (t .rows)) = λ j. with (there j) (freeRows (t .rows)) in
       let f : with (findRow (u .rows) k) (freeRows (u .rows)) ≡ with (some (tombstoneOf d)) (freeRows (t .rows)) = λ j. with (grave-found j) (grave-free j) in
       (e ∙ alike .0 ∙ sym f, subst (λ (x : Decision). Blind (x .done)) (sym e) (alike .1))
 
-  decided : Same (decisionOn t c s h) (decisionOn u c s h)
+  decided : Same (decisionOn config t c s h) (decisionOn config u c s h)
   unfolding decisionOn
-  decided = cases (reachesDecision (frameStatus s h)) (λ r. rw r rows-alike) (λ r. rw r (refl, (tt, tt)))
+  decided = cases (reachesDecision s h) (λ r. rw r rows-alike) (λ r. rw r (refl, (tt, tt)))
 
-  effects : frameEffect t c s h ≡ frameEffect u c s h
+  effects : frameEffect config t c s h ≡ frameEffect config u c s h
   unfolding frameEffect
   effects =
-      blind-effect (requestOf s h) (findRow (t .rows) k) (findRow (u .rows) k) (decisionOn t c s h) (decided .1)
-      ∙ ap (effectOf (requestOf s h) (findRow (u .rows) k)) (decided .0)
+      blind-effect (requestOf (config .forcing) s h) (findRow (t .rows) k) (findRow (u .rows) k) (decisionOn config t c s h) (decided .1)
+      ∙ ap (effectOf (requestOf (config .forcing) s h) (findRow (u .rows) k)) (decided .0)
 
   -- ---- a whole frame
-  replies : frameReply b clock s h ≡ frameReply grave clock s h
+  replies : frameReply config b clock s h ≡ frameReply config grave clock s h
   unfolding frameReply
   replies =
       let keys = put-dead config c (t .rows) k d (tombstoneOf d) (good .kept) there dead-row dead-grave in
       let shown : Table → Decision → List ℕ = λ v x. replyBytes (h .opcode) (h .opaque) x k (replyShows (x .done .reply) (v .rows) (clockAt v clock) k) in
-      blind-reply (t .rows) (u .rows) c k keys (h .opcode) (h .opaque) (decisionOn t c s h) (decided .1)
+      blind-reply (t .rows) (u .rows) c k keys (h .opcode) (h .opaque) (decisionOn config t c s h) (decided .1)
       ∙ ap (shown u₀) (decided .0)
-      ∙ ap (λ (v : Table). shown v (decisionOn (tableAt v clock) (clockAt v clock) s h)) (sym grave-table)
+      ∙ ap (λ (v : Table). shown v (decisionOn config (tableAt v clock) (clockAt v clock) s h)) (sym grave-table)
 
   module _ (inside : 24 + h .body ≤ length s) where
     abbrev Ends : Type 0
@@ -210,13 +210,13 @@ module _ (config : Config) (b : List ℕ) (clock : ℕ) (s : List ℕ) (d : Doc)
     changed v = frameChange config (tableAt v clock) (clockAt v clock) s h
 
     abbrev effect : Effect
-    effect = frameEffect t c s h
+    effect = frameEffect config t c s h
 
     -- nothing stored: both stay, but for the kept clock
     stay : effect .store ≡ none → Ends
     unfolding frameTable
     stay e =
-        let head = changing t c s h (good .good) z inside .keeps e in
+        let head = changing config t c s h (good .good) z inside .keeps e in
         let kept = ap tableBytes (unchanged config t c s h e head) ∙ raised-bytes config b clock y undamaged in
         let at = ap (λ (x : Effect). x .store) (sym effects) ∙ e in
         let top = ap (λ (x : Effect). x .head) (sym effects) ∙ head in
@@ -243,17 +243,17 @@ module _ (config : Config) (b : List ℕ) (clock : ℕ) (s : List ℕ) (d : Doc)
   unfolding gateAll
   gates n = rw (undamaged, grave-sound)
 
-  statuses-alike : effectAt b clock s h .status ≡ effectAt grave clock s h .status
-  statuses-alike = ap (λ (x : Effect). x .status) effects ∙ ap (λ (v : Table). frameEffect (tableAt v clock) (clockAt v clock) s h .status) (sym grave-table)
+  statuses-alike : effectAt config b clock s h .status ≡ effectAt config grave clock s h .status
+  statuses-alike = ap (λ (x : Effect). x .status) effects ∙ ap (λ (v : Table). frameEffect config (tableAt v clock) (clockAt v clock) s h .status) (sym grave-table)
 
   module _ (out : List ℕ) where
     -- what an answer leaves where nothing is stored
     abbrev Keeps : List ℕ → Gate → Type 0
-    Keeps m g = tableBy config m clock s g ≡ keptBy (answerBy m clock s g) m clock
+    Keeps m g = tableBy config m clock s g ≡ keptBy (answerBy config m clock s g) m clock
 
     abbrev By : Gate → Type 0
-    By g = (answerBy b clock s g ≡ answerBy grave clock s g)
-        × ((replyBy b clock s out g ≡ replyBy grave clock s out g)
+    By g = (answerBy config b clock s g ≡ answerBy config grave clock s g)
+        × ((replyBy config b clock s out g ≡ replyBy config grave clock s out g)
         × ((tableBy config b clock s g ≡ tableBy config grave clock s g) ⊎ (Keeps b g × Keeps grave g)))
 
     whole : 24 + h .body ≤ length s → By (Whole h)
@@ -305,8 +305,8 @@ module _ (config : Config) (b : List ℕ) (clock : ℕ) (s : List ℕ) (d : Doc)
     unfolding served servedReply
     as-buried = record {
       undamaged = grave-sound;
-      answer = now .0 ∙ ap (answerBy grave clock s) (gates n);
-      reply = now .1 .0 ∙ ap (replyBy grave clock s out) (gates n);
+      answer = now .0 ∙ ap (answerBy config grave clock s) (gates n);
+      reply = now .1 .0 ∙ ap (replyBy config grave clock s out) (gates n);
       table = tables;
       others = others-by tables;
     }

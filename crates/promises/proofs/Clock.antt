@@ -21,7 +21,7 @@ use Rattle.document.specs.Documents.{Key, Doc}
 use Rattle.document.specs.Stored.{storedOf, live, gone, goneDoc}
 use Rattle.shape.specs.Shapes.{commands, unbuilt, lookUp, among, shapeOf}
 use Rattle.header.specs.Header.{headerOf}
-use Rattle.rules.specs.Rules.{formOk, fieldRulesOk, metaSize, judged, status}
+use Rattle.rules.specs.Rules.{formOk, fieldRulesOk, metaSize, judged, status, keepsRules, forces, isForced}
 use Rattle.request.specs.Reading.{gateOf, extrasSpan, keySpan, valueSpan, frameStatus}
 use Rattle.commands.specs.Rules.{ruleOf, testsOf, firstStatus, firstFailure}
 use Rattle.effects.specs.Done.{doneOf}
@@ -44,13 +44,14 @@ use Rattle.engines.proofs.Tables.{sound-good-by, good-sound-by}
 use Rattle.engines.specs.Engines.{engineOf}
 use Rattle.owning.specs.declared.Document.the-variants.{Expired as ExpiredBy}
 use Rattle.owning.specs.Owner.{readOf, readStatus, purgeOf, purgedBytes}
+use Rattle.owning.proofs.Activating.{activate-damaged}
 use Rattle.serving.specs.Serve.{gateAll, decisionOn, frameEffect, frameTable, served, servedTable}
 use Rattle.serving.proofs.Formed.{no}
 use Rattle.promises.specs.Merge.{docAt}
 use Rattle.promises.specs.Kept.{keptAt, laterAt}
 use Rattle.promises.specs.Expiry.{Expired, NotLive, keyIn}
 use Rattle.promises.specs.Listing.{docsIn}
-use Rattle.promises.specs.Clock.{TableCall, Serve, Purge, Read, clockOf, tableCalled, memoryAfter, raises, AllGiven, clockAfter, writesKey, Unwritten}
+use Rattle.promises.specs.Clock.{TableCall, Serve, Purge, Read, Activate, clockOf, tableCalled, memoryAfter, raises, AllGiven, clockAfter, writesKey, Unwritten}
 use Rattle.promises.specs.Clock.{KeepsLatest, ExpiredForGood, StaysExpired, ReadsAlone, SumsLater}
 use Rattle.promises.proofs.Kept.{kept-clock, kept-good}
 use Rattle.promises.proofs.Liveness.{is-expired, dead}
@@ -65,12 +66,14 @@ module _ (config : Config) (b : List ℕ) (damaged : soundBy config b ≡ false)
   stays (Serve c) = rw damaged
   stays (Purge clock bound) = rw damaged
   stays (Read clock k) = refl
+  stays Activate = activate-damaged config b damaged .1
 
   raises-none : (x : TableCall) → raises config b x ≡ false
   unfolding served gateAll purgeOf
   raises-none (Serve c) = rw damaged
   raises-none (Purge clock bound) = rw damaged
   raises-none (Read clock k) = refl
+  raises-none Activate = refl
 
   keeps-damaged : (xs : List TableCall) → keptAt (memoryAfter config b xs) ≡ clockAfter config (keptAt b) b xs
   keeps-damaged [] = refl
@@ -222,22 +225,22 @@ stays-expired config b x xs k d p e w =
     subst (λ (m : List ℕ). ExpiredForGood config m k d) (sym all) (for-good config u k d over)
 
 -- ---- what is computed: reads alone, and the plain expiry sum
-computed : (engine : EngineKind) → ReadsAlone (record { engine = engine }) × SumsLater (record { engine = engine })
+computed : (engine : EngineKind) (forcing : Bool) → ReadsAlone (record { engine = engine; forcing = forcing }) × SumsLater (record { engine = engine; forcing = forcing })
 unfolding pasted written beFrom be bytesOf zeros same secondsLeft expired live gone goneDoc commands unbuilt lookUp among shapeOf headerOf formOk fieldRulesOk metaSize
-    judged status gateOf extrasSpan keySpan valueSpan frameStatus ruleOf testsOf firstStatus firstFailure decision doneOf commandOf bareValue requestOf
+    judged status gateOf extrasSpan keySpan valueSpan frameStatus ruleOf testsOf firstStatus firstFailure decision doneOf commandOf bareValue requestOf keepsRules forces isForced
     slotOf sizeBytes shortBytes longBytes slotBytes docOf keyOf rowOf slotFor usedBytes rowBytes headOf tableOf headBytes tableBytes sizeOk headOk
     usedOk rowSound sound soundOrdered soundBy sideOf readOf purgedBytes gateAll decisionOn frameEffect frameTable served servedTable absolute passes
-computed Plain = (
+computed Plain forcing = (
   record { missed = refl; shown-again = refl; after-frame = refl; after-purge = refl },
   record { stored = refl; kept = refl; spent = refl; never = refl },
 )
-computed Ordered = (
+computed Ordered forcing = (
   record { missed = refl; shown-again = refl; after-frame = refl; after-purge = refl },
   record { stored = refl; kept = refl; spent = refl; never = refl },
 )
 
 pub reads-alone : (config : Config) → ReadsAlone config
-reads-alone config = computed (config .engine) .0
+reads-alone config = computed (config .engine) (config .forcing) .0
 
 pub sums-later : (config : Config) → SumsLater config
-sums-later config = computed (config .engine) .1
+sums-later config = computed (config .engine) (config .forcing) .1

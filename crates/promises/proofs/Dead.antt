@@ -53,21 +53,21 @@ needs-keyed s e =
     let known : ℕ → Bool = λ x. among x keyed in
     needs-by s (tested known (opcode s) (gets ++ (replaces ++ (deletes ++ touches))) refl) (λ k _. k) (λ k _. tested known (opcode s) counters refl k) e
 
-module _ (b : List ℕ) (clock : ℕ) (s : List ℕ) where
+module _ (config : Config) (b : List ℕ) (clock : ℕ) (s : List ℕ) where
   abbrev pub seen : Context
   seen = contextOn (tableAt (tableOf b) clock) (clockAt (tableOf b) clock) (docAt b (keyIn s))
 
   abbrev pub command : Command
-  command = requestOf s (headerOf s) .command
+  command = requestOf (config .forcing) s (headerOf s) .command
 
   abbrev pub rule : Rule
   rule = ruleOf seen command
 
   abbrev pub instruction : Instruction
-  instruction = instructionOf (requestOf s (headerOf s))
+  instruction = instructionOf (requestOf (config .forcing) s (headerOf s))
 
   abbrev pub tests : Tests
-  tests = testsOn (tableAt (tableOf b) clock) (clockAt (tableOf b) clock) s (headerOf s)
+  tests = testsOn config (tableAt (tableOf b) clock) (clockAt (tableOf b) clock) s (headerOf s)
 
   pub command-asked : command ≡ ask seen (extrasIn s) (opcode s)
   unfolding requestOf
@@ -112,33 +112,33 @@ module _ (b : List ℕ) (clock : ℕ) (s : List ℕ) where
 
   -- where a test doesn't fail, its status isn't given
   abbrev pub list : List Check
-  list = statuses (tableAt (tableOf b) clock) (clockAt (tableOf b) clock) s (headerOf s)
+  list = statuses config (tableAt (tableOf b) clock) (clockAt (tableOf b) clock) s (headerOf s)
 
   pub without-unstored : tests .unstored ≡ false → Without 0x05 list
-  without-unstored u = (refl, (refl, (refl, (refl, (refl, (refl, (refl, (u, (refl, (refl, (refl, (refl, (refl, (refl, refl))))))))))))))
+  without-unstored u = (refl, (refl, (refl, (refl, (refl, (refl, (refl, (refl, (u, (refl, (refl, (refl, (refl, (refl, (refl, refl)))))))))))))))
 
   pub without-missing : tests .missing ≡ false → Without 0x01 list
-  without-missing m = (refl, (refl, (refl, (refl, (refl, (refl, (refl, (refl, (m, (refl, (refl, (refl, (refl, (refl, refl))))))))))))))
+  without-missing m = (refl, (refl, (refl, (refl, (refl, (refl, (refl, (refl, (refl, (m, (refl, (refl, (refl, (refl, (refl, refl)))))))))))))))
 
   pub without-conflict : tests .conflict ≡ false → Without 0x02 list
-  without-conflict k = (refl, (refl, (refl, (refl, (refl, (refl, (refl, (refl, (refl, (k, (refl, (refl, (refl, (refl, refl))))))))))))))
+  without-conflict k = (refl, (refl, (refl, (refl, (refl, (refl, (refl, (refl, (refl, (refl, (k, (refl, (refl, (refl, (refl, refl)))))))))))))))
 
   pub without-number : tests .number ≡ false → Without 0x06 list
-  without-number v = (refl, (refl, (refl, (refl, (refl, (refl, (refl, (refl, (refl, (refl, (refl, (v, (refl, (refl, refl))))))))))))))
+  without-number v = (refl, (refl, (refl, (refl, (refl, (refl, (refl, (refl, (refl, (refl, (refl, (refl, (v, (refl, (refl, refl)))))))))))))))
 
   -- where it is the first that fails, its status is
-  pub is-unstored : Passes (take 7 list) → tests .unstored ≡ true → status b clock s ≡ 0x05
+  pub is-unstored : Passes (take 8 list) → tests .unstored ≡ true → status config b clock s ≡ 0x05
   unfolding firstFailure
-  is-unstored r u = later 7 list r ∙ rw u
+  is-unstored r u = later 8 list r ∙ rw u
 
-  pub is-missing : Passes (take 7 list) → tests .unstored ≡ false → tests .missing ≡ true → status b clock s ≡ 0x01
+  pub is-missing : Passes (take 8 list) → tests .unstored ≡ false → tests .missing ≡ true → status config b clock s ≡ 0x01
   unfolding firstFailure
-  is-missing r u m = later 7 list r ∙ rw (u, m)
+  is-missing r u m = later 8 list r ∙ rw (u, m)
 
-  pub is-conflict : Passes (take 7 list) → tests .unstored ≡ false → tests .missing ≡ false → tests .conflict ≡ true
-      → status b clock s ≡ 0x02
+  pub is-conflict : Passes (take 8 list) → tests .unstored ≡ false → tests .missing ≡ false → tests .conflict ≡ true
+      → status config b clock s ≡ 0x02
   unfolding firstFailure
-  is-conflict r u m k = later 7 list r ∙ rw (u, m, k)
+  is-conflict r u m k = later 8 list r ∙ rw (u, m, k)
 
   -- the tests of 0x05, 0x01, 0x02 and 0x06, where the row isn't live
   module _ (n : NotLive (laterAt b clock) (docAt b (keyIn s))) where
@@ -160,19 +160,19 @@ module _ (b : List ℕ) (clock : ℕ) (s : List ℕ) where
 
 pub dead-is-missing : (config : Config) → DeadIsMissing config
 dead-is-missing config b clock s room r n e =
-    let first = is-missing b clock s (r .earlier) (not-unstored b clock s (needs-keyed s e)) (missing b clock s n e) in
+    let first = is-missing config b clock s (r .earlier) (not-unstored config b clock s (needs-keyed s e)) (missing config b clock s n e) in
     let (len, a) = answers config b clock s room r 0x01 first in
     ((len, a), status-keeps config b clock s room 0x01 (24 + headerOf s .body) len (r .bytes) a (λ y. absurd (omega arith)))
 
 pub dead-is-unstored : (config : Config) → DeadIsUnstored config
 dead-is-unstored config b clock s room r n e =
-    let (len, a) = answers config b clock s room r 0x05 (is-unstored b clock s (r .earlier) (unstored b clock s n e)) in
+    let (len, a) = answers config b clock s room r 0x05 (is-unstored config b clock s (r .earlier) (unstored config b clock s n e)) in
     ((len, a), status-keeps config b clock s room 0x05 (24 + headerOf s .body) len (r .bytes) a (λ y. absurd (omega arith)))
 
 pub dead-is-written : (config : Config) → DeadIsWritten config
 unfolding requestOf
 dead-is-written config b clock s room n e z =
-    let (needs, beaten) = writes (seen b clock s) (extrasIn s) (opcode s) e in (
-      avoids config b clock s room 0x01 (without-missing b clock s (not-missing b clock s needs z)),
-      avoids config b clock s room 0x02 (without-conflict b clock s (no-conflict b clock s n beaten z)),
+    let (needs, beaten) = writes (seen config b clock s) (extrasIn s) (opcode s) e in (
+      avoids config b clock s room 0x01 (without-missing config b clock s (not-missing config b clock s needs z)),
+      avoids config b clock s room 0x02 (without-conflict config b clock s (no-conflict config b clock s n beaten z)),
     )

@@ -1,6 +1,7 @@
 -- Demand 3 on bytes, from the theorem on abstract tables.
 use Prim.Native.Nat.{ℕ, _^_, _≤_, _<_}
 use mathlib.Core.Path.{_≡_, refl, sym, ap, _∙_, subst}
+use mathlib.Core.Bool.{Bool}
 use mathlib.Core.List.{List, [], _∷_, map}
 use mathlib.Core.Option.{none, some}
 use lib.ListN.{length}
@@ -30,6 +31,7 @@ use Rattle.merge.specs.Merge.{All, changed, effectOn, tableOn, tableAfter, stat
 use Rattle.merge.specs.Merge as abstract
 use Rattle.merge.proofs.Demand3 as abstractly
 use Rattle.serving.specs.Serve.{servedOutcome, servedStatus, served, servedTable, gateAll, decisionOn, frameEffect, frameChange, frameTable}
+use Rattle.serving.proofs.Formed.{zero-reaches}
 use Rattle.serving.proofs.Change.{change-good}
 use Rattle.promises.specs.Calls.{Call, servedBy, tableServed, bytesAfter, callOutcomes, callStatuses}
 use Rattle.promises.specs.Merge.{MergingCall, modeAt, docAt, clocks, writes, Premises, Merged, Demand3}
@@ -60,11 +62,11 @@ steppedAll config t [] = t
 steppedAll config t (c ∷ cs) = steppedAll config (stepped config t c) cs
 
 effect-same : (config : Config) (t : Table) (c : Call) → Passes c
-    → frameEffect (tableAt t (c .clock)) (clockAt t (c .clock)) (c .received) (headerOf (c .received)) ≡ effectOn (engineOf config) (viewed config t) (asked c)
+    → frameEffect config (tableAt t (c .clock)) (clockAt t (c .clock)) (c .received) (headerOf (c .received)) ≡ effectOn (engineOf config) (viewed config t) (asked (config .forcing) c)
 unfolding frameEffect decisionOn effectOn decide requestOf
-effect-same config t c w = rw (w .form)
+effect-same config t c w = rw (zero-reaches (c .received) (headerOf (c .received)) (w .form))
 
-step-same : (config : Config) (t : Table) (c : Call) → Passes c → viewed config (stepped config t c) ≡ tableOn (engineOf config) (viewed config t) (asked c)
+step-same : (config : Config) (t : Table) (c : Call) → Passes c → viewed config (stepped config t c) ≡ tableOn (engineOf config) (viewed config t) (asked (config .forcing) c)
 unfolding tableOn requestOf
 step-same config t c w = ap (changed (engineOf config) (viewed config t) (bytesIn (c .received) (keySpan (headerOf (c .received))))) (effect-same config t c w)
 
@@ -72,7 +74,8 @@ gate-go : (config : Config) (t : Table) (c : Call) → GoodBy config t → Passe
 unfolding gateAll
 gate-go config t c g w = rw (good-sound-by config t g .0, le-ltb (length (c .reply)) 1302 (w .room)) (w .whole)
 
-status-same : (config : Config) (t : Table) (c : Call) → GoodBy config t → Passes c → servedStatus (servedBy config (tableBytes t) c) ≡ effectOn (engineOf config) (viewed config t) (asked c) .status
+status-same : (config : Config) (t : Table) (c : Call) → GoodBy config t → Passes c
+    → servedStatus (servedBy config (tableBytes t) c) ≡ effectOn (engineOf config) (viewed config t) (asked (config .forcing) c) .status
 unfolding served
 status-same config t c g w = rw (gate-go config t c g w, good-sound-by config t g .1) (ap (λ (x : Effect). x .status) (effect-same config t c w))
 
@@ -84,9 +87,9 @@ outcome-none config t c g w = rw (gate-go config t c g w)
 record Lifted (config : Config) (t : Table) (cs : List Call) : Type 0 where
   good : GoodBy config (steppedAll config t cs)
   bytes : bytesAfter config (tableBytes t) cs ≡ tableBytes (steppedAll config t cs)
-  table : viewed config (steppedAll config t cs) ≡ tableAfter (engineOf config) (viewed config t) (map asked cs)
+  table : viewed config (steppedAll config t cs) ≡ tableAfter (engineOf config) (viewed config t) (map (asked (config .forcing)) cs)
   served : All (λ n. n ≡ 0) (callOutcomes config (tableBytes t) cs)
-  statuses : callStatuses config (tableBytes t) cs ≡ statusesOf (engineOf config) (viewed config t) (map asked cs)
+  statuses : callStatuses config (tableBytes t) cs ≡ statusesOf (engineOf config) (viewed config t) (map (asked (config .forcing)) cs)
 
 table-same : (config : Config) (t : Table) (c : Call) → GoodBy config t → Passes c → tableServed config (tableBytes t) c ≡ tableBytes (stepped config t c)
 unfolding servedTable frameTable
@@ -104,23 +107,26 @@ lifted config t (c ∷ cs) g w =
     record {
       good = r .good;
       bytes = ap (λ (x : List ℕ). bytesAfter config x cs) e ∙ r .bytes;
-      table = r .table ∙ ap (λ (x : abstract.State (engineOf config)). tableAfter (engineOf config) x (map asked cs)) v;
+      table = r .table ∙ ap (λ (x : abstract.State (engineOf config)). tableAfter (engineOf config) x (map (asked (config .forcing)) cs)) v;
       served = (outcome-none config t c g (w .0), subst (λ (x : List ℕ). All (λ n. n ≡ 0) (callOutcomes config x cs)) (sym e) (r .served));
       statuses =
           ap (λ (x : List ℕ). servedStatus (servedBy config (tableBytes t) c) ∷ callStatuses config x cs) e
           ∙ ap (λ (n : ℕ). n ∷ callStatuses config (tableBytes (stepped config t c)) cs) (status-same config t c g (w .0))
-          ∙ ap (λ (l : List ℕ). effectOn (engineOf config) (viewed config t) (asked c) .status ∷ l) (r .statuses)
-          ∙ ap (λ (x : abstract.State (engineOf config)). effectOn (engineOf config) (viewed config t) (asked c) .status ∷ statusesOf (engineOf config) x (map asked cs)) v;
+          ∙ ap (λ (l : List ℕ). effectOn (engineOf config) (viewed config t) (asked (config .forcing) c) .status ∷ l) (r .statuses)
+          ∙ ap (λ (x : abstract.State (engineOf config)).
+          effectOn (engineOf config) (viewed config t) (asked (config .forcing) c) .status ∷ statusesOf (engineOf config) x (map (asked (config .forcing)) cs)) v;
     }
 
 -- ---- the premises and the promises
-writes-same : (cs : List Call) → abstract.writesOf (map asked cs) ≡ writes cs
-writes-same [] = refl
-writes-same (c ∷ cs) = rw (writes-same cs)
+module _ (forcing : Bool) where
+  writes-same : (cs : List Call) → abstract.writesOf (map (asked forcing) cs) ≡ writes cs
+  unfolding requestOf
+  writes-same [] = refl
+  writes-same (c ∷ cs) = rw (writes-same cs)
 
-clocks-same : (cs : List Call) → abstract.clocksOf (map asked cs) ≡ clocks cs
-clocks-same [] = refl
-clocks-same (c ∷ cs) = rw (clocks-same cs)
+  clocks-same : (cs : List Call) → abstract.clocksOf (map (asked forcing) cs) ≡ clocks cs
+  clocks-same [] = refl
+  clocks-same (c ∷ cs) = rw (clocks-same cs)
 
 found-below : (mark : ℕ) (rows : List Row) (k : Key) (d : Doc) → AllGood mark rows → findRow rows k ≡ some d → d .numbers .cas .0 ≤ mark
 found-below mark [] k d g e = none-some d e
@@ -137,17 +143,17 @@ module _ (config : Config) (b : List ℕ) (cs : List Call) (p : Premises config 
   back : tableBytes (tableOf b) ≡ b
   back = sound-good-by config b (p .bytes) (p .undamaged) .0
 
-  premises : abstract.MergePremises (engineOf config) (viewed config (tableOf b)) (map asked cs)
+  premises : abstract.MergePremises (engineOf config) (viewed config (tableOf b)) (map (asked (config .forcing)) cs)
   premises = record {
     sound = record { good = good .kept; below = λ k d e. found-below (tableOf b .head .mark .0) (tableOf b .rows) k d (good .good .rows) e };
     active = p .active;
-    merging = all-asked (modeAt b) (tableOf b .head .vbucket) cs (p .merging);
-    room = rw (writes-same cs) (p .room);
-    unique = λ k. rw (writes-same cs) (p .unique k);
+    merging = all-asked (config .forcing) (modeAt b) (tableOf b .head .vbucket) cs (p .merging);
+    room = rw (writes-same (config .forcing) cs) (p .room);
+    unique = λ k. rw (writes-same (config .forcing) cs) (p .unique k);
   }
 
-  merged : abstract.MergedState (engineOf config) (viewed config (tableOf b)) (map asked cs)
-  merged = abstractly.demand-3 (engineOf config) (engines-laws config) (viewed config (tableOf b)) (map asked cs) premises
+  merged : abstract.MergedState (engineOf config) (viewed config (tableOf b)) (map (asked (config .forcing)) cs)
+  merged = abstractly.demand-3 (engineOf config) (engines-laws config) (viewed config (tableOf b)) (map (asked (config .forcing)) cs) premises
 
   run : Lifted config (tableOf b) cs
   run = lifted config (tableOf b) cs good (all-pass (modeAt b) (tableOf b .head .vbucket) cs (p .merging))
@@ -155,25 +161,25 @@ module _ (config : Config) (b : List ℕ) (cs : List Call) (p : Premises config 
   ends : bytesAfter config b cs ≡ tableBytes (steppedAll config (tableOf b) cs)
   ends = ap (λ (x : List ℕ). bytesAfter config x cs) (sym back) ∙ run .bytes
 
-  after : viewed config (tableOf (bytesAfter config b cs)) ≡ tableAfter (engineOf config) (viewed config (tableOf b)) (map asked cs)
+  after : viewed config (tableOf (bytesAfter config b cs)) ≡ tableAfter (engineOf config) (viewed config (tableOf b)) (map (asked (config .forcing)) cs)
   after = ap (viewed config) (ap tableOf ends ∙ good-sound-by config (steppedAll config (tableOf b) cs) (run .good) .1) ∙ run .table
 
-  codes : callStatuses config b cs ≡ statusesOf (engineOf config) (viewed config (tableOf b)) (map asked cs)
+  codes : callStatuses config b cs ≡ statusesOf (engineOf config) (viewed config (tableOf b)) (map (asked (config .forcing)) cs)
   codes = ap (λ (x : List ℕ). callStatuses config x cs) (sym back) ∙ run .statuses
 
-  docs : (k : Key) → docAt (bytesAfter config b cs) k ≡ abstract.docIn (engineOf config) (tableAfter (engineOf config) (viewed config (tableOf b)) (map asked cs)) k
+  docs : (k : Key) → docAt (bytesAfter config b cs) k ≡ abstract.docIn (engineOf config) (tableAfter (engineOf config) (viewed config (tableOf b)) (map (asked (config .forcing)) cs)) k
   docs k = ap (λ (x : abstract.State (engineOf config)). abstract.docIn (engineOf config) x k) after
 
   on-bytes : Merged config b cs
   on-bytes = record {
     winner = λ k w.
-        let (d, e, g) = merged .winner k (rw (writes-same cs) w) in
-        (d, docs k ∙ e, rw (writes-same cs) at g);
-    others = λ k w. docs k ∙ merged .others k (rw (writes-same cs) w);
+        let (d, e, g) = merged .winner k (rw (writes-same (config .forcing) cs) w) in
+        (d, docs k ∙ e, rw (writes-same (config .forcing) cs) at g);
+    others = λ k w. docs k ∙ merged .others k (rw (writes-same (config .forcing) cs) w);
     served = subst (λ (x : List ℕ). All (λ n. n ≡ 0) (callOutcomes config x cs)) back (run .served);
-    statuses = codes ∙ rw (writes-same cs) at (merged .statuses);
-    head = ap (λ (x : abstract.State (engineOf config)). x .head) after ∙ (rw (codes, ← writes-same cs, ← clocks-same cs) (merged .head));
-    mark-last = λ e. ap (λ (x : abstract.State (engineOf config)). x .head .mark .0) after ∙ (rw (writes-same cs) at (merged .mark-last e));
+    statuses = codes ∙ rw (writes-same (config .forcing) cs) at (merged .statuses);
+    head = ap (λ (x : abstract.State (engineOf config)). x .head) after ∙ (rw (codes, ← writes-same (config .forcing) cs, ← clocks-same (config .forcing) cs) (merged .head));
+    mark-last = λ e. ap (λ (x : abstract.State (engineOf config)). x .head .mark .0) after ∙ (rw (writes-same (config .forcing) cs) at (merged .mark-last e));
     undamaged = rw ends (good-sound-by config (steppedAll config (tableOf b) cs) (run .good) .0);
   }
 

@@ -40,9 +40,9 @@ use Rattle.promises.proofs.Buried.{found-good}
 
 -- ---- a plain write over a document
 -- what it stores of one whose flags stay
-abbrev over : List ℕ → ℕ → List ℕ → ℕ → List ℕ → Doc
-over b clock s expiry value =
-    record { tomb = false; value = value; numbers = plainNumbers (seen b clock s) (numbersOf (seen b clock s .row) .flags) expiry }
+abbrev over : Config → List ℕ → ℕ → List ℕ → ℕ → List ℕ → Doc
+over config b clock s expiry value =
+    record { tomb = false; value = value; numbers = plainNumbers (seen config b clock s) (numbersOf (seen config b clock s .row) .flags) expiry }
 
 -- the mark, in the memory's bytes
 marked : (b : List ℕ) → tableOf b .head .mark .0 ≡ markIn b
@@ -54,7 +54,7 @@ one-more : (n : ℕ) → n < 2 ^ 64 → eqb n 0xffffffffffffffff ≡ false → n
 one-more n l e = let low : n ≡ 0xffffffffffffffff → ⊥ = eqb-false n 0xffffffffffffffff e in omega arith
 
 module _ (config : Config) (b : List ℕ) (clock : ℕ) (s : List ℕ) (room : ℕ) (d : Doc) (y : Bytes b) (there : docAt b (keyIn s) ≡ some d) (a : Answers config b clock s room 0)
-    (revises : rule b clock s .revises ≡ true) (marks : rule b clock s .marks ≡ true) where
+    (revises : rule config b clock s .revises ≡ true) (marks : rule config b clock s .marks ≡ true) where
   good : GoodBy config (tableOf b)
   good = let (len, e) = a in sound-good-by config b y (was-open config b s room (headerOf s) (was-whole config b clock s room 0 _ len e) .undamaged) .1
 
@@ -62,7 +62,7 @@ module _ (config : Config) (b : List ℕ) (clock : ℕ) (s : List ℕ) (room : �
   unfolding testsOf
   unspent = neither _ _ (rw (revises, marks, there) at (unfailing config b clock s room a .spent))
 
-  plainly-written : (expiry : ℕ) (value : List ℕ) → PlainlyWritten (markIn b) d (over b clock s expiry value)
+  plainly-written : (expiry : ℕ) (value : List ℕ) → PlainlyWritten (markIn b) d (over config b clock s expiry value)
   plainly-written expiry value =
       let entry = found-good (tableOf b .head .mark .0) (tableOf b .rows) (keyIn s) d (good .good .rows) there in
       record {
@@ -78,18 +78,18 @@ no-meta : (s : List ℕ) → among (opcode s) joins ≡ true → shapeOf (opcode
 unfolding shapeOf
 no-meta s e = at-opcode (λ n. shapeOf n .meta ≡ 0) (opcode s) joins (refl, (refl, (refl, (refl, tt)))) e
 
-value-asked : (s : List ℕ) → among (opcode s) joins ≡ true → requestOf s (headerOf s) .value ≡ valueIn s
+value-asked : (forcing : Bool) (s : List ℕ) → among (opcode s) joins ≡ true → requestOf forcing s (headerOf s) .value ≡ valueIn s
 unfolding requestOf bareValue metaSize
-value-asked s e =
+value-asked forcing s e =
     let all : valueSpan (headerOf s) .len - 0 ≡ valueSpan (headerOf s) .len = omega arith in
     rw (no-meta s e) (ap (part s (valueSpan (headerOf s) .at)) all)
 
 module _ (config : Config) (b : List ℕ) (clock : ℕ) (s : List ℕ) (room : ℕ) (d : Doc) (y : Bytes b) (there : docAt b (keyIn s) ≡ some d) (a : Answers config b clock s room 0)
-    (side : Side) (asks : command b clock s ≡ Join side) where
+    (side : Side) (asks : command config b clock s ≡ Join side) where
   abbrev joint : Doc
-  joint = over b clock s (numbersOf (seen b clock s .row) .expiry) (joined side (docValue (docAt b (keyIn s))) (requestOf s (headerOf s) .value))
+  joint = over config b clock s (numbersOf (seen config b clock s .row) .expiry) (joined side (docValue (docAt b (keyIn s))) (requestOf (config .forcing) s (headerOf s) .value))
 
-  joins-it : does b clock s ≡ some joint
+  joins-it : does config b clock s ≡ some joint
   unfolding doneOf
   joins-it = rw asks
 
@@ -98,31 +98,31 @@ module _ (config : Config) (b : List ℕ) (clock : ℕ) (s : List ℕ) (room : �
   joins-at e at z = record {
     written = plainly-written config b clock s room d y there a (rw asks) (rw asks) _ _;
     expiry = rw there;
-    value = let same : side ≡ at = cc in λ i. joined (same i) (docValue (there i)) (value-asked s e i);
+    value = let same : side ≡ at = cc in λ i. joined (same i) (docValue (there i)) (value-asked (config .forcing) s e i);
   }
 
 pub live-joins : (config : Config) → LiveJoins config
 unfolding requestOf
 live-joins config b clock s room d y z small there e a =
-    let (side, asks) = joining (seen b clock s) (extrasIn s) (opcode s) e in
+    let (side, asks) = joining (seen config b clock s) (extrasIn s) (opcode s) e in
     let at = joins-at config b clock s room d y there a side asks e in (
       joint config b clock s room d y there a side asks,
       (
         done-at config b clock s room _ (joins-it config b clock s room d y there a side asks) y z small a,
         (
-          λ back. at Back (sym asks ∙ appending (seen b clock s) (extrasIn s) (opcode s) back),
-          λ front. at Front (sym asks ∙ prepending (seen b clock s) (extrasIn s) (opcode s) front),
+          λ back. at Back (sym asks ∙ appending (seen config b clock s) (extrasIn s) (opcode s) back),
+          λ front. at Front (sym asks ∙ prepending (seen config b clock s) (extrasIn s) (opcode s) front),
         ),
       ),
     )
 
 -- ---- Touch and Get-and-touch
 module _ (config : Config) (b : List ℕ) (clock : ℕ) (s : List ℕ) (room : ℕ) (d : Doc) (y : Bytes b) (there : docAt b (keyIn s) ≡ some d) (a : Answers config b clock s room 0)
-    (shown : Bool) (asks : command b clock s ≡ Touch (record { expiry = num (extrasIn s) 0 4; shown = shown })) where
+    (shown : Bool) (asks : command config b clock s ≡ Touch (record { expiry = num (extrasIn s) 0 4; shown = shown })) where
   abbrev touched : Doc
-  touched = over b clock s (absolute (num (extrasIn s) 0 4) (clockAt (tableOf b) clock)) (docValue (docAt b (keyIn s)))
+  touched = over config b clock s (absolute (num (extrasIn s) 0 4) (clockAt (tableOf b) clock)) (docValue (docAt b (keyIn s)))
 
-  touches-it : does b clock s ≡ some touched
+  touches-it : does config b clock s ≡ some touched
   unfolding doneOf
   touches-it = rw asks
 
@@ -137,5 +137,5 @@ module _ (config : Config) (b : List ℕ) (clock : ℕ) (s : List ℕ) (room : �
 pub live-touches : (config : Config) → LiveTouches config
 unfolding requestOf
 live-touches config b clock s room d y z small there e a =
-    let (shown, asks) = touching (seen b clock s) (extrasIn s) (opcode s) e in
+    let (shown, asks) = touching (seen config b clock s) (extrasIn s) (opcode s) e in
     (_, (done-at config b clock s room _ (touches-it config b clock s room d y there a shown asks) y z small a, touches-at config b clock s room d y there a shown asks))

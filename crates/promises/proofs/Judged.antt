@@ -1,5 +1,6 @@
 -- The judged examples, computed from bytes to bytes.
 use mathlib.Core.Path.{refl}
+use mathlib.Core.Bool.{Bool}
 use Rattle.keys.specs.Keys.{sideOf}
 use Rattle.engine.specs.declared.Config.{Config}
 use Rattle.engine.specs.declared.EngineKind.{EngineKind}
@@ -16,7 +17,7 @@ use Rattle.header.specs.Header.{headerOf, frontBytes, middleBytes, backBytes, h
 use Rattle.with_meta.specs.WithMeta.{presentNumbers, carriedNumbers, optionsOf, sectionOf, withMeta}
 use Rattle.with_meta.specs.Section.{fieldOk, fieldSize, walk, fieldsOk, sectionOk}
 use Rattle.with_meta.specs.FieldRules.{numbersOk, bodyOk, withMetaOk}
-use Rattle.rules.specs.Rules.{formOk, metaSize, fieldRulesOk, judged, status}
+use Rattle.rules.specs.Rules.{formOk, metaSize, fieldRulesOk, judged, status, keepsRules, forces, isForced}
 use Rattle.request.specs.Reading.{gateOf, extrasSpan, keySpan, valueSpan, frameStatus}
 use Rattle.commands.specs.Rules.{ruleOf, testsOf, firstStatus, firstFailure}
 use Rattle.effects.specs.Done.{doneOf}
@@ -32,29 +33,29 @@ use Rattle.serving.specs.Reply.{replyHeader, replyBytes}
 use Rattle.serving.specs.Serve.{gateAll, decisionOn, frameEffect, frameTable, frameReply, served, servedTable, servedReply}
 use Rattle.promises.specs.Judged.{Judged}
 
-plain-judged : Judged (record { engine = Plain })
+plain-judged : (forcing : Bool) → Judged (record { engine = Plain; forcing = forcing })
 unfolding pasted written beFrom be bytesOf zeros same digits digitsIn numberOf numberFrom allDigits isDigit valueFrom greater above lead second
     secondsLeft expired passes absolute accepted live commands unbuilt lookUp among shapeOf headerOf frontBytes middleBytes backBytes headerBytes presentNumbers carriedNumbers
     optionsOf sectionOf withMeta fieldOk fieldSize walk fieldsOk sectionOk formOk numbersOk bodyOk withMetaOk metaSize fieldRulesOk judged status
     gateOf extrasSpan keySpan valueSpan frameStatus ruleOf testsOf firstStatus firstFailure decision doneOf plainOf counterOf metaCommand commandOf
-    bareValue requestOf slotOf sizeBytes shortBytes longBytes slotBytes docOf keyOf rowOf slotFor usedBytes rowBytes headOf tableOf headBytes
+    bareValue requestOf keepsRules forces isForced slotOf sizeBytes shortBytes longBytes slotBytes docOf keyOf rowOf slotFor usedBytes rowBytes headOf tableOf headBytes
     tableBytes sizeOk headOk usedOk rowSound sound soundOrdered soundBy sideOf replyHeader replyBytes gateAll decisionOn frameEffect frameTable frameReply served servedTable
     servedReply
-plain-judged = refl
+plain-judged forcing = refl
 
-ordered-judged : Judged (record { engine = Ordered })
+ordered-judged : (forcing : Bool) → Judged (record { engine = Ordered; forcing = forcing })
 unfolding pasted written beFrom be bytesOf zeros same digits digitsIn numberOf numberFrom allDigits isDigit valueFrom greater above lead second
     secondsLeft expired passes absolute accepted live commands unbuilt lookUp among shapeOf headerOf frontBytes middleBytes backBytes headerBytes presentNumbers carriedNumbers
     optionsOf sectionOf withMeta fieldOk fieldSize walk fieldsOk sectionOk formOk numbersOk bodyOk withMetaOk metaSize fieldRulesOk judged status
     gateOf extrasSpan keySpan valueSpan frameStatus ruleOf testsOf firstStatus firstFailure decision doneOf plainOf counterOf metaCommand commandOf
-    bareValue requestOf slotOf sizeBytes shortBytes longBytes slotBytes docOf keyOf rowOf slotFor usedBytes rowBytes headOf tableOf headBytes
+    bareValue requestOf keepsRules forces isForced slotOf sizeBytes shortBytes longBytes slotBytes docOf keyOf rowOf slotFor usedBytes rowBytes headOf tableOf headBytes
     tableBytes sizeOk headOk usedOk rowSound sound soundOrdered soundBy sideOf replyHeader replyBytes gateAll decisionOn frameEffect frameTable frameReply served servedTable
     servedReply
-ordered-judged = refl
+ordered-judged forcing = refl
 
-judged-in : (engine : EngineKind) → Judged (record { engine = engine })
-judged-in Plain = plain-judged
-judged-in Ordered = ordered-judged
+judged-in : (engine : EngineKind) (forcing : Bool) → Judged (record { engine = engine; forcing = forcing })
+judged-in Plain forcing = plain-judged forcing
+judged-in Ordered forcing = ordered-judged forcing
 
 pub judged-examples : (config : Config) → Judged config
-judged-examples config = judged-in (config .engine)
+judged-examples config = judged-in (config .engine) (config .forcing)

@@ -29,23 +29,23 @@ pub refused-keeps : (config : Config) → RefusedKeeps config
 refused-keeps config = call-keeps config
 
 -- ---- another status than 0: nothing is stored, and the head stays
-pub nothing-stored : (t : Table) (clock : ℕ) (s : List ℕ) (h : Header) → (frameEffect t clock s h .status ≡ 0 → ⊥)
-    → (frameEffect t clock s h .store ≡ none) × (frameEffect t clock s h .head ≡ t .head)
+pub nothing-stored : (config : Config) (t : Table) (clock : ℕ) (s : List ℕ) (h : Header) → (frameEffect config t clock s h .status ≡ 0 → ⊥)
+    → (frameEffect config t clock s h .store ≡ none) × (frameEffect config t clock s h .head ≡ t .head)
 unfolding frameEffect decisionOn decide
-nothing-stored t clock s h n =
-    cases (reachesDecision (frameStatus s h))
-    (λ y. rw y (decided-keeps (t .head) (findRow (t .rows) (bytesIn s (keySpan h))) (ltb 0 (freeRows (t .rows))) clock (requestOf s h) (rw y at n)))
+nothing-stored config t clock s h n =
+    cases (reachesDecision s h)
+    (λ y. rw y (decided-keeps (t .head) (findRow (t .rows) (bytesIn s (keySpan h))) (ltb 0 (freeRows (t .rows))) clock (requestOf (config .forcing) s h) (rw y at n)))
     (λ y. rw y (refl, refl))
 
-kept : (config : Config) (b : List ℕ) (clock : ℕ) (s : List ℕ) (room status used len : ℕ) (g : Gate) → Bytes b → gateAll config b room s ≡ g → answerBy b clock s g ≡ Done status used len
+kept : (config : Config) (b : List ℕ) (clock : ℕ) (s : List ℕ) (room status used len : ℕ) (g : Gate) → Bytes b → gateAll config b room s ≡ g → answerBy config b clock s g ≡ Done status used len
     → (status ≡ 0 → ⊥) → tableBy config b clock s g ≡ clockRaised b clock
 unfolding frameTable
 kept config b clock s room status used len (Stop m more) y o e n = absurd (let z : _≡_ {A = ℕ} 0 1 = cc in omega arith)
 kept config b clock s room status used len (Whole h) y o e n =
     let t = tableAt (tableOf b) clock in
     let now = clockAt (tableOf b) clock in
-    let z : frameEffect t now s h .status ≡ status = cc in
-    let p = nothing-stored t now s h (λ y. n (sym z ∙ y)) in
+    let z : frameEffect config t now s h .status ≡ status = cc in
+    let p = nothing-stored config t now s h (λ y. n (sym z ∙ y)) in
     ap tableBytes (unchanged config t now s h (p .0) (p .1)) ∙ raised-bytes config b clock y (was-open config b s room h o .undamaged)
 
 pub status-keeps : (config : Config) → StatusKeeps config

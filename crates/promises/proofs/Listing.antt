@@ -43,7 +43,7 @@ use Rattle.serving.specs.declared.Served.{Served}
 use Rattle.serving.specs.declared.Served.the-variants.{Done}
 use Rattle.serving.specs.Reply.{replyShows, replyHeader, replyBytes}
 use Rattle.serving.specs.Serve.{reachesDecision, decisionOn, decisionAt, frameEffect, frameReply, answerBy, replyBy, served, servedReply}
-use Rattle.serving.proofs.Formed.{no}
+use Rattle.serving.proofs.Formed.{no, zero-reaches}
 use Rattle.promises.specs.Merge.{docAt}
 use Rattle.promises.specs.Kept.{laterAt, keptBy}
 use Rattle.promises.specs.Expiry.{opcode, extrasIn, keyIn, Reaches}
@@ -89,13 +89,13 @@ unfolding doneOf
 list-decision c i count asks loud zero = loud-decision c i loud zero ∙ ap (λ (x : Command). loudly (doneOf c x)) asks
 
 -- a frame with status 0 was decided
-pub reached : (b : List ℕ) (clock : ℕ) (s : List ℕ) → decisionAt b clock s (headerOf s) .status ≡ 0
-    → decisionAt b clock s (headerOf s) ≡ decision (seen b clock s) (instruction b clock s)
+pub reached : (config : Config) (b : List ℕ) (clock : ℕ) (s : List ℕ) → decisionAt config b clock s (headerOf s) .status ≡ 0
+    → decisionAt config b clock s (headerOf s) ≡ decision (seen config b clock s) (instruction config b clock s)
 unfolding decisionOn
-reached b clock s z =
-    cases (reachesDecision (frameStatus s (headerOf s)))
+reached config b clock s z =
+    cases (reachesDecision s (headerOf s))
     (λ t. rw t)
-    (λ f. let e : frameStatus s (headerOf s) ≡ 0 = rw f at z in no (sym f ∙ ap reachesDecision e))
+    (λ f. let e : frameStatus s (headerOf s) ≡ 0 = rw f at z in no (sym f ∙ zero-reaches s (headerOf s) e))
 
 module _ (config : Config) (b : List ℕ) (clock : ℕ) (s : List ℕ) (o : opcode s ≡ 0xb8) where
   abbrev t : Table
@@ -104,28 +104,28 @@ module _ (config : Config) (b : List ℕ) (clock : ℕ) (s : List ℕ) (o : opco
   abbrev now : ℕ
   now = clockAt (tableOf b) clock
 
-  asks : command b clock s ≡ GetKeys (countIn s)
-  asks = command-asked b clock s ∙ ap (ask (seen b clock s) (extrasIn s)) o ∙ lists-asked (seen b clock s) (extrasIn s)
+  asks : command config b clock s ≡ GetKeys (countIn s)
+  asks = command-asked config b clock s ∙ ap (ask (seen config b clock s) (extrasIn s)) o ∙ lists-asked (seen config b clock s) (extrasIn s)
 
-  loud : instruction b clock s .quiet ≡ false
+  loud : instruction config b clock s .quiet ≡ false
   unfolding requestOf shapeOf
   loud = ap (λ (n : ℕ). shapeOf n .quiet) o
 
   -- the statuses after 0x07 never apply
-  no-status : (room : ℕ) → Reaches config b clock s room → status b clock s ≡ 0
+  no-status : (room : ℕ) → Reaches config b clock s room → status config b clock s ≡ 0
   unfolding firstFailure testsOf ruleOf
-  no-status room r = later 7 (list b clock s) (r .earlier) ∙ rw asks
+  no-status room r = later 8 (list config b clock s) (r .earlier) ∙ rw asks
 
   module _ (room : ℕ) (r : Reaches config b clock s room) where
-    zero-status : decisionOn t now s (headerOf s) .status ≡ 0
-    zero-status = listed b clock s ∙ no-status room r
+    zero-status : decisionOn config t now s (headerOf s) .status ≡ 0
+    zero-status = listed config b clock s ∙ no-status room r
 
-    decides : decisionOn t now s (headerOf s) ≡ listDecision (t .head) (countIn s)
+    decides : decisionOn config t now s (headerOf s) ≡ listDecision (t .head) (countIn s)
     decides =
-        let e = reached b clock s zero-status in
-        e ∙ list-decision (seen b clock s) (instruction b clock s) (countIn s) asks loud (ap (λ (d : Decision). d .status) (sym e) ∙ zero-status)
+        let e = reached config b clock s zero-status in
+        e ∙ list-decision (seen config b clock s) (instruction config b clock s) (countIn s) asks loud (ap (λ (d : Decision). d .status) (sym e) ∙ zero-status)
 
-    replies : frameReply b clock s (headerOf s) ≡ listingReply b clock s
+    replies : frameReply config b clock s (headerOf s) ≡ listingReply b clock s
     unfolding frameReply replyBytes replyHeader
     replies =
         let h = headerOf s in
@@ -153,12 +153,12 @@ listing-served config b clock s out r o =
     let size = ap length e ∙ n in
     let fits : length (listingReply b clock s) ≤ length out = omega (arith, n, listing-short (docsIn b) (laterAt b clock) (keyIn s) (countIn s), r .roomy) in
     let answer : served config b clock s (length out) ≡ Done 0 (24 + headerOf s .body) (24 + length (listingIn b clock s)) =
-    ap (answerBy b clock s) (opened config b clock s (length out) r) ∙ (λ i. Done (z i) (24 + headerOf s .body) (size i)) in
+    ap (answerBy config b clock s) (opened config b clock s (length out) r) ∙ (λ i. Done (z i) (24 + headerOf s .body) (size i)) in
     record {
       answer = answer;
       table = listing-keeps config b clock s (length out) (r .bytes) o ∙ ap (λ (x : Served). keptBy x b clock) answer;
       reply =
-          ap (replyBy b clock s out) (opened config b clock s (length out) r) ∙ ap (written out 0) e ∙ put out (listingReply b clock s) fits
+          ap (replyBy config b clock s out) (opened config b clock s (length out) r) ∙ ap (written out 0) e ∙ put out (listingReply b clock s) fits
           ∙ ap (λ (k : ℕ). listingReply b clock s ++ drop k out) n;
     }
 

@@ -121,7 +121,7 @@ all-pass (c ∷ cs) r e =
     (λ t. (t, all-pass cs (r .1) (rw t at e)))
 
 -- ---- a frame that is served
-module _ (b : List ℕ) (clock : ℕ) (s : List ℕ) where
+module _ (config : Config) (b : List ℕ) (clock : ℕ) (s : List ℕ) where
   -- the table at the call's clock, and the later clock
   abbrev t : Table
   t = tableAt (tableOf b) clock
@@ -130,13 +130,13 @@ module _ (b : List ℕ) (clock : ℕ) (s : List ℕ) where
   now = clockAt (tableOf b) clock
 
   abbrev pub status : ℕ
-  status = firstFailure (statuses t now s (headerOf s))
+  status = firstFailure (statuses config t now s (headerOf s))
 
   abbrev decided : ℕ
-  decided = decisionOn t now s (headerOf s) .status
+  decided = decisionOn config t now s (headerOf s) .status
 
   pub listed : decided ≡ status
-  listed = sym (statuses-in-order t now s (headerOf s))
+  listed = sym (statuses-in-order config t now s (headerOf s))
 
 module _ (config : Config) (b : List ℕ) (clock : ℕ) (s : List ℕ) (room : ℕ) where
   pub opened : Reaches config b clock s room → gateAll config b room s ≡ Whole (headerOf s)
@@ -147,28 +147,28 @@ module _ (config : Config) (b : List ℕ) (clock : ℕ) (s : List ℕ) (room : �
   unfolding servedTable
   table-open r = ap (tableBy config b clock s) (opened r)
 
-  pub answers : Reaches config b clock s room → (n : ℕ) → status b clock s ≡ n → Answers config b clock s room n
+  pub answers : Reaches config b clock s room → (n : ℕ) → status config b clock s ≡ n → Answers config b clock s room n
   unfolding served frameEffect
   answers r n e =
-      let len = length (frameReply b clock s (headerOf s)) in
-      (len, ap (answerBy b clock s) (opened r) ∙ ap (λ (x : ℕ). Done x (24 + headerOf s .body) len) (listed b clock s ∙ e))
+      let len = length (frameReply config b clock s (headerOf s)) in
+      (len, ap (answerBy config b clock s) (opened r) ∙ ap (λ (x : ℕ). Done x (24 + headerOf s .body) len) (listed config b clock s ∙ e))
 
-  answered-by : (n used len : ℕ) (g : Gate) → gateAll config b room s ≡ g → answerBy b clock s g ≡ Done n used len → decided b clock s ≡ n
+  answered-by : (n used len : ℕ) (g : Gate) → gateAll config b room s ≡ g → answerBy config b clock s g ≡ Done n used len → decided config b clock s ≡ n
   unfolding frameEffect
   answered-by n used len (Stop m more) o e = absurd (let z : _≡_ {A = ℕ} 0 1 = cc in omega arith)
   answered-by n used len (Whole h) o e =
       let same = was-open config b s room h o .frame .header in
-      let z : decisionOn (t b clock s) (now b clock s) s h .status ≡ n = cc in
-      ap (λ (x : Header). decisionOn (t b clock s) (now b clock s) s x .status) same ∙ z
+      let z : decisionOn config (t config b clock s) (now config b clock s) s h .status ≡ n = cc in
+      ap (λ (x : Header). decisionOn config (t config b clock s) (now config b clock s) s x .status) same ∙ z
 
-  pub answered : (n used len : ℕ) → served config b clock s room ≡ Done n used len → status b clock s ≡ n
+  pub answered : (n used len : ℕ) → served config b clock s room ≡ Done n used len → status config b clock s ≡ n
   unfolding served
-  answered n used len e = sym (listed b clock s) ∙ answered-by n used len (gateAll config b room s) refl e
+  answered n used len e = sym (listed config b clock s) ∙ answered-by n used len (gateAll config b room s) refl e
 
-  pub avoids : (n : ℕ) → Without n (statuses (t b clock s) (now b clock s) s (headerOf s)) → Avoids config b clock s room n
-  avoids n w used len e = without n (statuses (t b clock s) (now b clock s) s (headerOf s)) w (answered n used len e)
+  pub avoids : (n : ℕ) → Without n (statuses config (t config b clock s) (now config b clock s) s (headerOf s)) → Avoids config b clock s room n
+  avoids n w used len e = without n (statuses config (t config b clock s) (now config b clock s) s (headerOf s)) w (answered n used len e)
 
-  opened-by : (n used len : ℕ) (g : Gate) → gateAll config b room s ≡ g → answerBy b clock s g ≡ Done n used len → gateAll config b room s ≡ Whole (headerOf s)
+  opened-by : (n used len : ℕ) (g : Gate) → gateAll config b room s ≡ g → answerBy config b clock s g ≡ Done n used len → gateAll config b room s ≡ Whole (headerOf s)
   opened-by n used len (Stop m more) o e = absurd (let z : _≡_ {A = ℕ} 0 1 = cc in omega arith)
   opened-by n used len (Whole h) o e = o ∙ ap Whole (sym (was-open config b s room h o .frame .header))
 

@@ -1,7 +1,7 @@
 -- A merging call on bytes is a merging call on abstract tables.
 use Prim.Native.Nat.{ℕ, _+_, _-_, _≤_}
 use mathlib.Core.Path.{_≡_, refl}
-use mathlib.Core.Bool.{true, false, not}
+use mathlib.Core.Bool.{Bool, true, false, not, _&&_, and-false}
 use mathlib.Core.List.{List, [], _∷_, map}
 use native.Mathlib.Omega.{arith}
 use lib.ListN.{length}
@@ -17,7 +17,7 @@ use Rattle.header.specs.declared.Header.{Header}
 use Rattle.header.specs.Header.{headerOf}
 use Rattle.with_meta.specs.declared.WithMeta.{WithMeta}
 use Rattle.with_meta.specs.WithMeta.{withMeta}
-use Rattle.rules.specs.Rules.{formOk, fieldRulesOk, metaSize, judged, status}
+use Rattle.rules.specs.Rules.{formOk, fieldRulesOk, isForced, forces, metaSize, judged, status}
 use Rattle.rules.proofs.RuleLaws.{parts-inside}
 use Rattle.request.proofs.Gated.{whole-frame}
 use Rattle.request.specs.Reading.{frameStatus, extrasSpan, valueSpan, bytesIn}
@@ -36,8 +36,8 @@ use Rattle.promises.specs.Merge.{optionsFor, MergingCall}
 use Rattle.promises.proofs.Asks.{at-opcode}
 
 -- what a call asks for
-abbrev pub asked : Call → abstract.RequestAt
-asked c = record { clock = c .clock; request = requestOf (c .received) (headerOf (c .received)) }
+abbrev pub asked : Bool → Call → abstract.RequestAt
+asked forcing c = record { clock = c .clock; request = requestOf forcing (c .received) (headerOf (c .received)) }
 
 -- ---- the command
 abbrev Kinded : List ℕ → ℕ → Type 0
@@ -70,7 +70,8 @@ judged-short s h extras value e =
     (λ t z. absurd (eqb-false (s .status) 0 (not-true _ t) z))
     (λ t e₁. cond-elim (not (formOk s h)) _ _ _ e₁ (λ u z. absurd (omega arith))
     (λ u e₂. cond-elim (not (fieldRulesOk s extras value)) _ _ _ e₂ (λ v z. absurd (omega arith))
-    (λ v e₃. cond-elim (ltb 1024 (length value - metaSize s extras)) _ _ _ e₃ (λ w z. absurd (omega arith)) (λ w z. ltb-false _ _ w))))
+    (λ v e₃. cond-elim (forces s extras) _ _ _ e₃ (λ w z. absurd (omega arith))
+    (λ w e₄. cond-elim (ltb 1024 (length value - metaSize s extras)) _ _ _ e₄ (λ x z. absurd (omega arith)) (λ x z. ltb-false _ _ x)))))
 
 value-short : (s : List ℕ) (h : Header) → 24 + h .body ≤ length s → frameStatus s h ≡ 0 → length (bareValue s h) ≤ 1024
 unfolding bareValue frameStatus valueSpan status
@@ -84,15 +85,26 @@ value-short s h w e =
     omega arith
 
 -- ---- the call
-merging-asked : (m : Mode) (v : ℕ) (c : Call) → MergingCall m v c → abstract.MergingRequest m v (meta (asked c)) (asked c)
+-- such a request has no option 0x01
+not-forced : (m : Mode) (w : WithMeta) → w .options ≡ optionsFor m → isForced w ≡ false
+unfolding isForced
+not-forced ByRevision w e = rw e
+not-forced LastWrite w e = rw e
+
+supported : (forcing : Bool) (m : Mode) (s : Shape) (extras : List ℕ) → withMeta extras .options ≡ optionsFor m → (forces s extras && not forcing) ≡ false
+unfolding forces
+supported forcing m s extras e = rw (not-forced m (withMeta extras) e, and-false (not (eqb (s .meta) 0)))
+
+merging-asked : (forcing : Bool) (m : Mode) (v : ℕ) (c : Call) → MergingCall m v c → abstract.MergingRequest m v (meta (asked forcing c)) (asked forcing c)
 unfolding requestOf
-merging-asked m v c p =
+merging-asked forcing m v c p =
     let s = c .received in
     let h = headerOf s in
     let (k, d, e) = kind-of (h .opcode) (bytesIn s (extrasSpan h)) (p .opcode) in
     let x = metaed m (commandOf (shapeOf (h .opcode) .operation) (bytesIn s (extrasSpan h))) k (withMeta (bytesIn s (extrasSpan h))) d e (p .options) in
     record {
       with-meta = x .with-meta;
+      supported = supported forcing m (shapeOf (h .opcode)) (bytesIn s (extrasSpan h)) (p .options);
       kind = x .kind;
       mode = x .last;
       short = value-short s h (whole-frame s h (p .whole) .inside) (p .form);
@@ -103,6 +115,6 @@ merging-asked m v c p =
       skip = x .skip;
     }
 
-pub all-asked : (m : Mode) (v : ℕ) (cs : List Call) → All (MergingCall m v) cs → All (λ c. abstract.MergingRequest m v (meta c) c) (map asked cs)
-all-asked m v [] p = tt
-all-asked m v (c ∷ cs) p = (merging-asked m v c (p .0), all-asked m v cs (p .1))
+pub all-asked : (forcing : Bool) (m : Mode) (v : ℕ) (cs : List Call) → All (MergingCall m v) cs → All (λ c. abstract.MergingRequest m v (meta c) c) (map (asked forcing) cs)
+all-asked forcing m v [] p = tt
+all-asked forcing m v (c ∷ cs) p = (merging-asked forcing m v c (p .0), all-asked forcing m v cs (p .1))

@@ -20,7 +20,7 @@ use Rattle.shape.proofs.ShapeLaws.{Each, looked-up, any-shape}
 use Rattle.header.specs.declared.Header.{Header}
 use Rattle.header.specs.Header.{headerOf, frontBytes, middleBytes, backBytes, headerBytes}
 use Rattle.header.proofs.HeaderLaws.{length-header}
-use Rattle.rules.specs.Rules.{formOk, fieldRulesOk, metaSize, judged, status}
+use Rattle.rules.specs.Rules.{formOk, fieldRulesOk, metaSize, judged, status, forces}
 use Rattle.request.specs.declared.Gate.{Gate}
 use Rattle.request.specs.declared.Gate.the-variants.{Stop, Whole}
 use Rattle.request.specs.Reading.{frameStatus, bytesIn, extrasSpan, keySpan, valueSpan}
@@ -52,14 +52,14 @@ module _ (out xs : List ℕ) (h : length xs ≤ length out) where
   unfolding pasted
   put = written-fits out 0 xs (omega arith) ∙ ap (λ (n : ℕ). xs ++ drop n out) (let e : 0 + length xs ≡ length xs = omega arith in e)
 
-fits-by : (config : Config) (b : List ℕ) (clock : ℕ) (s out : List ℕ) (st used len : ℕ) (g : Gate) → gateAll config b (length out) s ≡ g → Bytes b → answerBy b clock s g ≡ Done st used len
-    → Fits out len (replyBy b clock s out g)
+fits-by : (config : Config) (b : List ℕ) (clock : ℕ) (s out : List ℕ) (st used len : ℕ) (g : Gate) → gateAll config b (length out) s ≡ g → Bytes b → answerBy config b clock s g ≡ Done st used len
+    → Fits out len (replyBy config b clock s out g)
 fits-by config b clock s out st used len (Stop n need) q y e = absurd (let z : _≡_ {A = ℕ} 0 1 = cc in omega arith)
 fits-by config b clock s out st used len (Whole h) q y e =
-    let xs = frameReply b clock s h in
+    let xs = frameReply config b clock s h in
     let l : length xs ≡ len = cc in
     let w = was-open config b s (length out) h q in
-    let m = reply-most b clock s h y (sound-plain config b (w .undamaged)) in
+    let m = reply-most config b clock s h y (sound-plain config b (w .undamaged)) in
     rw (← l) (record {
       most = m;
       inside = omega (arith, m, w .roomy);
@@ -107,7 +107,8 @@ unfolding judged
 not-missing x h extras value e =
     rw e (by-cond (λ n. eqb n 1 ≡ false) (not (formOk x h)) _ _ (λ t. refl)
     (λ t. by-cond (λ n. eqb n 1 ≡ false) (not (fieldRulesOk x extras value)) _ _ (λ u. refl)
-    (λ u. by-cond (λ n. eqb n 1 ≡ false) (ltb 1024 (length value - metaSize x extras)) _ _ (λ v. refl) (λ v. refl))))
+    (λ u. by-cond (λ n. eqb n 1 ≡ false) (forces x extras) _ _ (λ v. refl)
+    (λ v. by-cond (λ n. eqb n 1 ≡ false) (ltb 1024 (length value - metaSize x extras)) _ _ (λ w. refl) (λ w. refl)))))
 
 reader-speaks : (s : List ℕ) (h : Header) → eqb (frameStatus s h) 1 ≡ false
 unfolding frameStatus status judged
@@ -122,23 +123,24 @@ contextFor t clock s h = contextOn t clock (findRow (t .rows) (bytesIn s (keySpa
 abbrev statusAlone : Head → ℕ → ℕ → Decision
 statusAlone hd op st = record { status = st; silent = silentMiss op st; done = nothing hd Bare (record { 0 = 0 }) }
 
-decided-alone : (t : Table) (clock : ℕ) (s : List ℕ) (h : Header) → (decision (contextFor t clock s h) (instructionOf (requestOf s h)) .status ≡ 0 → ⊥)
-    → decision (contextFor t clock s h) (instructionOf (requestOf s h)) ≡ statusAlone (t .head) (h .opcode) (decision (contextFor t clock s h) (instructionOf (requestOf s h)) .status)
+decided-alone : (config : Config) (t : Table) (clock : ℕ) (s : List ℕ) (h : Header) → (decision (contextFor t clock s h) (instructionOf (requestOf (config .forcing) s h)) .status ≡ 0 → ⊥)
+    → decision (contextFor t clock s h) (instructionOf (requestOf (config .forcing) s h))
+    ≡ statusAlone (t .head) (h .opcode) (decision (contextFor t clock s h) (instructionOf (requestOf (config .forcing) s h)) .status)
 unfolding decision requestOf
-decided-alone t clock s h n =
+decided-alone config t clock s h n =
     let c = contextFor t clock s h in
-    let i = instructionOf (requestOf s h) in
+    let i = instructionOf (requestOf (config .forcing) s h) in
     let st = statusBy c i (ruleOf c (i .command)) in
     let z = ne-eqb st 0 n in
     let quiet = silent-is c (bytesIn s (extrasSpan h)) (h .opcode) st z in
     rw z (λ j. record { status = st; silent = quiet j; done = nothing (t .head) Bare (record { 0 = 0 }) })
 
-decides-alone : (t : Table) (clock : ℕ) (s : List ℕ) (h : Header) → (decisionOn t clock s h .status ≡ 0 → ⊥)
-    → decisionOn t clock s h ≡ statusAlone (t .head) (h .opcode) (decisionOn t clock s h .status)
+decides-alone : (config : Config) (t : Table) (clock : ℕ) (s : List ℕ) (h : Header) → (decisionOn config t clock s h .status ≡ 0 → ⊥)
+    → decisionOn config t clock s h ≡ statusAlone (t .head) (h .opcode) (decisionOn config t clock s h .status)
 unfolding decisionOn
-decides-alone t clock s h n =
-    cases (reachesDecision (frameStatus s h))
-    (λ y. rw y (decided-alone t clock s h (rw y at n)))
+decides-alone config t clock s h n =
+    cases (reachesDecision s h)
+    (λ y. rw y (decided-alone config t clock s h (rw y at n)))
     (λ f. let spoken = and-no (among (h .opcode) (0x09 ∷ 0x0d ∷ [])) _ (reader-speaks s h) in
     rw f (λ j. record { status = frameStatus s h; silent = sym spoken j; done = nothing (t .head) Bare (record { 0 = 0 }) }))
 
@@ -162,7 +164,7 @@ alone-size st s y l =
     by-cond (λ xs. length xs ≤ 24) (silentMiss (num s 1 1) st) [] (bareReply st s) (λ t. omega arith)
     (λ f. let e = ap length (bare-header s st y l) in omega (arith, length-header (bareHeader (headerOf s .opcode) (headerOf s .opaque) st)))
 
-module _ (b : List ℕ) (clock : ℕ) (s : List ℕ) where
+module _ (config : Config) (b : List ℕ) (clock : ℕ) (s : List ℕ) where
   abbrev t : Table
   t = tableAt (tableOf b) clock
 
@@ -170,7 +172,7 @@ module _ (b : List ℕ) (clock : ℕ) (s : List ℕ) where
   now = clockAt (tableOf b) clock
 
   abbrev StatusAlone : Header → Type 0
-  StatusAlone h = (frameEffect t now s h .status ≡ 0 → ⊥) → frameReply b clock s h ≡ statusReply (frameEffect t now s h .status) s
+  StatusAlone h = (frameEffect config t now s h .status ≡ 0 → ⊥) → frameReply config b clock s h ≡ statusReply (frameEffect config t now s h .status) s
 
   frame-status : Bytes s → 24 ≤ length s → StatusAlone (headerOf s)
   unfolding frameReply frameEffect
@@ -178,18 +180,18 @@ module _ (b : List ℕ) (clock : ℕ) (s : List ℕ) where
       let h = headerOf s in
       let key = bytesIn s (keySpan h) in
       let shown : Decision → List ℕ = λ d. replyShows (d .done .reply) (t .rows) now key in
-      ap (λ (d : Decision). replyBytes (h .opcode) (h .opaque) d key (shown d)) (decides-alone t now s h n)
-      ∙ alone-reply s (t .head) (decisionOn t now s h .status) key (docValue (findRow (t .rows) key)) y l
+      ap (λ (d : Decision). replyBytes (h .opcode) (h .opaque) d key (shown d)) (decides-alone config t now s h n)
+      ∙ alone-reply s (t .head) (decisionOn config t now s h .status) key (docValue (findRow (t .rows) key)) y l
 
 status-by : (config : Config) (b : List ℕ) (clock : ℕ) (s out : List ℕ) (st used len : ℕ) (g : Gate) → gateAll config b (length out) s ≡ g → Bytes s
-    → answerBy b clock s g ≡ Done st used len → (st ≡ 0 → ⊥)
-    → (len ≡ length (statusReply st s)) × (replyBy b clock s out g ≡ statusReply st s ++ drop len out)
+    → answerBy config b clock s g ≡ Done st used len → (st ≡ 0 → ⊥)
+    → (len ≡ length (statusReply st s)) × (replyBy config b clock s out g ≡ statusReply st s ++ drop len out)
 status-by config b clock s out st used len (Stop n need) q y e z = absurd (let z : _≡_ {A = ℕ} 0 1 = cc in omega arith)
 status-by config b clock s out st used len (Whole h) q y e z =
     let w = was-open config b s (length out) h q in
-    let p : frameEffect (tableAt (tableOf b) clock) (clockAt (tableOf b) clock) s h .status ≡ st = cc in
-    let l : length (frameReply b clock s h) ≡ len = cc in
-    let f = subst (StatusAlone b clock s) (w .frame .header) (frame-status b clock s y (w .frame .long)) (λ v. z (sym p ∙ v)) ∙ ap (λ (k : ℕ). statusReply k s) p in
+    let p : frameEffect config (tableAt (tableOf b) clock) (clockAt (tableOf b) clock) s h .status ≡ st = cc in
+    let l : length (frameReply config b clock s h) ≡ len = cc in
+    let f = subst (StatusAlone config b clock s) (w .frame .header) (frame-status config b clock s y (w .frame .long)) (λ v. z (sym p ∙ v)) ∙ ap (λ (k : ℕ). statusReply k s) p in
     let m = alone-size st s y (w .frame .long) in
     let e′ = sym l ∙ ap length f in (
       e′,

@@ -30,14 +30,15 @@ use Rattle.engines.specs.Damage.{soundBy}
 use Rattle.engines.specs.Claims.{GoodBy}
 use Rattle.engines.proofs.EngineLaws.{engines-laws}
 use Rattle.engines.proofs.Tables.{purge-good-by, good-sound-by, clock-good-by}
-use Rattle.owning.specs.Owner.{purgeOf, purgedTable, purgedBytes}
+use Rattle.owning.specs.Owner.{purgeOf, purgedTable, purgedBytes, isDead, activatedTable}
+use Rattle.owning.proofs.Activating.{active-good, good-dead, good-active}
 use Rattle.serving.specs.Serve.{servedOutcome, servedStatus, gateAll, frameEffect, frameChange, frameTable, answerBy, tableBy, served, servedTable}
 use Rattle.serving.proofs.Formed.{no, by-cond}
 use Rattle.serving.proofs.Gated.{was-open}
 use Rattle.serving.proofs.Change.{changing, change-good}
 use Rattle.serving.proofs.Clock.{clock-stays}
 use Rattle.promises.specs.Expiry.{opcode, keyIn}
-use Rattle.promises.specs.Clock.{TableCall, Serve, Purge, Read, clockOf, tableCalled, raises, Given, readOnly, writesKey}
+use Rattle.promises.specs.Clock.{TableCall, Serve, Purge, Read, Activate, clockOf, tableCalled, raises, Given, readOnly, writesKey}
 use Rattle.promises.proofs.Keeps.{nothing-stored}
 use Rattle.promises.proofs.Alive.{read-only-keeps}
 
@@ -90,7 +91,7 @@ module _ (config : Config) (t : Table) (g : GoodBy config t) where
     now = clockAt t clock
 
     abbrev effect : Effect
-    effect = frameEffect u now s h
+    effect = frameEffect config u now s h
 
     good-now : GoodBy config u
     good-now = clock-good-by config t clock g c
@@ -98,23 +99,23 @@ module _ (config : Config) (t : Table) (g : GoodBy config t) where
     -- by the gate
     abbrev writesBy : Gate → Key → Bool
     writesBy gate k =
-        eqb (servedOutcome (answerBy b clock s gate)) 0
-        && (eqb (servedStatus (answerBy b clock s gate)) 0 && (not (among (opcode s) readOnly) && same (keyIn s) k))
+        eqb (servedOutcome (answerBy config b clock s gate)) 0
+        && (eqb (servedStatus (answerBy config b clock s gate)) 0 && (not (among (opcode s) readOnly) && same (keyIn s) k))
 
     abbrev By : Gate → Type 0
-    By gate = Stepped config t (tableBy config b clock s gate) (eqb (servedOutcome (answerBy b clock s gate)) 0) clock (writesBy gate)
+    By gate = Stepped config t (tableBy config b clock s gate) (eqb (servedOutcome (answerBy config b clock s gate)) 0) clock (writesBy gate)
 
     -- what is stored is for a key that is written
     apart : (d : Doc) (k : Key) → effect .store ≡ some d → (eqb (effect .status) 0 && (not (among (opcode s) readOnly) && same (keyIn s) k)) ≡ false
         → same (keyIn s) k ≡ false
     apart d k e f =
         cases (eqb (effect .status) 0)
-        (λ y. cases (among (opcode s) readOnly) (λ r. none-some d (sym (read-only-keeps u now s r) ∙ e)) (λ r. rw (y, r) at f))
-        (λ y. none-some d (sym (nothing-stored u now s h (λ q. no (sym y ∙ eq-eqb (effect .status) 0 q)) .0) ∙ e))
+        (λ y. cases (among (opcode s) readOnly) (λ r. none-some d (sym (read-only-keeps config u now s r) ∙ e)) (λ r. rw (y, r) at f))
+        (λ y. none-some d (sym (nothing-stored config u now s h (λ q. no (sym y ∙ eq-eqb (effect .status) 0 q)) .0) ∙ e))
 
     module _ (inside : 24 + h .body ≤ length s) where
       clock-kept : effect .head .clock ≡ max (t .head .clock) clock
-      clock-kept = clock-stays u now s h (good-now .good) z inside
+      clock-kept = clock-stays config u now s h (good-now .good) z inside
 
       unwritten : (k : Key) → (eqb (effect .status) 0 && (not (among (opcode s) readOnly) && same (keyIn s) k)) ≡ false
           → findRow (storeRow (engineOf config) (t .rows) (keyIn s) (effect .store)) k ≡ findRow (t .rows) k
@@ -123,7 +124,7 @@ module _ (config : Config) (t : Table) (g : GoodBy config t) where
           options (effect .store)
           (λ e. ap stored e)
           (λ d e.
-          let room = changing u now s h (good-now .good) z inside .stores d e .room in
+          let room = changing config u now s h (good-now .good) z inside .stores d e .room in
           ap stored e ∙ engines-laws config .find-put (t .rows) (keyIn s) d (g .kept) room k ∙ rw (apart d k e f))
 
       whole : By (Whole h)
@@ -134,7 +135,7 @@ module _ (config : Config) (t : Table) (g : GoodBy config t) where
         bytes = ap (λ (x : Table). tableBytes (frameChange config (tableAt x clock) (clockAt x clock) s h)) back;
         kept = clock-kept;
         docs = λ k f.
-            let status = ap (λ (x : Table). frameEffect (tableAt x clock) (clockAt x clock) s h .status) back in
+            let status = ap (λ (x : Table). frameEffect config (tableAt x clock) (clockAt x clock) s h .status) back in
             inl (unwritten k (ap (λ (n : ℕ). eqb n 0 && (not (among (opcode s) readOnly) && same (keyIn s) k)) (sym status) ∙ f));
       }
 
@@ -177,9 +178,17 @@ module _ (config : Config) (t : Table) (g : GoodBy config t) where
       docs = λ k _. subst (Left (findRow (t .rows) k)) (sym (purged-doc k)) (left-by (findRow (t .rows) k));
     }
 
+  -- ---- making it active
+  activates : Steps config t Activate
+  activates =
+      cases (isDead (t .head))
+      (λ d. record { table = t; good = g; bytes = good-dead config t g d .1; kept = refl; docs = λ k _. inl refl })
+      (λ d. record { table = activatedTable t; good = active-good config t g; bytes = good-active config t g d .1; kept = refl; docs = λ k _. inl refl })
+
   -- ---- any call
   pub step : (x : TableCall) → Given x → Steps config t x
   unfolding served servedTable
   step (Serve c) p = by-gate (c .clock) (c .received) (p .0) (p .1) (length (c .reply)) (gateAll config b (length (c .reply)) (c .received)) refl
   step (Purge clock bound) p = purges clock bound p
   step (Read clock k) p = record { table = t; good = g; bytes = refl; kept = refl; docs = λ j _. inl refl }
+  step Activate p = activates

@@ -26,14 +26,14 @@ use Rattle.shape.specs.Shapes.{among, shapeOf}
 use Rattle.header.specs.Header.{headerOf}
 use Rattle.with_meta.specs.WithMeta.{withMeta}
 use Rattle.with_meta.specs.Section.{sectionOk}
-use Rattle.rules.specs.Rules.{status}
+use Rattle.rules.specs.Rules.{status, keepsRules, forces, isForced, metaSize}
 use Rattle.request.specs.declared.Gate.{Gate}
 use Rattle.request.specs.declared.Gate.the-variants.{Whole}
 use Rattle.request.specs.Reading.{gateOf, extrasSpan, keySpan, frameStatus, bytesIn}
 use Rattle.commands.specs.Rules.{ruleOf, testsOf, firstStatus, firstFailure}
 use Rattle.effects.specs.Done.{doneOf}
 use Rattle.decision.specs.Decision.{decision}
-use Rattle.decode.specs.Decode.{requestOf}
+use Rattle.decode.specs.Decode.{commandOf, bareValue, requestOf}
 use Rattle.rows.specs.Row.{slotOf, rowOf, rowBytes}
 use Rattle.rows.specs.Table.{tableOf, tableBytes}
 use Rattle.rows.specs.Find.{freeRows}
@@ -147,59 +147,71 @@ module _ (config : Config) (b : List ℕ) (cs : List Call) where
       unique = λ k x y p q e. all-told k x p ∙ ap told e ∙ sym (all-told k y q);
     }
 
--- ---- computed from bytes to bytes, on both engines
-computed : (engine : EngineKind) → Computed (record { engine = engine }) (table 1) (calls 1) × Computed (record { engine = engine }) (table 2) (calls 2)
-unfolding be bytesOf zeros same among shapeOf headerOf withMeta sectionOk status gateOf keySpan frameStatus requestOf slotOf rowOf rowBytes tableOf tableBytes sizeOk
-    headOk usedOk rowSound sound soundOrdered soundBy sideOf
-computed Plain = (
+-- ---- computed from bytes to bytes, on both engines, by either rule of force
+abbrev ruled : EngineKind → Bool → Config
+ruled engine forcing = record { engine = engine; forcing = forcing }
+
+computed : (engine : EngineKind) (forcing : Bool) → Computed (ruled engine forcing) (table 1) (calls 1) × Computed (ruled engine forcing) (table 2) (calls 2)
+unfolding be bytesOf zeros same among shapeOf headerOf withMeta sectionOk status gateOf keySpan frameStatus commandOf bareValue metaSize slotOf rowOf rowBytes tableOf
+    tableBytes sizeOk headOk usedOk rowSound sound soundOrdered soundBy sideOf
+computed Plain forcing = (
   record { bytes = refl; undamaged = refl; active = refl; merging = refl; room = refl; rows = search; sent = search },
   record { bytes = refl; undamaged = refl; active = refl; merging = refl; room = refl; rows = search; sent = search },
 )
-computed Ordered = (
+computed Ordered forcing = (
   record { bytes = refl; undamaged = refl; active = refl; merging = refl; room = refl; rows = search; sent = search },
   record { bytes = refl; undamaged = refl; active = refl; merging = refl; room = refl; rows = search; sent = search },
 )
 
-worked-in : (engine : EngineKind) → Worked (record { engine = engine })
+plain-worked : (forcing : Bool) → Worked (ruled Plain forcing)
 unfolding written be bytesOf zeros same greater accepted shapeOf headerOf withMeta sectionOk status gateOf keySpan frameStatus ruleOf testsOf
-    firstStatus firstFailure decision doneOf requestOf slotOf rowOf rowBytes tableOf tableBytes sizeOk headOk usedOk rowSound sound soundOrdered soundBy sideOf gateAll decisionOn
-    frameEffect frameTable served servedTable
-worked-in Plain = record {
+    firstStatus firstFailure decision doneOf requestOf keepsRules forces isForced slotOf rowOf rowBytes tableOf tableBytes sizeOk headOk usedOk rowSound
+    sound soundOrdered soundBy sideOf gateAll decisionOn frameEffect frameTable served servedTable
+plain-worked forcing = record {
   by-revision = record {
-    premises = premises (record { engine = Plain }) (table 1) (calls 1) (computed Plain .0);
-    merged = merge-on-bytes (record { engine = Plain }) (table 1) (calls 1) (premises (record { engine = Plain }) (table 1) (calls 1) (computed Plain .0));
+    premises = premises (ruled Plain forcing) (table 1) (calls 1) (computed Plain forcing .0);
+    merged = merge-on-bytes (ruled Plain forcing) (table 1) (calls 1) (premises (ruled Plain forcing) (table 1) (calls 1) (computed Plain forcing .0));
     statuses = refl;
     after = refl;
     hello-ends = refl;
     mykey-ends = refl;
   };
   last-write = record {
-    premises = premises (record { engine = Plain }) (table 2) (calls 2) (computed Plain .1);
-    merged = merge-on-bytes (record { engine = Plain }) (table 2) (calls 2) (premises (record { engine = Plain }) (table 2) (calls 2) (computed Plain .1));
+    premises = premises (ruled Plain forcing) (table 2) (calls 2) (computed Plain forcing .1);
+    merged = merge-on-bytes (ruled Plain forcing) (table 2) (calls 2) (premises (ruled Plain forcing) (table 2) (calls 2) (computed Plain forcing .1));
     statuses = refl;
     after = refl;
     hello-ends = refl;
     mykey-ends = refl;
   };
 }
-worked-in Ordered = record {
+
+ordered-worked : (forcing : Bool) → Worked (ruled Ordered forcing)
+unfolding written be bytesOf zeros same greater accepted shapeOf headerOf withMeta sectionOk status gateOf keySpan frameStatus ruleOf testsOf
+    firstStatus firstFailure decision doneOf requestOf keepsRules forces isForced slotOf rowOf rowBytes tableOf tableBytes sizeOk headOk usedOk rowSound
+    sound soundOrdered soundBy sideOf gateAll decisionOn frameEffect frameTable served servedTable
+ordered-worked forcing = record {
   by-revision = record {
-    premises = premises (record { engine = Ordered }) (table 1) (calls 1) (computed Ordered .0);
-    merged = merge-on-bytes (record { engine = Ordered }) (table 1) (calls 1) (premises (record { engine = Ordered }) (table 1) (calls 1) (computed Ordered .0));
+    premises = premises (ruled Ordered forcing) (table 1) (calls 1) (computed Ordered forcing .0);
+    merged = merge-on-bytes (ruled Ordered forcing) (table 1) (calls 1) (premises (ruled Ordered forcing) (table 1) (calls 1) (computed Ordered forcing .0));
     statuses = refl;
     after = refl;
     hello-ends = refl;
     mykey-ends = refl;
   };
   last-write = record {
-    premises = premises (record { engine = Ordered }) (table 2) (calls 2) (computed Ordered .1);
-    merged = merge-on-bytes (record { engine = Ordered }) (table 2) (calls 2) (premises (record { engine = Ordered }) (table 2) (calls 2) (computed Ordered .1));
+    premises = premises (ruled Ordered forcing) (table 2) (calls 2) (computed Ordered forcing .1);
+    merged = merge-on-bytes (ruled Ordered forcing) (table 2) (calls 2) (premises (ruled Ordered forcing) (table 2) (calls 2) (computed Ordered forcing .1));
     statuses = refl;
     after = refl;
     hello-ends = refl;
     mykey-ends = refl;
   };
 }
+
+worked-in : (engine : EngineKind) (forcing : Bool) → Worked (ruled engine forcing)
+worked-in Plain forcing = plain-worked forcing
+worked-in Ordered forcing = ordered-worked forcing
 
 pub worked : (config : Config) → Worked config
-worked config = worked-in (config .engine)
+worked config = worked-in (config .engine) (config .forcing)

@@ -1,4 +1,4 @@
--- Order 2, the failure at sea: "A GPS fault set a boat's clock back a day and yesterday's contacts came alive." Over any list of serving calls, purges and reads, with any clocks, each on the table as the one before left it. Proved in proofs/Clock.antt.
+-- Order 2, the failure at sea: "A GPS fault set a boat's clock back a day and yesterday's contacts came alive." Over any list of serving calls, purges, reads and calls that make the table active, with any clocks, each on the table as the one before left it. Proved in proofs/Clock.antt.
 use Prim.Native.Nat.{ℕ, _^_, _≤_, _<_, max}
 use mathlib.Core.Path.{_≡_}
 use mathlib.Core.Bool.{Bool, true, false, not, cond, _&&_}
@@ -19,7 +19,7 @@ use Rattle.shape.specs.Shapes.{among}
 use Rattle.rows.specs.Table.{tableBytes}
 use Rattle.numbers.specs.declared.Left.the-variants.{Seconds}
 use Rattle.owning.specs.declared.Document.the-variants.{Missing, Expired as ExpiredBy, Live}
-use Rattle.owning.specs.Owner.{readOf, readOutcome, readStatus, purgeOf, purgeOutcome, purgedBytes}
+use Rattle.owning.specs.Owner.{readOf, readOutcome, readStatus, purgeOf, purgeOutcome, purgedBytes, activateOf, activateOutcome, activatedBytes}
 use Rattle.serving.specs.Serve.{servedOutcome, servedStatus}
 use Rattle.promises.specs.Calls.{Call, servedBy, tableServed}
 use Rattle.promises.specs.Merge.{docAt}
@@ -28,44 +28,50 @@ use Rattle.promises.specs.Judged.{at}
 use Rattle.promises.specs.Kept.{keptAt, laterAt}
 use Rattle.promises.specs.Expiry.{Expired, opcode, keyIn, gets, joins, needsLive, Reaches, Answers}
 
--- a call on a table: serving, a purge with its clock and bound, a read with its clock and key
+-- a call on a table: serving, a purge with its clock and bound, a read with its clock and key; order 9: making it active, which takes no clock
 pub data TableCall : Type 0 where
   Serve : Call → TableCall
   Purge : ℕ → ℕ → TableCall
   Read : ℕ → Key → TableCall
+  Activate : TableCall
 
 abbrev pub clockOf : TableCall → ℕ
 clockOf (Serve c) = c .clock
 clockOf (Purge clock bound) = clock
 clockOf (Read clock k) = clock
+clockOf Activate = 0
 
 -- 01's outcome of it
 abbrev pub outcomeOf : Config → List ℕ → TableCall → ℕ
 outcomeOf config b (Serve c) = servedOutcome (servedBy config b c)
 outcomeOf config b (Purge clock bound) = purgeOutcome (purgeOf config b clock bound)
 outcomeOf config b (Read clock k) = readOutcome (readOf config b clock k)
+outcomeOf config b Activate = activateOutcome (activateOf config b)
 
 -- the table's memory after it; a read is lent what it can't change
 abbrev pub tableCalled : Config → List ℕ → TableCall → List ℕ
 tableCalled config b (Serve c) = tableServed config b c
 tableCalled config b (Purge clock bound) = purgedBytes config b clock bound
 tableCalled config b (Read clock k) = b
+tableCalled config b Activate = activatedBytes config b
 
 abbrev pub memoryAfter : Config → List ℕ → List TableCall → List ℕ
 memoryAfter config b [] = b
 memoryAfter config b (x ∷ xs) = memoryAfter config (tableCalled config b x) xs
 
--- the calls that "raise it": "A purge, and serving a frame with any status"; "outcomes 1 to 5 and document reads don't"
+-- the calls that "raise it": "A purge, and serving a frame with any status"; "outcomes 1 to 5 and document reads don't", and one that makes the table active "changes nothing but the state"
 abbrev pub raises : Config → List ℕ → TableCall → Bool
 raises config b (Serve c) = eqb (outcomeOf config b (Serve c)) 0
 raises config b (Purge clock bound) = eqb (outcomeOf config b (Purge clock bound)) 0
 raises config b (Read clock k) = false
+raises config b Activate = false
 
 -- bytes and a clock of 32 bits, as every call has them
 abbrev pub Given : TableCall → Type 0
 Given (Serve c) = Bytes (c .received) × (c .clock < 2 ^ 32)
 Given (Purge clock bound) = clock < 2 ^ 32
 Given (Read clock k) = clock < 2 ^ 32
+Given Activate = Unit {0}
 
 abbrev pub AllGiven : List TableCall → Type 0
 AllGiven [] = Unit {0}
@@ -92,6 +98,7 @@ writesKey config b (Serve c) k =
     eqb (servedOutcome (servedBy config b c)) 0 && (eqb (servedStatus (servedBy config b c)) 0 && (not (among (opcode (c .received)) readOnly) && same (keyIn (c .received)) k))
 writesKey config b (Purge clock bound) k = false
 writesKey config b (Read clock j) k = false
+writesKey config b Activate k = false
 
 abbrev pub Unwritten : Config → List ℕ → List TableCall → Key → Type 0
 Unwritten config b [] k = Unit {0}

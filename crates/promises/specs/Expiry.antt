@@ -122,13 +122,13 @@ abbrev pub Passes : List Check → Type 0
 Passes [] = Unit {0}
 Passes (c ∷ cs) = (c .fails ≡ false) × Passes cs
 
--- a whole frame on an undamaged table, to which none of the statuses before 0x05 and 0x01 applies: 0x83, 0x81, 0x04 of form, of fields and by mode or clock, 0x03, 0x07
+-- a whole frame on an undamaged table, to which none of the statuses before 0x05 and 0x01 applies: 0x83, 0x81, 0x04 of form, of fields and by mode or clock, 0x83 of option 0x01, 0x03, 0x07
 pub record Reaches (config : Config) (b : List ℕ) (clock : ℕ) (s : List ℕ) (room : ℕ) : Type 0 where
   pub bytes : Bytes b
   pub undamaged : soundBy config b ≡ true
   pub roomy : 1302 ≤ room
   pub whole : gateOf s ≡ Whole (headerOf s)
-  pub earlier : Passes (take 7 (statuses (tableAt (tableOf b) clock) (clockAt (tableOf b) clock) s (headerOf s)))
+  pub earlier : Passes (take 8 (statuses config (tableAt (tableOf b) clock) (clockAt (tableOf b) clock) s (headerOf s)))
 
 -- the frame is served with this status
 abbrev pub Answers : Config → List ℕ → ℕ → List ℕ → ℕ → ℕ → Type 0

@@ -13,13 +13,13 @@ use Rattle.numbers.specs.Order.{modeOf}
 use Rattle.document.specs.Documents.{Key, Doc, Entry}
 use Rattle.engine.specs.Engine.{isSome}
 use Rattle.document.specs.Head.{marked, clocked}
-use Rattle.shape.specs.Shapes.{among}
+use Rattle.shape.specs.Shapes.{among, shapeOf}
 use Rattle.header.specs.Header.{headerOf}
 use Rattle.with_meta.specs.WithMeta.{withMeta}
 use Rattle.request.specs.declared.Gate.the-variants.{Whole}
-use Rattle.request.specs.Reading.{gateOf, frameStatus, extrasSpan, bytesIn}
-use Rattle.decision.specs.Merging.{writeOf}
-use Rattle.decode.specs.Decode.{requestOf}
+use Rattle.request.specs.Reading.{gateOf, frameStatus, extrasSpan, keySpan, bytesIn}
+use Rattle.decision.specs.Merging.{carried, metaIn}
+use Rattle.decode.specs.Decode.{commandOf, bareValue}
 use Rattle.rows.specs.Table.{tableOf}
 use Rattle.engines.specs.Damage.{soundBy}
 use Rattle.rows.specs.Find.{findRow, freeRows}
@@ -36,7 +36,10 @@ modeAt b = modeOf (tableOf b .head .mode)
 
 -- the key and the document or tombstone that a frame carries
 abbrev pub carriedBy : Call → Entry
-carriedBy c = writeOf (record { clock = c .clock; request = requestOf (c .received) (headerOf (c .received)) })
+carriedBy c =
+    let s = c .received in
+    let h = headerOf s in
+    record { key = bytesIn s (keySpan h); doc = carried (bareValue s h) (metaIn (commandOf (shapeOf (h .opcode) .operation) (bytesIn s (extrasSpan h)))) }
 
 -- the options that the mode asks for, and no other
 abbrev pub optionsFor : Mode → ℕ

@@ -11,10 +11,11 @@ pub fn get_status(c: Context, i: Instruction) -> u8
 {
     let head = c.head;
     let row = c.row;
-    let here = status::is_here(head, i.vbucket, false);
+    let here = status::is_here(head, i.vbucket);
     let live = document::live(row, c.clock);
     status::first_status(Tests {
         fault: false,
+        unsupported: i.unsupported,
         long: 1024 < i.size,
         elsewhere: !here,
         unstored: false,
@@ -31,9 +32,10 @@ pub fn list_status(c: Context, i: Instruction) -> u8
     ensures { λ r. ⌜ r ≡ statusBy c i listRule ⌝ }
 {
     let head = c.head;
-    let here = status::is_here(head, i.vbucket, false);
+    let here = status::is_here(head, i.vbucket);
     status::first_status(Tests {
         fault: false,
+        unsupported: i.unsupported,
         long: 1024 < i.size,
         elsewhere: !here,
         unstored: false,
@@ -49,5 +51,8 @@ pub fn list_status(c: Context, i: Instruction) -> u8
 pub fn service_status(c: Context, i: Instruction) -> u8
     ensures { λ r. ⌜ r ≡ statusBy c i noopRule ⌝ }
 {
+    if i.unsupported {
+        return 0x83;
+    }
     if 1024 < i.size { 0x03 } else { 0 }
 }

@@ -41,24 +41,24 @@ pub record Sent (config : Config) (b : List ℕ) (clock : ℕ) (s out : List ℕ
 
 module _ (config : Config) (b : List ℕ) (clock : ℕ) (s : List ℕ) where
   abbrev SentBy : List ℕ → ℕ → ℕ → Gate → Type 0
-  SentBy out used len g = (used ≡ 24 + headerOf s .body) × (part (replyBy b clock s out g) 0 len ≡ replyFor b clock s g)
+  SentBy out used len g = (used ≡ 24 + headerOf s .body) × (part (replyBy config b clock s out g) 0 len ≡ replyFor config b clock s g)
 
-  pub sent-by : (out : List ℕ) (st used len : ℕ) (g : Gate) → gateAll config b (length out) s ≡ g → Bytes b → answerBy b clock s g ≡ Done st used len → SentBy out used len g
+  pub sent-by : (out : List ℕ) (st used len : ℕ) (g : Gate) → gateAll config b (length out) s ≡ g → Bytes b → answerBy config b clock s g ≡ Done st used len → SentBy out used len g
   sent-by out st used len (Stop n need) q y e = absurd (let z : _≡_ {A = ℕ} 0 1 = cc in omega arith)
   sent-by out st used len (Whole h) q y e =
-      let l : length (frameReply b clock s h) ≡ len = cc in
+      let l : length (frameReply config b clock s h) ≡ len = cc in
       let u : 24 + h .body ≡ used = cc in
       let w = was-open config b s (length out) h q in
-      let m = reply-most b clock s h y (sound-plain config b (w .undamaged)) in (
+      let m = reply-most config b clock s h y (sound-plain config b (w .undamaged)) in (
         sym u ∙ ap (λ (x : Header). 24 + x .body) (sym (w .frame .header)),
-        rw (← l) (start-of out (frameReply b clock s h) (omega (arith, m, w .roomy))),
+        rw (← l) (start-of out (frameReply config b clock s h) (omega (arith, m, w .roomy))),
       )
 
   pub was-sent : (out : List ℕ) (st used len : ℕ) → length out ≡ 1302 → Bytes b → served config b clock s (length out) ≡ Done st used len → Sent config b clock s out used len
   unfolding served servedReply sentReply
   was-sent out st used len n y e =
       let w = sent-by out st used len (gateAll config b (length out) s) refl y e in
-      record { consumed = w .0; reply = w .1 ∙ ap (λ (k : ℕ). replyFor b clock s (gateAll config b k s)) n }
+      record { consumed = w .0; reply = w .1 ∙ ap (λ (k : ℕ). replyFor config b clock s (gateAll config b k s)) n }
 
 -- ---- a field's frame
 module _ (config : Config) (b : List ℕ) (frame out : List ℕ) (p : Progress) (n : length out ≡ 1302) (y : Bytes b) where

@@ -20,7 +20,7 @@ use Rattle.trace.specs.Trace.{openingOf, fieldsIn}
 use Rattle.trace.proofs.Modes.{mode-known}
 use Rattle.replay.specs.declared.Ending.{Ending}
 use Rattle.replay.specs.declared.Ending.the-variants.{Damaged, Stopped}
-use Rattle.replay.specs.Replay.{After, onOpening, replayed, walked}
+use Rattle.replay.specs.Replay.{After, ruledBy, onOpening, replayed, walked}
 use Rattle.replay.specs.Turns.{Walks}
 
 pub record Opens (trace : List ℕ) (mode : ℕ) : Type 0 where
@@ -70,9 +70,9 @@ module _ (config : Config) (b trace : List ℕ) where
     unopened e = let w = by-opening Broken e in (sym (ap (λ (x : After). x .answer) w), sym (ap (λ (x : After). x .table) w))
 
     pub opened : (mode vbucket : ℕ) (fresh′ : List ℕ) (r : Ending) (b′ : List ℕ) → openingOf trace ≡ Opened mode vbucket → fresh′ ≡ made b 32 1 mode vbucket
-        → Walks config fresh′ trace r b′ → Left r b′
-    opened mode vbucket fresh′ r b′ e f w =
+        → (ruled : Config) → ruled ≡ ruledBy config trace → Walks ruled fresh′ trace r b′ → Left r b′
+    opened mode vbucket fresh′ r b′ e f ruled k w =
         let t : fresh′ ≡ tableBytes (fresh 32 1 mode vbucket) = f ∙ made-fresh b mode vbucket n (opens trace mode vbucket e .known) in
         let x : _≡_ {A = After} (record { answer = r; table = b′ }) (replayed config b trace) =
-        w .end ∙ ((λ i. walked config (record { table = t i; clock = 0; frames = 0; reply = [] }) (fieldsIn trace)) ∙ sym (by-opening (Opened mode vbucket) e)) in
+        w .end ∙ ((λ i. walked (k i) (record { table = t i; clock = 0; frames = 0; reply = [] }) (fieldsIn trace)) ∙ sym (by-opening (Opened mode vbucket) e)) in
         (ap (λ (z : After). z .answer) x, ap (λ (z : After). z .table) x)

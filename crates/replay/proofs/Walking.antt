@@ -8,8 +8,8 @@ use lib.ListN.{length, drop, drop-of-length-le, length-drop}
 use lib.Seq.{drop-drop}
 use Rattle.engine.specs.declared.Config.{Config}
 use Rattle.trace.specs.declared.Field.{Field}
-use Rattle.trace.specs.declared.Field.the-variants.{Clock, Frame, Reply, Purge, Broken}
-use Rattle.trace.specs.Trace.{Placed, lengthIn, bytesHeld, fieldOf, isBroken, placedAt, placedFrom, fieldsFrom}
+use Rattle.trace.specs.declared.Field.the-variants.{Clock, Frame, Reply, Purge, Rule, Broken}
+use Rattle.trace.specs.Trace.{Placed, lengthIn, bytesHeld, fieldAt, isBroken, placedAt, placedFrom, fieldsFrom}
 use Rattle.trace.proofs.Fields.{field-inside, fields-on}
 use Rattle.replay.specs.declared.Ending.{Ending}
 use Rattle.replay.specs.declared.Ending.the-variants.{Replayed}
@@ -28,6 +28,7 @@ unbroken config at v w (Clock n) bytes e = refl
 unbroken config at v w (Frame len) bytes e = refl
 unbroken config at v w (Reply len) bytes e = refl
 unbroken config at v w (Purge bound) bytes e = refl
+unbroken config at v w (Rule forcing) bytes e = refl
 unbroken config at v w Broken bytes e = on-or-end w _ e
 
 module _ (config : Config) (trace b out : List ℕ) (p : Progress) where
@@ -50,17 +51,17 @@ module _ (config : Config) (trace b out : List ℕ) (p : Progress) where
     more = omega (arith, h, length-drop (p .at) trace)
 
     first : walked config now (fieldsFrom (p .at) s)
-        ≡ onTurn now (onField config (p .at) now (fieldOf s) (bytesHeld s))
-        (λ w. walked config w (cond (isBroken (fieldOf s)) [] (fieldsFrom (p .at + (3 + lengthIn s)) (drop (3 + lengthIn s) s))))
+        ≡ onTurn now (onField config (p .at) now (fieldAt (p .at) s) (bytesHeld s))
+        (λ w. walked config w (cond (isBroken (fieldAt (p .at) s)) [] (fieldsFrom (p .at + (3 + lengthIn s)) (drop (3 + lengthIn s) s))))
     first = ap (walked config now) (fields-on (p .at) s more)
 
     module _ (q : Progress) (b′ out′ : List ℕ) (t : Turns config b s out p (Goes q) b′ out′) where
-      not-broken : isBroken (fieldOf s) ≡ false
-      not-broken = unbroken config (p .at) now (voyageOf b′ out′ q) (fieldOf s) (bytesHeld s) (t .turn)
+      not-broken : isBroken (fieldAt (p .at) s) ≡ false
+      not-broken = unbroken config (p .at) now (voyageOf b′ out′ q) (fieldAt (p .at) s) (bytesHeld s) (t .turn)
 
       pub turn-inside : (p .at < q .at) × (q .at ≤ length trace)
       turn-inside =
-          let n = field-inside s not-broken in
+          let n = field-inside (p .at) s not-broken in
           (omega (arith, t .leads .0), omega (arith, t .leads .0, n, h, length-drop (p .at) trace))
 
       pub walk-on : walked config now (fieldsFrom (p .at) s) ≡ walked config (voyageOf b′ out′ q) (fieldsFrom (q .at) (drop (q .at) trace))
@@ -74,4 +75,4 @@ module _ (config : Config) (trace b out : List ℕ) (p : Progress) where
         → _≡_ {A = After} (record { answer = r; table = b′ }) (walked config now (fieldsFrom (p .at) s))
     walk-ends r b′ out′ t =
         (λ i. record { answer = r; table = t .leads i })
-        ∙ sym (first ∙ (λ i. onTurn now (sym (t .turn) i) (λ w. walked config w (cond (isBroken (fieldOf s)) [] (fieldsFrom (p .at + (3 + lengthIn s)) (drop (3 + lengthIn s) s))))))
+        ∙ sym (first ∙ (λ i. onTurn now (sym (t .turn) i) (λ w. walked config w (cond (isBroken (fieldAt (p .at) s)) [] (fieldsFrom (p .at + (3 + lengthIn s)) (drop (3 + lengthIn s) s))))))

@@ -1,4 +1,4 @@
--- Order 6: what replaying a trace answers, and what it leaves of the memory lent for the table.
+-- Order 6: what replaying a trace answers, and what it leaves of the memory lent for the table; order 9: under which rule of force.
 use Prim.Native.Nat.{ℕ, _+_}
 use mathlib.Core.List.{List, [], _∷_}
 use mathlib.Core.Bool.{Bool, false, cond}
@@ -16,8 +16,8 @@ use Rattle.serving.specs.Serve.{gateAll, frameReply, served, servedTable}
 use Rattle.trace.specs.declared.Opening.{Opening}
 use Rattle.trace.specs.declared.Opening.the-variants.{Broken as NotOpened, Opened}
 use Rattle.trace.specs.declared.Field.{Field}
-use Rattle.trace.specs.declared.Field.the-variants.{Clock, Frame, Reply, Purge, Broken}
-use Rattle.trace.specs.Trace.{Placed, openingOf, fieldsIn}
+use Rattle.trace.specs.declared.Field.the-variants.{Clock, Frame, Reply, Purge, Rule, Broken}
+use Rattle.trace.specs.Trace.{Placed, openingOf, forcingIn, fieldsIn}
 use Rattle.replay.specs.declared.Ending.{Ending}
 use Rattle.replay.specs.declared.Ending.the-variants.{Damaged, Differs, Stopped, Replayed}
 
@@ -35,12 +35,12 @@ isOneFrame (Refused n need) len = false
 isOneFrame (Done status used sent) len = eqb used len
 
 -- the bytes of a reply, none where the frame is silent
-abbrev pub replyFor : List ℕ → ℕ → List ℕ → Gate → List ℕ
-replyFor b clock s (Stop n need) = []
-replyFor b clock s (Whole h) = frameReply b clock s h
+abbrev pub replyFor : Config → List ℕ → ℕ → List ℕ → Gate → List ℕ
+replyFor config b clock s (Stop n need) = []
+replyFor config b clock s (Whole h) = frameReply config b clock s h
 
 unfoldable pub sentReply : Config → List ℕ → ℕ → List ℕ → List ℕ
-sentReply config b clock s = replyFor b clock s (gateAll config b 1302 s)
+sentReply config b clock s = replyFor config b clock s (gateAll config b 1302 s)
 
 -- after a field that goes on
 abbrev pub withClock : ℕ → Voyage → Voyage
@@ -70,6 +70,8 @@ onField config at v (Frame len) bytes = cond (isOneFrame (served config (v .tabl
 -- "a tag 3 before any frame [..] stops the replay with its place"; "`differs` and the place of the first tag 3 that isn't the last frame's reply"
 onField config at v (Reply len) bytes = cond (eqb (v .frames) 0) (End (Stopped at)) (cond (same bytes (v .reply)) (On v) (End (Differs at)))
 onField config at v (Purge bound) bytes = On (withPurge config (bound .0) v)
+-- the rule of the whole trace, as `ruledBy` has it
+onField config at v (Rule forcing) bytes = On v
 -- "An unknown tag [..], wrong length, [..] or a cut field stops the replay with its place"
 onField config at v Broken bytes = End (Stopped at)
 
@@ -92,10 +94,14 @@ walked config v (p ∷ ps) = onTurn v (onField config (p .at) v (p .field) (p .b
 abbrev pub setOut : ℕ → ℕ → Voyage
 setOut mode vbucket = record { table = tableBytes (fresh 32 1 mode vbucket); clock = 0; frames = 0; reply = [] }
 
+-- "a trace replays under the new rule exactly if its first field is tag 5 with one byte of 2": its rule is the trace's, whatever the caller's
+abbrev pub ruledBy : Config → List ℕ → Config
+ruledBy config trace = record { engine = config .engine; forcing = forcingIn trace }
+
 -- "A place is [..] 0 for a bad opening or a trace over 65,536 bytes."
 abbrev pub onOpening : Config → List ℕ → List ℕ → Opening → After
 onOpening config b trace NotOpened = record { answer = Stopped 0; table = b }
-onOpening config b trace (Opened mode vbucket) = walked config (setOut mode vbucket) (fieldsIn trace)
+onOpening config b trace (Opened mode vbucket) = walked (ruledBy config trace) (setOut mode vbucket) (fieldsIn trace)
 
 -- a table of 32 rows takes 42,000 bytes; lent memory of another size is refused as in making a table, unchanged
 unfoldable pub replayed : Config → List ℕ → List ℕ → After

@@ -9,7 +9,7 @@ use Rattle.engine.specs.declared.Config.{Config}
 use Rattle.octets.specs.Parts.{part}
 use Rattle.trace.specs.declared.Field.{Field}
 use Rattle.trace.specs.declared.Field.the-variants.{Frame}
-use Rattle.trace.specs.Trace.{lengthIn, bytesHeld, fieldOf, fieldsIn}
+use Rattle.trace.specs.Trace.{lengthIn, bytesHeld, fieldAt, fieldsIn}
 use Rattle.replay.specs.declared.Ending.{Ending}
 use Rattle.replay.specs.declared.Ending.the-variants.{Differs, Stopped}
 use Rattle.replay.specs.declared.Progress.{Progress}
@@ -43,7 +43,7 @@ abbrev pub FrameTurns : Config → List ℕ → List ℕ → List ℕ → Progre
 FrameTurns config b frame out p r b′ out′ = TurnsBy config b out p (Frame (length frame)) frame (length frame) r b′ out′
 
 abbrev pub Turns : Config → List ℕ → List ℕ → List ℕ → Progress → Step → List ℕ → List ℕ → Type 0
-Turns config b s out p r b′ out′ = TurnsBy config b out p (fieldOf s) (bytesHeld s) (lengthIn s) r b′ out′
+Turns config b s out p r b′ out′ = TurnsBy config b out p (fieldAt (p .at) s) (bytesHeld s) (lengthIn s) r b′ out′
 
 -- an expected reply of n bytes, the last frame's or not
 abbrev pub replyStep : Bool → ℕ → Progress → Step

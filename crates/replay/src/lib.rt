@@ -6,7 +6,7 @@ ghost use lib.Dec.{eqb};
 ghost use lib.ListN.{length};
 ghost use Rattle.header.specs.Header.{headerOf};
 ghost use Rattle.octets.specs.Compare.{same};
-ghost use Rattle.replay.specs.Replay.{replayed, walked};
+ghost use Rattle.replay.specs.Replay.{replayed, ruledBy, walked};
 ghost use Rattle.replay.specs.Turns.{passed, replyStep, FrameTurns, Turns, Walks};
 use engine::Config;
 use run::Cursor;
@@ -108,7 +108,7 @@ fn turn(config: Config, b: &mut [u8], s: &[u8], out: &mut [u8], p: Progress) -> 
     requires { ⌜ (length (now out) ≡ 1302) × ((p .frames ≤ p .at) × (p .at + length (now s) ≤ 65536)) ⌝ }
     ensures { λ r. ⌜ Turns config (now (b .entry)) (now (s .entry)) (now (out .entry)) p r (now (b .exit)) (now (out .exit)) ⌝ }
 {
-    match trace::field_of(s) {
+    match trace::field_at(s, p.at) {
         Field::Clock(clock) => Step::Goes(Progress {
             at: p.at + FRONT + 4,
             clock,
@@ -125,6 +125,7 @@ fn turn(config: Config, b: &mut [u8], s: &[u8], out: &mut [u8], p: Progress) -> 
             owner::purge(config, b, p.clock, bound);
             Step::Goes(passed(p, 8))
         }
+        Field::Rule(_) => Step::Goes(passed(p, 1)),
         Field::Broken => Step::Ends(Ending::Stopped(p.at)),
     }
 }
@@ -156,7 +157,19 @@ fn replay_fields(config: Config, b: &mut [u8], trace: &[u8], out: &mut [u8]) -> 
     }
 }
 
-// Replays a trace on a fresh active table of 32 rows, made in lent memory, which is left as the voyage leaves it.
+// The engine of a call, and the rule of force that the trace says.
+fn ruled_by(config: Config, trace: &[u8]) -> Config
+    ensures { λ r. ⌜ r ≡ ruledBy config (now (trace .entry)) ⌝ }
+{
+    let engine = config.engine;
+    Config {
+        engine,
+        forcing: trace::forcing_in(trace),
+    }
+}
+
+// Replays a trace on a fresh active table of 32 rows, made in lent memory, which is left as the voyage leaves it. Of
+// the call's rule of force nothing depends: the trace says it.
 pub fn replay(config: Config, b: &mut [u8], trace: &[u8]) -> Ending
     ensures { λ r. ⌜ (r ≡ replayed config (now (b .entry)) (now (trace .entry)) .answer) × (now (b .exit) ≡ replayed config (now (b .entry)) (now (trace .entry)) .table) ⌝ }
 {
@@ -168,7 +181,7 @@ pub fn replay(config: Config, b: &mut [u8], trace: &[u8]) -> Ending
         Opening::Opened(mode, vbucket) => {
             let mut out = [0u8; ROOM];
             owner::make(b, ROWS, ACTIVE, mode, vbucket);
-            replay_fields(config, b, trace, &mut out)
+            replay_fields(ruled_by(config, trace), b, trace, &mut out)
         }
     }
 }

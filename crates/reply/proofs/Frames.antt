@@ -20,6 +20,8 @@ use Rattle.rows.specs.Table.{headOf, tableOf, clockAt}
 use Rattle.plain.specs.Damage.{sound}
 use Rattle.plain.proofs.TableLaws.{sound-good}
 use Rattle.serving.specs.Reply.{bodyOf, replyHeader, replyBytes}
+use Rattle.engine.specs.declared.Config.{Config}
+use Rattle.shape.specs.Shapes.{shapeOf}
 use Rattle.serving.specs.Serve.{reachesDecision, refusal, decisionOn, decisionAt, frameReply}
 use Rattle.reply.specs.Fitting.{bareHeader}
 use Rattle.reply.proofs.Replies.{shown-body-most}
@@ -32,23 +34,23 @@ bare-reply op opaque hd st = append-nil (headerBytes (bareHeader op opaque st))
 refusal-length : (op opaque : ℕ) (hd : Head) (st : ℕ) → length (replyBytes op opaque (refusal hd st) [] []) ≡ 24
 refusal-length op opaque hd st = ap length (bare-reply op opaque hd st) ∙ length-header _
 
-module _ (b s : List ℕ) (clock : ℕ) (h : Header) (g : reachesDecision (frameStatus s h) ≡ false) where
-  pub refused-is : decisionAt b clock s h ≡ refusal (atClock (headOf b) clock) (frameStatus s h)
+module _ (config : Config) (b s : List ℕ) (clock : ℕ) (h : Header) (g : reachesDecision s h ≡ false) where
+  pub refused-is : decisionAt config b clock s h ≡ refusal (atClock (headOf b) clock) (frameStatus s h)
   unfolding decisionOn tableOf
   refused-is = rw g
 
-  pub refused-reply : replyBytes (h .opcode) (h .opaque) (refusal (atClock (headOf b) clock) (frameStatus s h)) [] [] ≡ frameReply b clock s h
+  pub refused-reply : replyBytes (h .opcode) (h .opaque) (refusal (atClock (headOf b) clock) (frameStatus s h)) [] [] ≡ frameReply config b clock s h
   unfolding frameReply replyBytes
   refused-reply = rw refused-is
 
-  pub refused-length : length (frameReply b clock s h) ≡ 24
+  pub refused-length : length (frameReply config b clock s h) ≡ 24
   refused-length = rw (← refused-reply) (refusal-length (h .opcode) (h .opaque) (atClock (headOf b) clock) (frameStatus s h))
 
 -- ---- a frame that goes on: key and stored value are short
-pub key-short : (s : List ℕ) (h : Header) → reachesDecision (frameStatus s h) ≡ true → length (bytesIn s (keySpan h)) ≤ 250
-unfolding frameStatus keySpan
+pub key-short : (s : List ℕ) (h : Header) → reachesDecision s h ≡ true → length (bytesIn s (keySpan h)) ≤ 250
+unfolding keySpan
 key-short s h e =
-    let k = key-most h (bytesIn s (extrasSpan h)) (bytesIn s (valueSpan h)) e in
+    let k = key-most (shapeOf (h .opcode)) h (bytesIn s (extrasSpan h)) (bytesIn s (valueSpan h)) e in
     omega (arith, part-most s (24 + h .extlen) (h .keylen), k)
 
 bytes-most : (op opaque : ℕ) (d : Decision) (key old : List ℕ) → length (bodyOf (d .done .reply) key old) ≤ 1278 → length (replyBytes op opaque d key old) ≤ 1302
@@ -60,11 +62,11 @@ bytes-most op opaque d key old k =
     let header = replyHeader op opaque d key old in
     rw f (omega (arith, length-append (headerBytes header) (bodyOf (d .done .reply) key old), length-header header, k)))
 
-pub reply-most : (b : List ℕ) (clock : ℕ) (s : List ℕ) (h : Header) → Bytes b → sound b ≡ true → length (frameReply b clock s h) ≤ 1302
+pub reply-most : (config : Config) (b : List ℕ) (clock : ℕ) (s : List ℕ) (h : Header) → Bytes b → sound b ≡ true → length (frameReply config b clock s h) ≤ 1302
 unfolding frameReply
-reply-most b clock s h y k =
+reply-most config b clock s h y k =
     let key = bytesIn s (keySpan h) in
-    cases (reachesDecision (frameStatus s h))
-    (λ t. bytes-most (h .opcode) (h .opaque) (decisionAt b clock s h) key _
-    (shown-body-most (decisionAt b clock s h .done .reply) (tableOf b .head .mark .0) (tableOf b .rows) (clockAt (tableOf b) clock) key (key-short s h t) (sound-good b y k .1 .rows)))
-    (λ f. omega (arith, refused-length b s clock h f))
+    cases (reachesDecision s h)
+    (λ t. bytes-most (h .opcode) (h .opaque) (decisionAt config b clock s h) key _
+    (shown-body-most (decisionAt config b clock s h .done .reply) (tableOf b .head .mark .0) (tableOf b .rows) (clockAt (tableOf b) clock) key (key-short s h t) (sound-good b y k .1 .rows)))
+    (λ f. omega (arith, refused-length config b s clock h f))

@@ -32,6 +32,13 @@ pub fn put_head(b: &mut [u8], h: Head)
     octet_writer::put_be(b, 8, 8, h.mark.0);
 }
 
+// Writes the state alone. Memory with no room for it is left unchanged.
+pub fn put_state(b: &mut [u8], state: u8)
+    ensures { λ _. ⌜ now (b .exit) ≡ written (now (b .entry)) 0 (bytesOf 1 state) ⌝ }
+{
+    octet_writer::put_be(b, 0, 1, state as u64);
+}
+
 // Writes the kept clock alone. Memory with no room for it is left unchanged.
 pub fn put_clock(b: &mut [u8], clock: u32)
     ensures { λ _. ⌜ now (b .exit) ≡ written (now (b .entry)) 4 (bytesOf 4 clock) ⌝ }

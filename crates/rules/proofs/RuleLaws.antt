@@ -1,6 +1,6 @@
--- What a status of 0, or of 0x03, says of a request.
+-- What the rules say of a request, and what a status of 0 does.
 use Prim.Native.Nat.{ℕ, _+_, _≤_}
-use mathlib.Core.Path.{_≡_, sym, ap}
+use mathlib.Core.Path.{_≡_}
 use mathlib.Core.Logic.{⊎-elim}
 use mathlib.Core.List.{List}
 use mathlib.Core.Bool.{true, false, not, _&&_, _||_, cond}
@@ -11,32 +11,34 @@ use lib.Dec.{ltb, leb, eqb}
 use borrow.Author.Tests.{leb-true, eqb-true, eqb-false, eq-eqb, ne-eqb, not-true, not-false}
 use Rattle.octets.proofs.Choices.{cases, cond-elim, both, either}
 use Rattle.shape.specs.Shapes.{shapeOf}
-use Rattle.shape.proofs.ShapeLaws.{any-shape}
 use Rattle.shape.specs.declared.Shape.{Shape}
 use Rattle.header.specs.declared.Header.{Header}
 use Rattle.with_meta.specs.WithMeta.{withMeta}
-use Rattle.rules.specs.Rules.{extrasOk, keyOk, formOk, countOk, metaSize, fieldRulesOk, formStatus, metaStatus, fieldStatus, judged, status}
+use Rattle.with_meta.specs.FieldRules.{withMetaOk}
+use Rattle.rules.specs.Rules.{extrasOk, keyOk, formOk, countOk, metaSize, fieldRulesOk, keepsRules, forces, formStatus, metaStatus, fieldStatus, judged, status}
 
--- no opcode has the status 0x03 whatever follows it
-shape-status : (op : ℕ) → shapeOf op .status ≡ 0x03 → ⊥
-shape-status op = any-shape (λ (s : Shape). s .status ≡ 0x03 → ⊥) op (λ o f q e. omega arith) (λ e. omega arith) (λ e. omega arith)
+-- a request that keeps the rules of statuses 1 and 2 is of a built command, in a right form
+pub built : (s : Shape) (h : Header) (extras value : List ℕ) → keepsRules s h extras value ≡ true → s .status ≡ 0
+unfolding keepsRules
+built s h extras value e = eqb-true (s .status) 0 (both (eqb (s .status) 0) _ e .0)
 
-formed-by : (s : Shape) (h : Header) (extras value : List ℕ) (n : ℕ) → judged s h extras value ≡ n → (s .status ≡ n → s .status ≡ 0) → (n ≡ 0x04 → ⊥) → formOk s h ≡ true
-unfolding judged
-formed-by s h extras value n e f g =
+pub formed : (s : Shape) (h : Header) (extras value : List ℕ) → keepsRules s h extras value ≡ true → formOk s h ≡ true
+unfolding keepsRules
+formed s h extras value e = both (formOk s h) _ (both (eqb (s .status) 0) _ e .1) .0
+
+pub field-rules : (s : Shape) (h : Header) (extras value : List ℕ) → keepsRules s h extras value ≡ true → fieldRulesOk s extras value ≡ true
+unfolding keepsRules
+field-rules s h extras value e = both (formOk s h) _ (both (eqb (s .status) 0) _ e .1) .1
+
+-- one with status 0 keeps them
+pub judged-keeps : (s : Shape) (h : Header) (extras value : List ℕ) → judged s h extras value ≡ 0 → keepsRules s h extras value ≡ true
+unfolding judged keepsRules
+judged-keeps s h extras value e =
     cond-elim (not (eqb (s .status) 0)) _ _ _ e
-    (λ t z. absurd (eqb-false (s .status) 0 (not-true _ t) (f z)))
-    (λ t e₁. cond-elim (not (formOk s h)) _ _ _ e₁ (λ u z. absurd (g (sym z))) (λ u z. not-false (formOk s h) u))
-
-pub formed : (h : Header) (extras value : List ℕ) → (eqb (status h extras value) 0 || eqb (status h extras value) 0x03) ≡ true → formOk (shapeOf (h .opcode)) h ≡ true
-unfolding status
-formed h extras value e =
-    let s = shapeOf (h .opcode) in
-    let n = status h extras value in
-    ⊎-elim
-    (λ z. formed-by s h extras value 0 (eqb-true n 0 z) (λ y. y) (λ y. omega arith))
-    (λ z. formed-by s h extras value 0x03 (eqb-true n 0x03 z) (λ y. absurd (shape-status (h .opcode) y)) (λ y. omega arith))
-    (either (eqb n 0) (eqb n 0x03) e)
+    (λ t z. absurd (eqb-false (s .status) 0 (not-true _ t) z))
+    (λ t e₁. cond-elim (not (formOk s h)) _ _ _ e₁ (λ u z. absurd (omega arith))
+    (λ u e₂. cond-elim (not (fieldRulesOk s extras value)) _ _ _ e₂ (λ v z. absurd (omega arith))
+    (λ v z. rw (not-false (eqb (s .status) 0) t, not-false (formOk s h) u, not-false (fieldRulesOk s extras value) v))))
 
 module _ (s : Shape) (h : Header) (f : formOk s h ≡ true) where
   parts : leb (h .extlen + h .keylen) (h .body) ≡ true
@@ -64,11 +66,13 @@ module _ (s : Shape) (h : Header) (f : formOk s h ≡ true) where
 
 -- extras and key end within the body
 pub parts-inside : (h : Header) (extras value : List ℕ) → status h extras value ≡ 0 → h .extlen + h .keylen ≤ h .body
+unfolding status
 parts-inside h extras value e =
-    formed-parts (shapeOf (h .opcode)) h (formed h extras value (ap (λ (n : ℕ). eqb n 0 || eqb n 0x03) e))
+    let s = shapeOf (h .opcode) in
+    formed-parts s h (formed s h extras value (judged-keeps s h extras value e))
 
-pub key-most : (h : Header) (extras value : List ℕ) → (eqb (status h extras value) 0 || eqb (status h extras value) 0x03) ≡ true → h .keylen ≤ 250
-key-most h extras value e = formed-key (shapeOf (h .opcode)) h (formed h extras value e)
+pub key-most : (s : Shape) (h : Header) (extras value : List ℕ) → keepsRules s h extras value ≡ true → h .keylen ≤ 250
+key-most s h extras value e = formed-key s h (formed s h extras value e)
 
 -- the header's rules come first, and the field rules decide where none of them applies
 module _ (s : Shape) (h : Header) (e : formStatus s h ≡ 0) where
@@ -83,6 +87,11 @@ module _ (s : Shape) (h : Header) (e : formStatus s h ≡ 0) where
   unfolding judged fieldStatus
   judged-form extras value = rw (form-free .0, form-free .1)
 
+  -- where they aren't broken, the request keeps the rules exactly if it keeps the field rules
+  pub keeps-form : (extras value : List ℕ) → keepsRules s h extras value ≡ fieldRulesOk s extras value
+  unfolding keepsRules
+  keeps-form extras value = rw (form-free .0, form-free .1)
+
   pub form-lengths : h .extlen + h .keylen ≤ h .body
   form-lengths = formed-parts s h (form-free .1)
 
@@ -96,24 +105,37 @@ judged-other s h extras value e =
     (λ t. cases (formOk s h) (λ u. absurd (e (rw (t, u)))) (λ u. rw (t, u)))
     (λ t. rw t)
 
--- no rule on the header is one that a request may break and go on
-pub form-stops : (h : Header) (extras value : List ℕ) → (formStatus (shapeOf (h .opcode)) h ≡ 0 → ⊥) → (eqb (status h extras value) 0 || eqb (status h extras value) 0x03) ≡ false
-unfolding status formStatus
-form-stops h extras value e =
-    let s = shapeOf (h .opcode) in
-    rw (judged-other s h extras value e) (cases (eqb (s .status) 0)
+-- a rule on the header that is broken is one that stops the request
+pub form-stops : (s : Shape) (h : Header) (extras value : List ℕ) → (formStatus s h ≡ 0 → ⊥) → keepsRules s h extras value ≡ false
+unfolding keepsRules formStatus
+form-stops s h extras value e =
+    cases (eqb (s .status) 0)
     (λ t. cases (formOk s h) (λ u. absurd (e (rw (t, u)))) (λ u. rw (t, u)))
-    (λ t. rw (t, ne-eqb (s .status) 0 (eqb-false (s .status) 0 t), ne-eqb (s .status) 0x03 (shape-status (h .opcode)))))
+    (λ t. rw t)
 
 -- the field rules of a listing, of a with-meta request, and of another
-pub field-count : (s : Shape) (extras value : List ℕ) → countOk (s .extras) extras ≡ false → fieldStatus s extras value ≡ 0x04
-unfolding fieldStatus fieldRulesOk
-field-count s extras value c = rw c
+module _ (s : Shape) (extras value : List ℕ) where
+  pub rules-count : countOk (s .extras) extras ≡ false → fieldRulesOk s extras value ≡ false
+  unfolding fieldRulesOk
+  rules-count c = rw c
 
-pub field-meta : (s : Shape) (extras value : List ℕ) → countOk (s .extras) extras ≡ true → (s .meta ≡ 0 → ⊥) → fieldStatus s extras value ≡ metaStatus (s .meta) (withMeta extras) value
-unfolding fieldStatus fieldRulesOk metaSize metaStatus withMeta
-field-meta s extras value c e = rw (c, ne-eqb (s .meta) 0 e)
+  pub rules-meta : countOk (s .extras) extras ≡ true → (s .meta ≡ 0 → ⊥) → fieldRulesOk s extras value ≡ withMetaOk (s .meta) (withMeta extras) value
+  unfolding fieldRulesOk
+  rules-meta c e = rw (c, ne-eqb (s .meta) 0 e)
 
-pub field-plain : (s : Shape) (extras value : List ℕ) → countOk (s .extras) extras ≡ true → s .meta ≡ 0 → fieldStatus s extras value ≡ cond (ltb 1024 (length value)) 0x03 0
-unfolding fieldStatus fieldRulesOk metaSize
-field-plain s extras value c e = rw (c, eq-eqb (s .meta) 0 e, sub-zero (length value))
+  pub rules-plain : countOk (s .extras) extras ≡ true → s .meta ≡ 0 → fieldRulesOk s extras value ≡ true
+  unfolding fieldRulesOk
+  rules-plain c e = rw (c, eq-eqb (s .meta) 0 e)
+
+  -- and their statuses
+  pub field-broken : fieldRulesOk s extras value ≡ false → fieldStatus s extras value ≡ 0x04
+  unfolding fieldStatus
+  field-broken c = rw c
+
+  pub field-meta : countOk (s .extras) extras ≡ true → (s .meta ≡ 0 → ⊥) → fieldStatus s extras value ≡ metaStatus (s .meta) (withMeta extras) value
+  unfolding fieldStatus forces metaSize metaStatus withMeta
+  field-meta c e = rw (rules-meta c e, ne-eqb (s .meta) 0 e)
+
+  pub field-plain : countOk (s .extras) extras ≡ true → s .meta ≡ 0 → fieldStatus s extras value ≡ cond (ltb 1024 (length value)) 0x03 0
+  unfolding fieldStatus forces metaSize
+  field-plain c e = rw (rules-plain c e, eq-eqb (s .meta) 0 e, sub-zero (length value))

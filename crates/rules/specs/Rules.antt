@@ -1,5 +1,5 @@
--- Statuses 1 to 3 of document 01, "first that applies", save the rules that need mode or clock.
-use Prim.Native.Nat.{ℕ, _+_, _-_}
+-- Statuses 1 to 3 of document 01, "first that applies", with order 9's 0x83, save the rules that need mode or clock.
+use Prim.Native.Nat.{ℕ, _+_, _-_, _%_}
 use mathlib.Core.List.{List}
 use mathlib.Core.Bool.{Bool, true, not, _&&_, _||_, cond}
 use lib.ListN.{length}
@@ -57,31 +57,46 @@ unfoldable pub fieldRulesOk : Shape → List ℕ → List ℕ → Bool
 unfolding withMetaOk
 fieldRulesOk s extras value = countOk (s .extras) extras && (eqb (s .meta) 0 || withMetaOk (s .meta) (withMeta extras) value)
 
+-- no rule of statuses 1 and 2 is broken, as far as the frame alone shows it
+unfoldable pub keepsRules : Shape → Header → List ℕ → List ℕ → Bool
+unfolding formOk fieldRulesOk
+keepsRules s h extras value = eqb (s .status) 0 && (formOk s h && fieldRulesOk s extras value)
+
+-- order 9: "A with-meta request with option 0x01 now gets 0x83, tested right after the 0x04 rules, in the reader too."
+unfoldable pub isForced : WithMeta → Bool
+isForced w = eqb (w .options % 2) 1
+
+unfoldable pub forces : Shape → List ℕ → Bool
+unfolding isForced
+forces s extras = not (eqb (s .meta) 0) && isForced (withMeta extras)
+
 -- status 1, and status 2 as far as the header shows it, or 0
 unfoldable pub formStatus : Shape → Header → ℕ
 unfolding formOk
 formStatus s h = cond (not (eqb (s .status) 0)) (s .status) (cond (not (formOk s h)) 0x04 0)
 
--- status 2 by the field rules of a with-meta request, status 3, or 0
+-- status 2 by the field rules of a with-meta request, 0x83, status 3, or 0
 unfoldable pub metaStatus : ℕ → WithMeta → List ℕ → ℕ
 unfolding withMetaOk
-metaStatus meta w value = cond (not (withMetaOk meta w value)) 0x04 (cond (ltb 1024 (length value - w .section)) 0x03 0)
+metaStatus meta w value = cond (not (withMetaOk meta w value)) 0x04 (cond (isForced w) 0x83 (cond (ltb 1024 (length value - w .section)) 0x03 0))
 
--- status 2 by the field rules, status 3, or 0
+-- status 2 by the field rules, 0x83, status 3, or 0
 unfoldable pub fieldStatus : Shape → List ℕ → List ℕ → ℕ
-unfolding fieldRulesOk metaSize
+unfolding fieldRulesOk forces metaSize
 fieldStatus s extras value =
     cond (not (fieldRulesOk s extras value)) 0x04
-    (cond (ltb 1024 (length value - metaSize s extras)) 0x03 0)
+    (cond (forces s extras) 0x83
+    (cond (ltb 1024 (length value - metaSize s extras)) 0x03 0))
 
 -- the status of the first rule that applies, or 0
 unfoldable pub judged : Shape → Header → List ℕ → List ℕ → ℕ
-unfolding formOk fieldRulesOk metaSize
+unfolding formOk fieldRulesOk forces metaSize
 judged s h extras value =
     cond (not (eqb (s .status) 0)) (s .status)
     (cond (not (formOk s h)) 0x04
     (cond (not (fieldRulesOk s extras value)) 0x04
-    (cond (ltb 1024 (length value - metaSize s extras)) 0x03 0)))
+    (cond (forces s extras) 0x83
+    (cond (ltb 1024 (length value - metaSize s extras)) 0x03 0))))
 
 unfoldable pub status : Header → List ℕ → List ℕ → ℕ
 unfolding judged

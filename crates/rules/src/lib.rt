@@ -5,10 +5,11 @@ ghost use Prim.Native.Nat.{_-_, _≤_};
 ghost use lib.ListN.{length};
 ghost use lib.Dec.{ltb};
 ghost use Rattle.with_meta.specs.WithMeta.{withMeta};
-ghost use Rattle.rules.specs.Rules.{extrasOk, formOk, countOf, countOk, metaSize, formStatus, metaStatus, fieldStatus, judged, status};
+ghost use Rattle.rules.specs.Rules.{extrasOk, formOk, countOf, countOk, metaSize, isForced, formStatus, metaStatus, fieldStatus, judged, status};
 use header::Header;
 use shape::Extras;
 use shape::Shape;
+use with_meta::WithMeta;
 
 // Whether extras of n bytes have a size of their class.
 fn extras_ok(extras: Extras, n: u8) -> bool
@@ -94,6 +95,13 @@ pub fn form_status(s: Shape, h: Header) -> u8
     0
 }
 
+// Whether a with-meta request has option 0x01.
+pub fn is_forced(w: WithMeta) -> bool
+    ensures { λ r. ⌜ r ≡ isForced w ⌝ }
+{
+    w.options % 2 == 1
+}
+
 fn meta_status(meta: u8, extras: &[u8], value: &[u8]) -> u8
     ensures { λ r. ⌜ r ≡ metaStatus meta (withMeta (now (extras .entry))) (now (value .entry)) ⌝ }
 {
@@ -101,13 +109,16 @@ fn meta_status(meta: u8, extras: &[u8], value: &[u8]) -> u8
     if !with_meta::with_meta_ok(meta, w, value) {
         return 0x04;
     }
+    if is_forced(w) {
+        return 0x83;
+    }
     if too_large(value.len(), w.section as usize) {
         return 0x03;
     }
     0
 }
 
-// Status 2 by the field rules, status 3, or 0.
+// Status 2 by the field rules, 0x83 for option 0x01, status 3, or 0.
 pub fn field_status(s: Shape, extras: &[u8], value: &[u8]) -> u8
     ensures { λ r. ⌜ r ≡ fieldStatus s (now (extras .entry)) (now (value .entry)) ⌝ }
 {

@@ -30,16 +30,16 @@ pub record Told (b s : List ℕ) (room used len : ℕ) : Type 0 where
   pub inside : used ≤ length s
   pub fits : Bytes b → len ≤ room
 
-done-by : (config : Config) (b s : List ℕ) (clock room st used len : ℕ) (g : Gate) → gateAll config b room s ≡ g → answerBy b clock s g ≡ Done st used len → Told b s room used len
+done-by : (config : Config) (b s : List ℕ) (clock room st used len : ℕ) (g : Gate) → gateAll config b room s ≡ g → answerBy config b clock s g ≡ Done st used len → Told b s room used len
 done-by config b s clock room st used len (Stop k need) q e = absurd (let y : _≡_ {A = ℕ} 0 1 = cc in omega arith)
 done-by config b s clock room st used len (Whole h) q e =
     let u : 24 + h .body ≡ used = cc in
-    let l : length (frameReply b clock s h) ≡ len = cc in
+    let l : length (frameReply config b clock s h) ≡ len = cc in
     let w = was-open config b s room h q in
     record {
       least = omega arith;
       inside = omega (arith, w .frame .inside);
-      fits = λ y. omega (arith, reply-most b clock s h y (sound-plain config b (w .undamaged)), w .roomy);
+      fits = λ y. omega (arith, reply-most config b clock s h y (sound-plain config b (w .undamaged)), w .roomy);
     }
 
 done-told : (config : Config) (b s : List ℕ) (clock room st used len : ℕ) → served config b clock s room ≡ Done st used len → Told b s room used len

@@ -29,8 +29,8 @@ module _ (config : Config) (b s : List ℕ) (room : ℕ) where
     gate-open l = rw (u, le-ltb room 1302 l)
 
 pub gated : (config : Config) (b s out : List ℕ) (clock : ℕ) (g : Gate) → gateAll config b (length out) s ≡ g → (r : Served) (b′ out′ : List ℕ)
-    → r ≡ answerBy b clock s g → b′ ≡ tableBy config b clock s g → out′ ≡ replyBy b clock s out g
+    → r ≡ answerBy config b clock s g → b′ ≡ tableBy config b clock s g → out′ ≡ replyBy config b clock s out g
     → Serves config b clock s out r b′ out′
 unfolding served servedTable servedReply
 gated config b s out clock g e r b′ out′ er eb eo =
-    record { answer = er ∙ sym (ap (answerBy b clock s) e); table = eb ∙ sym (ap (tableBy config b clock s) e); reply = eo ∙ sym (ap (replyBy b clock s out) e) }
+    record { answer = er ∙ sym (ap (answerBy config b clock s) e); table = eb ∙ sym (ap (tableBy config b clock s) e); reply = eo ∙ sym (ap (replyBy config b clock s out) e) }

@@ -68,15 +68,15 @@ clock-written : (config : Config) (b : List ℕ) (clock n : ℕ) → Bytes b →
 clock-written config b clock n y sb e = (λ i. written (sym (sound-good-by config b y sb .0) i) 4 (bytesOf 4 (e i))) ∙ clock-put (tableOf b) clock
 
 -- ---- a frame whose status the reader gives: its reply is a bare header
-module _ (config : Config) (b s : List ℕ) (clock : ℕ) (h : Header) (g : reachesDecision (frameStatus s h) ≡ false) where
+module _ (config : Config) (b s : List ℕ) (clock : ℕ) (h : Header) (g : reachesDecision s h ≡ false) where
   refused-table : frameTable config b clock s h ≡ tableBytes (tableAt (tableOf b) clock)
   unfolding frameTable frameEffect tableOf
   refused-table =
-      ap tableBytes (unchanged config (tableAt (tableOf b) clock) (clockAt (tableOf b) clock) s h (rw (refused-is b s clock h g)) (rw (refused-is b s clock h g)))
+      ap tableBytes (unchanged config (tableAt (tableOf b) clock) (clockAt (tableOf b) clock) s h (rw (refused-is config b s clock h g)) (rw (refused-is config b s clock h g)))
 
-  refused-status : effectAt b clock s h .status ≡ frameStatus s h
+  refused-status : effectAt config b clock s h .status ≡ frameStatus s h
   unfolding frameEffect
-  refused-status = ap (λ (x : Decision). x .status) (refused-is b s clock h g)
+  refused-status = ap (λ (x : Decision). x .status) (refused-is config b s clock h g)
 
   -- what answering with a bare header and keeping the clock leaves
   pub refused-by : (st : ℕ) (hd : Head) (r : Served) (b′ out out′ : List ℕ) → Bytes b → soundBy config b ≡ true → st ≡ frameStatus s h → hd ≡ headOf b
@@ -84,11 +84,11 @@ module _ (config : Config) (b s : List ℕ) (clock : ℕ) (h : Header) (g : reac
       → out′ ≡ written out 0 (headerBytes (bareHeader (h .opcode) (h .opaque) st)) → ServesFrame config b clock s h out r b′ out′
   unfolding tableOf
   refused-by st hd r b′ out out′ y sb es eh er eb eo =
-      let w : headerBytes (bareHeader (h .opcode) (h .opaque) st) ≡ frameReply b clock s h =
+      let w : headerBytes (bareHeader (h .opcode) (h .opaque) st) ≡ frameReply config b clock s h =
       ap (λ (x : ℕ). headerBytes (bareHeader (h .opcode) (h .opaque) x)) es
-      ∙ sym (bare-reply (h .opcode) (h .opaque) (atClock (headOf b) clock) (frameStatus s h)) ∙ refused-reply b s clock h g in
+      ∙ sym (bare-reply (h .opcode) (h .opaque) (atClock (headOf b) clock) (frameStatus s h)) ∙ refused-reply config b s clock h g in
       record {
-        answer = er ∙ (λ i. Done ((es ∙ sym refused-status) i) (24 + h .body) (sym (refused-length b s clock h g) i));
+        answer = er ∙ (λ i. Done ((es ∙ sym refused-status) i) (24 + h .body) (sym (refused-length config b s clock h g) i));
         table = eb ∙ clock-written config b clock _ y sb (ap (λ (x : Head). later (x .clock) clock) eh) ∙ sym refused-table;
         reply = eo ∙ ap (written out 0) w;
       }
@@ -161,7 +161,7 @@ module _ (config : Config) (b s : List ℕ) (clock : ℕ) (h : Header) (y : Byte
   asked = bytesIn s (keySpan h)
 
   abbrev effect : Effect
-  effect = frameEffect u then s h
+  effect = frameEffect config u then s h
 
   abbrev value : List ℕ
   value = bytesFrom source v (docValue (findRow (t .rows) asked))
@@ -170,13 +170,13 @@ module _ (config : Config) (b s : List ℕ) (clock : ℕ) (h : Header) (y : Byte
       → changedWith config b (lookupOf config w b asked) asked store source (effect .head) v ≡ frameTable config b clock s h
   unfolding frameTable
   changed-is w NoRow e none-if =
-      let kept = changing u then s h (clock-good-by config t clock (sound-good-by config b y sb .1) small .good) z inside .keeps (sym e) in
+      let kept = changing config u then s h (clock-good-by config t clock (sound-good-by config b y sb .1) small .good) z inside .keeps (sym e) in
       clock-written config b clock (effect .head .clock) y sb (ap (λ (k : Head). k .clock) kept) ∙ sym (ap tableBytes (unchanged config u then s h (sym e) kept))
   changed-is w (Used m) e none-if =
       let good = sound-good-by config b y sb in
       let later-good = clock-good-by config t clock (good .1) small in
       let d : Doc = record { tomb = m .tomb; value = value; numbers = m .numbers } in
-      let q = changing u then s h (later-good .good) z inside .stores d (sym e) in
+      let q = changing config u then s h (later-good .good) z inside .stores d (sym e) in
       let on : w ≡ true = cases w (λ p. p) (λ p. none-some d (sym (none-if p) ∙ sym e)) in
       let top = raised config u then s h later-good d q in
       let same = lookup-head config t (effect .head) asked true (good .1) (raised-good config u then s h later-good d q) in
@@ -187,7 +187,7 @@ module _ (config : Config) (b s : List ℕ) (clock : ℕ) (h : Header) (y : Byte
       ∙ ap (λ (o : Option Doc). tableBytes (record { head = effect .head; rows = storeRow (engineOf config) (t .rows) asked o })) e
 
 -- the key of a frame that goes on, and the value stored for it
-pub shown-parts : (config : Config) (b s : List ℕ) (h : Header) → Bytes b → soundBy config b ≡ true → reachesDecision (frameStatus s h) ≡ true → (k : List ℕ) (w : Bool) (l : Lookup) (old : List ℕ)
+pub shown-parts : (config : Config) (b s : List ℕ) (h : Header) → Bytes b → soundBy config b ≡ true → reachesDecision s h ≡ true → (k : List ℕ) (w : Bool) (l : Lookup) (old : List ℕ)
     → k ≡ bytesIn s (keySpan h) → l ≡ lookupOf config w b k → old ≡ part b (l .at) (l .len)
     → (length k ≤ 250) × ((length old ≤ 1024) × (old ≡ docValue (findRow (tableOf b .rows) k)))
 shown-parts config b s h y sb g k w l old ek el eo =
@@ -198,9 +198,9 @@ shown-parts config b s h y sb g k w l old ek el eo =
     )
 
 module _ (config : Config) (b s : List ℕ) (clock : ℕ) (h : Header) (y : Bytes b) (z : Bytes s) (small : clock < 2 ^ 32) (sb : soundBy config b ≡ true) (inside : 24 + h .body ≤ length s)
-    (g : reachesDecision (frameStatus s h) ≡ true) (k : List ℕ) (w : Bool) (l : Lookup) (old : List ℕ) (now : Head) (q : Instruction) (d : Decision)
+    (g : reachesDecision s h ≡ true) (k : List ℕ) (w : Bool) (l : Lookup) (old : List ℕ) (now : Head) (q : Instruction) (d : Decision)
     (ek : k ≡ bytesIn s (keySpan h)) (ew : w ≡ isMutation (q .command)) (el : l ≡ lookupOf config w b k) (eo : old ≡ part b (l .at) (l .len)) (eh : now ≡ atClock (headOf b) clock)
-    (eq : q ≡ instructionOf (requestOf s h)) (ed : d ≡ decision (seeing now (l .stored) (hasPlace (l .place)) (now .clock) old) q) where
+    (eq : q ≡ instructionOf (requestOf (config .forcing) s h)) (ed : d ≡ decision (seeing now (l .stored) (hasPlace (l .place)) (now .clock) old) q) where
   abbrev key : Key
   key = bytesIn s (keySpan h)
 
@@ -232,28 +232,28 @@ module _ (config : Config) (b s : List ℕ) (clock : ℕ) (h : Header) (y : Byte
       ∙ placed head (storedOf row) (hasPlace (l .place)) free (head .clock) (docValue row) q w ew
       (λ e. ap (λ (x : Lookup). hasPlace (x .place)) found ∙ finds .room e)
 
-  decision-is : d ≡ decisionAt b clock s h
+  decision-is : d ≡ decisionAt config b clock s h
   unfolding decisionOn tableOf
   decision-is = rw g (decided-is ∙ ap (decision (seeing head (storedOf row) free (head .clock) (docValue row))) eq)
 
-  status-is : d .status ≡ effectAt b clock s h .status
+  status-is : d .status ≡ effectAt config b clock s h .status
   unfolding frameEffect
   status-is = ap (λ (x : Decision). x .status) decision-is
 
-  head-is : d .done .head ≡ effectAt b clock s h .head
+  head-is : d .done .head ≡ effectAt config b clock s h .head
   unfolding frameEffect
   head-is = ap (λ (x : Decision). x .done .head) decision-is
 
-  store-is : (v : List ℕ) → v ≡ bareValue s h → docFrom (d .done .store) (bytesFrom (d .done .source) v (docValue row)) ≡ effectAt b clock s h .store
+  store-is : (v : List ℕ) → v ≡ bareValue s h → docFrom (d .done .store) (bytesFrom (d .done .source) v (docValue row)) ≡ effectAt config b clock s h .store
   unfolding frameEffect requestOf
   store-is v ev = λ i. docFrom (decision-is i .done .store) (bytesFrom (decision-is i .done .source) (ev i) (docValue row))
 
-  store-none : (v : List ℕ) → v ≡ bareValue s h → w ≡ false → effectAt b clock s h .store ≡ none
+  store-none : (v : List ℕ) → v ≡ bareValue s h → w ≡ false → effectAt config b clock s h .store ≡ none
   store-none v ev e =
       sym (store-is v ev) ∙ no-doc (d .done .store) _ (ap (λ (x : Decision). x .done .store) decided-is
       ∙ stores-none (seeing head (storedOf row) free (head .clock) (docValue row)) q (sym ew ∙ e))
 
-  reply-is : replyFrom b (now .clock) h d k ≡ frameReply b clock s h
+  reply-is : replyFrom b (now .clock) h d k ≡ frameReply config b clock s h
   unfolding frameReply tableOf
   reply-is = λ i. replyFrom b (eh i .clock) h (decision-is i) (ek i)
 

@@ -1,7 +1,7 @@
 -- The parts of a whole frame whose form is right, and what its fields' judgement says of the frame's status.
 use Prim.Native.Nat.{ℕ, _+_, _-_, _≤_}
 use mathlib.Core.Path.{_≡_, sym, ap, _∙_}
-use mathlib.Core.Bool.{true, false}
+use mathlib.Core.Bool.{Bool, true, false}
 use mathlib.Core.List.{List}
 use native.Mathlib.Omega.{arith}
 use lib.ListN.{length, take, drop}
@@ -11,15 +11,15 @@ use Rattle.shape.specs.declared.Shape.{Shape}
 use Rattle.header.specs.declared.Header.{Header}
 use Rattle.header.specs.declared.Layout.{Layout}
 use Rattle.header.specs.Layout.{layoutOf}
-use Rattle.rules.specs.Rules.{formStatus, fieldStatus, status}
-use Rattle.rules.proofs.RuleLaws.{judged-form, judged-other, form-lengths, form-stops}
+use Rattle.rules.specs.Rules.{fieldRulesOk, formStatus, fieldStatus, status}
+use Rattle.rules.proofs.RuleLaws.{judged-form, judged-other, keeps-form, form-lengths, form-stops}
 use Rattle.request.specs.Reading.{frameStatus, bytesIn, extrasSpan, keySpan, valueSpan}
 use Rattle.commands.specs.declared.Instruction.{Instruction}
 use Rattle.decision.specs.Decide.{instructionOf}
 use Rattle.decode.specs.declared.Decoded.{Decoded}
 use Rattle.decode.specs.declared.Decoded.the-variants.{Broken, Whole}
 use Rattle.decode.specs.Decode.{decodedStatus, decodedBy, requestOf, bareValue}
-use Rattle.decode.proofs.DecodeLaws.{asked-broken, asked-goes, asked-whole, asked-value}
+use Rattle.decode.proofs.DecodeLaws.{asked-breaks, asked-broken, asked-goes, asked-whole, asked-value}
 use Rattle.serving.specs.Serve.{reachesDecision}
 
 -- the parts follow each other and end within n bytes
@@ -57,33 +57,38 @@ module _ (s : List ℕ) (h : Header) where
     inside : h .extlen + h .keylen ≤ h .body
     inside = form-lengths (shapeOf (h .opcode)) h formed
 
+    by-rules : reachesDecision s h ≡ fieldRulesOk (shapeOf (h .opcode)) (bytesIn s (extrasSpan h)) (bytesIn s (valueSpan h))
+    by-rules = keeps-form (shapeOf (h .opcode)) h formed (bytesIn s (extrasSpan h)) (bytesIn s (valueSpan h))
+
     by-fields : frameStatus s h ≡ fieldStatus (shapeOf (h .opcode)) (bytesIn s (extrasSpan h)) (bytesIn s (valueSpan h))
     unfolding frameStatus status
     by-fields = judged-form (shapeOf (h .opcode)) h formed (bytesIn s (extrasSpan h)) (bytesIn s (valueSpan h))
 
-    module _ (sh : Shape) (ex va : List ℕ) (r : Decoded) (eh : sh ≡ shapeOf (h .opcode)) (ee : ex ≡ bytesIn s (extrasSpan h)) (ev : va ≡ bytesIn s (valueSpan h))
-        (er : r ≡ decodedBy sh h ex va) where
-      asked-is : decodedBy (shapeOf (h .opcode)) h (bytesIn s (extrasSpan h)) (bytesIn s (valueSpan h)) ≡ r
-      asked-is = sym (er ∙ (λ i. decodedBy (eh i) h (ee i) (ev i)))
+    module _ (forcing : Bool) (sh : Shape) (ex va : List ℕ) (r : Decoded) (eh : sh ≡ shapeOf (h .opcode)) (ee : ex ≡ bytesIn s (extrasSpan h)) (ev : va ≡ bytesIn s (valueSpan h))
+        (er : r ≡ decodedBy forcing sh h ex va) where
+      asked-is : decodedBy forcing (shapeOf (h .opcode)) h (bytesIn s (extrasSpan h)) (bytesIn s (valueSpan h)) ≡ r
+      asked-is = sym (er ∙ (λ i. decodedBy forcing (eh i) h (ee i) (ev i)))
 
       pub broken-status : r ≡ Broken → decodedStatus Broken ≡ frameStatus s h
-      broken-status e = sym (by-fields ∙ asked-broken h _ _ (asked-is ∙ e))
+      broken-status e = sym (by-fields ∙ asked-broken forcing h _ _ (asked-is ∙ e))
+
+      pub broken-stops : r ≡ Broken → reachesDecision s h ≡ false
+      broken-stops e = by-rules ∙ asked-breaks forcing h _ _ (asked-is ∙ e)
 
       module _ (a : Instruction) (e : r ≡ Whole a) where
-        pub whole-goes : reachesDecision (frameStatus s h) ≡ true
-        whole-goes = ap reachesDecision by-fields ∙ asked-goes h _ _ a (asked-is ∙ e)
+        pub whole-goes : reachesDecision s h ≡ true
+        whole-goes = by-rules ∙ asked-goes forcing h _ _ a (asked-is ∙ e)
 
-        pub whole-ask : a ≡ instructionOf (requestOf s h)
-        whole-ask = asked-whole s h whole inside a (asked-is ∙ e)
+        pub whole-ask : a ≡ instructionOf (requestOf forcing s h)
+        whole-ask = asked-whole forcing s h whole inside a (asked-is ∙ e)
 
         pub whole-value : part va 0 (a .size) ≡ bareValue s h
-        whole-value = ap (λ (v : List ℕ). part v 0 (a .size)) ev ∙ asked-value s h whole inside a (asked-is ∙ e)
+        whole-value = ap (λ (v : List ℕ). part v 0 (a .size)) ev ∙ asked-value forcing s h whole inside a (asked-is ∙ e)
 
   module _ (z : formStatus (shapeOf (h .opcode)) h ≡ 0 → ⊥) where
     pub other-status : formStatus (shapeOf (h .opcode)) h ≡ frameStatus s h
     unfolding frameStatus status
     other-status = sym (judged-other (shapeOf (h .opcode)) h (bytesIn s (extrasSpan h)) (bytesIn s (valueSpan h)) z)
 
-    pub other-stops : reachesDecision (frameStatus s h) ≡ false
-    unfolding frameStatus
-    other-stops = form-stops h (bytesIn s (extrasSpan h)) (bytesIn s (valueSpan h)) z
+    pub other-stops : reachesDecision s h ≡ false
+    other-stops = form-stops (shapeOf (h .opcode)) h (bytesIn s (extrasSpan h)) (bytesIn s (valueSpan h)) z

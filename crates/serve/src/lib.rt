@@ -123,7 +123,7 @@ fn serve_formed(
     out: &mut [u8],
 ) -> Served
     requires { ⌜ (soundBy config (now b) ≡ true) × ((head ≡ headOf (now b)) × (1302 ≤ length (now out))) ⌝ }
-    requires { ⌜ (reachesDecision (frameStatus (now s) h) ≡ true) × ((ask ≡ instructionOf (requestOf (now s) h)) × ((now key ≡ bytesIn (now s) (keySpan h)) × ((part (now value) 0 (ask .size) ≡ bareValue (now s) h) × (24 + h .body ≤ length (now s))))) ⌝ }
+    requires { ⌜ (reachesDecision (now s) h ≡ true) × ((ask ≡ instructionOf (requestOf (config .forcing) (now s) h)) × ((now key ≡ bytesIn (now s) (keySpan h)) × ((part (now value) 0 (ask .size) ≡ bareValue (now s) h) × (24 + h .body ≤ length (now s))))) ⌝ }
     ensures { λ r. ⌜ ServesFrame config (now (b .entry)) clock (now (s .entry)) h (now (out .entry)) r (now (b .exit)) (now (out .exit)) ⌝ }
 {
     let command = ask.command;
@@ -174,7 +174,8 @@ fn serve_parts(
     let extras = &s[start..a];
     let key = &s[a..k];
     let value = &s[k..end];
-    match decode::decoded_by(shape, h, extras, value) {
+    let forcing = config.forcing;
+    match decode::decoded_by(forcing, shape, h, extras, value) {
         Decoded::Broken => refused(b, head, clock, h, 0x04, out),
         Decoded::Whole(ask) => serve_formed(config, b, head, clock, s, h, ask, key, value, out),
     }

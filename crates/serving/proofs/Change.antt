@@ -14,7 +14,8 @@ use Rattle.octets.proofs.Options.{options, none-some}
 use Rattle.octets.proofs.Lists.{part-length}
 use Rattle.header.specs.declared.Header.{Header}
 use Rattle.rules.proofs.RuleLaws.{key-most}
-use Rattle.request.specs.Reading.{frameStatus, bytesIn, extrasSpan, keySpan, valueSpan}
+use Rattle.shape.specs.Shapes.{shapeOf}
+use Rattle.request.specs.Reading.{bytesIn, extrasSpan, keySpan, valueSpan}
 use Rattle.document.specs.Documents.{Key, Doc}
 use Rattle.document.specs.declared.Head.{Head}
 use Rattle.document.specs.Head.{marked}
@@ -35,12 +36,12 @@ use Rattle.serving.specs.Serve.{reachesDecision, decisionOn, frameEffect
 use Rattle.serving.proofs.Formed.{form, command-right}
 use Rattle.serving.proofs.Kept.{decide-keeps, fits-found, short-found}
 
-module _ (t : Table) (clock : ℕ) (s : List ℕ) (h : Header) where
+module _ (config : Config) (t : Table) (clock : ℕ) (s : List ℕ) (h : Header) where
   abbrev key : Key
   key = bytesIn s (keySpan h)
 
   abbrev effect : Effect
-  effect = frameEffect t clock s h
+  effect = frameEffect config t clock s h
 
   abbrev mark : ℕ
   mark = effect .head .mark .0
@@ -58,36 +59,35 @@ module _ (t : Table) (clock : ℕ) (s : List ℕ) (h : Header) where
     pub keeps : effect .store ≡ none → effect .head ≡ t .head
     pub stores : (d : Doc) → effect .store ≡ some d → Storing d
 
-  refused : reachesDecision (frameStatus s h) ≡ false → Changing
+  refused : reachesDecision s h ≡ false → Changing
   unfolding frameEffect decisionOn
   refused f = record { keeps = λ e. rw f; stores = λ d e. none-some d (rw f at e) }
 
-  module _ (g : Good t) (y : Bytes s) (whole : 24 + h .body ≤ length s) (o : reachesDecision (frameStatus s h) ≡ true) where
+  module _ (g : Good t) (y : Bytes s) (whole : 24 + h .body ≤ length s) (o : reachesDecision s h ≡ true) where
     abbrev decided : Effect
-    decided = decide (t .head) (findRow (t .rows) key) (ltb 0 (freeRows (t .rows))) clock (requestOf s h)
+    decided = decide (t .head) (findRow (t .rows) key) (ltb 0 (freeRows (t .rows))) clock (requestOf (config .forcing) s h)
 
     is-decided : decided ≡ effect
     unfolding frameEffect decisionOn decide
     is-decided = rw o
 
-    sound : StoredSound (t .head) (findRow (t .rows) key) (ltb 0 (freeRows (t .rows))) clock (requestOf s h)
+    sound : StoredSound (t .head) (findRow (t .rows) key) (ltb 0 (freeRows (t .rows))) clock (requestOf (config .forcing) s h)
     sound =
-        stores-sound (t .head) (findRow (t .rows) key) (ltb 0 (freeRows (t .rows))) clock (requestOf s h)
-        (g .mark) (command-right s y h o .0) (fits-found (t .head .mark .0) (t .rows) key (g .mark) (g .rows)) (short-found (t .head .mark .0) (t .rows) key (g .rows))
+        stores-sound (t .head) (findRow (t .rows) key) (ltb 0 (freeRows (t .rows))) clock (requestOf (config .forcing) s h)
+        (g .mark) (command-right (config .forcing) s y h o .0) (fits-found (t .head .mark .0) (t .rows) key (g .mark) (g .rows)) (short-found (t .head .mark .0) (t .rows) key (g .rows))
 
     key-length : length key ≡ h .keylen
     unfolding keySpan
-    key-length = part-length s (24 + h .extlen) (h .keylen) (omega (arith, form s y h o .inside))
+    key-length = part-length s (24 + h .extlen) (h .keylen) (omega (arith, form (config .forcing) s y h o .inside))
 
     most : h .keylen ≤ 250
-    unfolding frameStatus
-    most = key-most h (bytesIn s (extrasSpan h)) (bytesIn s (valueSpan h)) o
+    most = key-most (shapeOf (h .opcode)) h (bytesIn s (extrasSpan h)) (bytesIn s (valueSpan h)) o
 
     abbrev Kept : Type 0
     Kept = (decided .store ≡ none → decided .head ≡ t .head) × ((d : Doc) → decided .store ≡ some d → 1 ≤ h .keylen)
 
     kept : Kept
-    kept = decide-keeps (t .head) (findRow (t .rows) key) (ltb 0 (freeRows (t .rows))) clock (requestOf s h) (h .keylen) (command-right s y h o .1)
+    kept = decide-keeps (t .head) (findRow (t .rows) key) (ltb 0 (freeRows (t .rows))) clock (requestOf (config .forcing) s h) (h .keylen) (command-right (config .forcing) s y h o .1)
 
     -- the same, of the decision
     abbrev At : Effect → Type 0
@@ -116,8 +116,8 @@ module _ (t : Table) (clock : ℕ) (s : List ℕ) (h : Header) where
             cas-most = q .marked;
           } in
           let free : findRow (t .rows) key ≡ none → 0 < freeRows (t .rows) = λ n.
-          ltb-true 0 (freeRows (t .rows)) (stores-with-room (t .head) (ltb 0 (freeRows (t .rows))) clock (requestOf s h) d
-          (ap (λ (x : Option Doc). decide (t .head) x (ltb 0 (freeRows (t .rows))) clock (requestOf s h) .store) (sym n) ∙ e)) in
+          ltb-true 0 (freeRows (t .rows)) (stores-with-room (t .head) (ltb 0 (freeRows (t .rows))) clock (requestOf (config .forcing) s h) d
+          (ap (λ (x : Option Doc). decide (t .head) x (ltb 0 (freeRows (t .rows))) clock (requestOf (config .forcing) s h) .store) (sym n) ∙ e)) in
           (fine, (sound .head, (sound .grows, (sound .fits, free)))),
     )
 
@@ -129,23 +129,23 @@ module _ (t : Table) (clock : ℕ) (s : List ℕ) (h : Header) where
           stores = λ d e. let q = p .1 d e in record { entry = q .0; head = q .1 .0; grows = q .1 .1 .0; fits = q .1 .1 .1 .0; room = q .1 .1 .1 .1 };
         }
 
-pub changing : (t : Table) (clock : ℕ) (s : List ℕ) (h : Header) → Good t → Bytes s → 24 + h .body ≤ length s → Changing t clock s h
-changing t clock s h g y w = cases (reachesDecision (frameStatus s h)) (went t clock s h g y w) (refused t clock s h)
+pub changing : (config : Config) (t : Table) (clock : ℕ) (s : List ℕ) (h : Header) → Good t → Bytes s → 24 + h .body ≤ length s → Changing config t clock s h
+changing config t clock s h g y w = cases (reachesDecision s h) (went config t clock s h g y w) (refused config t clock s h)
 
 -- "A non-zero status changes no table byte"
-pub unchanged : (config : Config) (t : Table) (clock : ℕ) (s : List ℕ) (h : Header) → frameEffect t clock s h .store ≡ none → frameEffect t clock s h .head ≡ t .head
+pub unchanged : (config : Config) (t : Table) (clock : ℕ) (s : List ℕ) (h : Header) → frameEffect config t clock s h .store ≡ none → frameEffect config t clock s h .head ≡ t .head
     → frameChange config t clock s h ≡ t
 unchanged config t clock s h e f = λ i. record { head = f i; rows = storeRow (engineOf config) (t .rows) (bytesIn s (keySpan h)) (e i) }
 
 -- what a frame stores is put in the table with its new head
-module _ (config : Config) (t : Table) (clock : ℕ) (s : List ℕ) (h : Header) (g : GoodBy config t) (d : Doc) (q : Storing t clock s h d) where
+module _ (config : Config) (t : Table) (clock : ℕ) (s : List ℕ) (h : Header) (g : GoodBy config t) (d : Doc) (q : Storing config t clock s h d) where
   abbrev pub raised : Table
-  raised = record { head = frameEffect t clock s h .head; rows = t .rows }
+  raised = record { head = frameEffect config t clock s h .head; rows = t .rows }
 
   pub raised-good : GoodBy config raised
   raised-good =
       subst (λ (x : Head). GoodBy config (record { head = x; rows = t .rows })) (sym (q .head))
-      (head-good-by config t (frameEffect t clock s h .head .mark .0) g (q .grows) (q .fits))
+      (head-good-by config t (frameEffect config t clock s h .head .mark .0) g (q .grows) (q .fits))
 
   put-good : GoodBy config (record { head = raised .head; rows = engineOf config .put (t .rows) (bytesIn s (keySpan h)) d })
   put-good = put-good-by config raised (bytesIn s (keySpan h)) d raised-good (q .entry) (q .room)
@@ -154,8 +154,8 @@ module _ (config : Config) (t : Table) (clock : ℕ) (s : List ℕ) (h : Header)
 pub change-good : (config : Config) (t : Table) (clock : ℕ) (s : List ℕ) (h : Header) → GoodBy config t → Bytes s → 24 + h .body ≤ length s
     → GoodBy config (frameChange config t clock s h)
 change-good config t clock s h g y w =
-    let c = changing t clock s h (g .good) y w in
-    let x = frameEffect t clock s h in
+    let c = changing config t clock s h (g .good) y w in
+    let x = frameEffect config t clock s h in
     options (x .store)
     (λ e. subst (GoodBy config) (sym (unchanged config t clock s h e (c .keeps e))) g)
     (λ d e.

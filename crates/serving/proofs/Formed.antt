@@ -1,4 +1,4 @@
--- A frame that the reader's rules let pass, save a value over 1,024 bytes, asks for a command whose form is right.
+-- A frame that keeps the rules of statuses 1 and 2 asks for a command whose form is right.
 use Prim.Native.Nat.{ℕ, _+_, _-_, _≤_}
 use mathlib.Core.Path.{_≡_, refl}
 use mathlib.Core.Bool.{Bool, true, false, cond, _&&_, _||_, or-false}
@@ -8,19 +8,19 @@ use lib.ListN.{length}
 use lib.Dec.{leb, eqb}
 use borrow.Author.Tests.{eqb-true, leb-true}
 use Rattle.octets.specs.Parts.{Bytes}
-use Rattle.octets.proofs.Choices.{cases, both}
+use Rattle.octets.proofs.Choices.{both}
 use Rattle.octets.proofs.Lists.{bytes-part}
 use Rattle.octets.proofs.Numbers.{num-below}
 use Rattle.shape.specs.declared.Shape.{Shape}
 use Rattle.shape.specs.Shapes.{commands, shapeOf}
-use Rattle.shape.proofs.ShapeLaws.{each-shape, any-shape}
+use Rattle.shape.proofs.ShapeLaws.{each-shape}
 use Rattle.header.specs.declared.Header.{Header}
 use Rattle.with_meta.specs.declared.WithMeta.{WithMeta}
 use Rattle.with_meta.specs.WithMeta.{withMeta}
 use Rattle.with_meta.proofs.Layouts.{carried-fits}
 use Rattle.with_meta.specs.FieldRules.{numbersOk, bodyOk, withMetaOk}
-use Rattle.rules.specs.Rules.{formOk, extrasOk, keyOk, countOk, fieldRulesOk, judged, status}
-use Rattle.rules.proofs.RuleLaws.{formed}
+use Rattle.rules.specs.Rules.{formOk, extrasOk, keyOk, countOk, fieldRulesOk, status}
+use Rattle.rules.proofs.RuleLaws.{formed, field-rules, judged-keeps}
 use Rattle.request.specs.Reading.{extrasSpan, valueSpan, bytesIn, frameStatus}
 use Rattle.commands.specs.declared.Kind.{Kind}
 use Rattle.commands.specs.declared.Kind.the-variants.{Set, Add, Replace}
@@ -41,6 +41,11 @@ pub by-cond {ℓ ℓ′} : {A : Type ℓ} (P : A → Type ℓ′) (b : Bool) (x 
 by-cond P true x y f g = f refl
 by-cond P false x y f g = g refl
 
+-- a frame with the reader's status 0 goes on
+pub zero-reaches : (s : List ℕ) (h : Header) → frameStatus s h ≡ 0 → reachesDecision s h ≡ true
+unfolding frameStatus status
+zero-reaches s h e = judged-keeps (shapeOf (h .opcode)) h (bytesIn s (extrasSpan h)) (bytesIn s (valueSpan h)) e
+
 -- a command that writes has a key, of n bytes
 abbrev pub Named : ℕ → Command → Type 0
 Named n (Get k) = Unit {0}
@@ -53,23 +58,6 @@ Named n (Metas w) = 1 ≤ n
 Named n (GetKeys k) = Unit {0}
 Named n (Join side) = 1 ≤ n
 Named n (Touch t) = 1 ≤ n
-
--- ---- an opcode whose status lets the frame go on is built
-abbrev Built : Shape → Type 0
-Built s = reachesDecision (s .status) ≡ true → s .status ≡ 0
-
-built : (op : ℕ) → Built (shapeOf op)
-built op = any-shape Built op (λ o f q e. refl) (λ e. no e) (λ e. no e)
-
-judged-built : (s : Shape) (h : Header) (extras value : List ℕ) → Built s → reachesDecision (judged s h extras value) ≡ true → s .status ≡ 0
-unfolding judged
-judged-built s h extras value b e = cases (eqb (s .status) 0) (λ t. eqb-true (s .status) 0 t) (λ t. b (rw t at e))
-
--- ---- a frame that goes on breaks no field rule
-judged-fields : (s : Shape) (h : Header) (extras value : List ℕ) → formOk s h ≡ true → s .status ≡ 0 → reachesDecision (judged s h extras value) ≡ true → fieldRulesOk s extras value ≡ true
-unfolding judged
-judged-fields s h extras value f z e =
-    cases (fieldRulesOk s extras value) (λ t. t) (λ t. no (rw (z, f, t) at e))
 
 -- ---- what the rules say, by parts
 key-least : (key n : ℕ) → key ≡ 1 → keyOk key n ≡ true → 1 ≤ n
@@ -112,7 +100,7 @@ form-parts s h e =
     let d = both (keyOk (s .key) (h .keylen)) _ (c .1) in
     record { inside = leb-true (h .extlen + h .keylen) (h .body) (b .0); extras = c .0; key = d .0 }
 
-module _ (s : List ℕ) (y : Bytes s) (h : Header) (g : reachesDecision (frameStatus s h) ≡ true) where
+module _ (forcing : Bool) (s : List ℕ) (y : Bytes s) (h : Header) (g : reachesDecision s h ≡ true) where
   abbrev extras : List ℕ
   extras = bytesIn s (extrasSpan h)
 
@@ -123,15 +111,13 @@ module _ (s : List ℕ) (y : Bytes s) (h : Header) (g : reachesDecision (frameSt
   op = h .opcode
 
   form-ok : formOk (shapeOf op) h ≡ true
-  unfolding frameStatus
-  form-ok = formed h extras value g
+  form-ok = formed (shapeOf op) h extras value g
 
   pub form : Form (shapeOf op) h
   form = form-parts (shapeOf op) h form-ok
 
   fields : fieldRulesOk (shapeOf op) extras value ≡ true
-  unfolding frameStatus status
-  fields = judged-fields (shapeOf op) h extras value form-ok (judged-built (shapeOf op) h extras value (built op) g) g
+  fields = field-rules (shapeOf op) h extras value g
 
   bytes : Bytes extras
   unfolding extrasSpan
@@ -174,7 +160,7 @@ module _ (s : List ℕ) (y : Bytes s) (h : Header) (g : reachesDecision (frameSt
       → Form x h → fieldRulesOk x extras value ≡ true → Right (metaCommand k (withMeta extras))
   carries k x p z d f r = meta-right k (x .meta) (key-there x p f) (meta-ok x extras value (x .meta) refl z r) d
 
-  pub command-right : Formed (requestOf s h .command) × Named (h .keylen) (requestOf s h .command)
+  pub command-right : Formed (requestOf forcing s h .command) × Named (h .keylen) (requestOf forcing s h .command)
   unfolding requestOf commandOf commands
   command-right =
       each-shape Kept op (

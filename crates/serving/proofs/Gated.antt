@@ -30,8 +30,8 @@ was-open config b s n h e =
     (λ u z. record { undamaged = not-false (soundBy config b) t; roomy = ltb-false _ _ u; frame = whole-frame s h z }))
 
 -- a refused call leaves the table and the reply area as they are
-stopped : (config : Config) (b : List ℕ) (clock : ℕ) (s out : List ℕ) (n need : ℕ) (g : Gate) → answerBy b clock s g ≡ Refused n need
-    → (tableBy config b clock s g ≡ b) × (replyBy b clock s out g ≡ out)
+stopped : (config : Config) (b : List ℕ) (clock : ℕ) (s out : List ℕ) (n need : ℕ) (g : Gate) → answerBy config b clock s g ≡ Refused n need
+    → (tableBy config b clock s g ≡ b) × (replyBy config b clock s out g ≡ out)
 stopped config b clock s out n need (Stop m more) e = (refl, refl)
 stopped config b clock s out n need (Whole h) e = absurd (let z : _≡_ {A = ℕ} 0 1 = cc in omega arith)
 

@@ -18,6 +18,6 @@ pub record Serves (config : Config) (b : List ℕ) (clock : ℕ) (s out : List �
 
 -- a call that found no outcome against it, with the header of its whole frame
 pub record ServesFrame (config : Config) (b : List ℕ) (clock : ℕ) (s : List ℕ) (h : Header) (out : List ℕ) (r : Served) (b′ out′ : List ℕ) : Type 0 where
-  pub answer : r ≡ answerBy b clock s (Whole h)
+  pub answer : r ≡ answerBy config b clock s (Whole h)
   pub table : b′ ≡ frameTable config b clock s h
-  pub reply : out′ ≡ written out 0 (frameReply b clock s h)
+  pub reply : out′ ≡ written out 0 (frameReply config b clock s h)

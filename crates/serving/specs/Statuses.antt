@@ -11,21 +11,21 @@ use Rattle.request.specs.Reading.{bytesIn, extrasSpan, keySpan, valueSpan}
 use Rattle.commands.specs.declared.Tests.{Tests}
 use Rattle.commands.specs.Rules.{Check, _⇒_, firstFailure, ruleOf, testsOf}
 use Rattle.decision.specs.Decide.{instructionOf}
-use Rattle.decode.specs.Decode.{requestOf}
+use Rattle.engine.specs.declared.Config.{Config}
 use Rattle.rows.specs.Table.{Table}
 use Rattle.rows.specs.Find.{findRow}
-use Rattle.serving.specs.Serve.{contextOn, decisionOn}
+use Rattle.serving.specs.Serve.{contextOn, askedOf, decisionOn}
 
 -- the tests of the command that a frame asks for, on its key's document in a table
-abbrev pub testsOn : Table → ℕ → List ℕ → Header → Tests
-testsOn t clock s h =
+abbrev pub testsOn : Config → Table → ℕ → List ℕ → Header → Tests
+testsOn config t clock s h =
     let seen = contextOn t clock (findRow (t .rows) (bytesIn s (keySpan h))) in
-    testsOf seen (instructionOf (requestOf s h)) (ruleOf seen (requestOf s h .command))
+    testsOf seen (instructionOf (askedOf config s h)) (ruleOf seen (askedOf config s h .command))
 
-abbrev pub statuses : Table → ℕ → List ℕ → Header → List Check
-statuses t clock s h =
+abbrev pub statuses : Config → Table → ℕ → List ℕ → Header → List Check
+statuses config t clock s h =
     let shape = shapeOf (h .opcode) in
-    let command = testsOn t clock s h in
+    let command = testsOn config t clock s h in
     -- "0x83: opcodes (hexadecimal) 07, 08, 0e, 0f, 10, 17 to 1a."; order 4: "0x83 loses 0e, 0f, 19 and 1a from its list."
     eqb (shape .status) 0x83 ⇒ 0x83
     -- "0x81: every other opcode not in the next section."
@@ -36,9 +36,11 @@ statuses t clock s h =
     ∷ not (fieldRulesOk shape (bytesIn s (extrasSpan h)) (bytesIn s (valueSpan h))) ⇒ 0x04
     -- and those that need mode or clock: "option 0x02 missing in last-write-wins or set in revision mode"; "0x04 if that passes 2^32 - 1"
     ∷ command .fault ⇒ 0x04
+    -- order 9: "A with-meta request with option 0x01 now gets 0x83, tested right after the 0x04 rules"
+    ∷ command .unsupported ⇒ 0x83
     -- "0x03: value over 1,024, extended meta not counted."
     ∷ command .long ⇒ 0x03
-    -- "0x07: other vbucket number, or state not active (with-meta with option 0x01 also passes in states 2 and 3). Noop and Version skip this."
+    -- "0x07: other vbucket number, or state not active [..]. Noop and Version skip this."; order 9: "Replica and pending tables now take no write"
     ∷ command .elsewhere ⇒ 0x07
     -- order 4, of append and prepend: "not live is 0x05, whatever the header CAS"
     ∷ command .unstored ⇒ 0x05
@@ -56,4 +58,4 @@ statuses t clock s h =
     ∷ []
 
 abbrev pub StatusesInOrder : Type 0
-StatusesInOrder = (t : Table) (clock : ℕ) (s : List ℕ) (h : Header) → firstFailure (statuses t clock s h) ≡ decisionOn t clock s h .status
+StatusesInOrder = (config : Config) (t : Table) (clock : ℕ) (s : List ℕ) (h : Header) → firstFailure (statuses config t clock s h) ≡ decisionOn config t clock s h .status

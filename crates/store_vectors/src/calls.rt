@@ -10,6 +10,7 @@ use numbers::Cas;
 use numbers::Left;
 use numbers::Numbers;
 use numbers::Revision;
+use owning::Activated;
 use owning::Document;
 use owning::Purged;
 use table::Lookup;
@@ -95,6 +96,15 @@ pub(crate) fn purge(config: Config, g: Given, s: &mut [u8]) {
     match p {
         Purged::Damaged => show::text(b"outcome 5"),
         Purged::Freed(k) => show::decimal(b"freed ", k as u64),
+    }
+}
+
+pub(crate) fn activate(config: Config, s: &mut [u8]) {
+    let a = owner::activate(config, s);
+    match a {
+        Activated::Damaged => show::text(b"outcome 5"),
+        Activated::Dead => show::text(b"status 07"),
+        Activated::Active => show::text(b"outcome 0"),
     }
 }
 

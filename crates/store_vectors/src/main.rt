@@ -17,6 +17,7 @@
 //                     reads a document, with the seconds that are left to it
 //     purge CLOCK BOUND
 //                     purges the table
+//     activate        makes the table active
 //     room N          the reply area is N bytes from now on
 //     serve CLOCK / BYTES
 //                     serves the frame at the start of the bytes: outcome and bytes needed, or status, bytes consumed, reply length and
@@ -118,6 +119,10 @@ fn is_bare_call(config: Config, word: &[u8], g: Given, s: &mut [u8]) -> bool {
     }
     if compare::same(word, b"purge") & (g.count == 2) {
         calls::purge(config, g, s);
+        return true;
+    }
+    if compare::same(word, b"activate") & (g.count == 0) {
+        calls::activate(config, s);
         return true;
     }
     false

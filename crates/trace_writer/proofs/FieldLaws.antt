@@ -4,13 +4,13 @@ use Prim.Native.Nat.{ℕ, _+_, _≤_, _<_}
 use mathlib.Core.Path.{_≡_, sym, ap, _∙_}
 use mathlib.Core.Bool.{Bool, true, false, not, cond}
 use borrow.Author.Tests.{leb-true, leb-false, not-true, not-false}
-use mathlib.Core.List.{List, [], _++_}
+use mathlib.Core.List.{List, [], _∷_, _++_}
 use lib.ListN.{length, length-append}
 use lib.Dec.{leb, eqb}
 use Rattle.octets.specs.BigEndian.{bytesOf}
 use Rattle.octets.proofs.Choices.{cases}
 use Rattle.octets.proofs.Numbers.{length-bytes}
-use Rattle.trace_writer.specs.Writing.{openingBytes, fieldBytes, clockFields, frameFields}
+use Rattle.trace_writer.specs.Writing.{fieldBytes, ruleByte, ruleField, openingBytes, clockFields, frameFields}
 
 module _ (room a b c : ℕ) (r : Bool) (e : r ≡ leb (a + b + c) room) where
   pub has-room : not r ≡ false → a + b + c ≤ room
@@ -19,13 +19,18 @@ module _ (room a b c : ℕ) (r : Bool) (e : r ≡ leb (a + b + c) room) where
   pub no-room : not r ≡ true → room < a + b + c
   no-room t = leb-false (a + b + c) room (sym e ∙ not-true r t)
 
-pub length-opening : (mode vbucket : ℕ) → length (openingBytes mode vbucket) ≡ 3
-unfolding openingBytes
-length-opening mode vbucket = rw (length-append, length-bytes, length-bytes)
-
 pub length-field : (tag : ℕ) (xs : List ℕ) → length (fieldBytes tag xs) ≡ 3 + length xs
 unfolding fieldBytes
 length-field tag xs = simp (length-append, length-bytes) (omega arith)
+
+pub length-rule : (forcing : Bool) → length (ruleField forcing) ≡ 4
+length-rule forcing = length-field 5 (ruleByte forcing ∷ [])
+
+pub length-opening : (mode vbucket : ℕ) → length (openingBytes mode vbucket) ≡ 7
+unfolding openingBytes
+length-opening mode vbucket =
+    let rest = bytesOf 2 vbucket ++ ruleField false in
+    omega (arith, length-append (bytesOf 1 mode) rest, length-append (bytesOf 2 vbucket) (ruleField false), length-bytes 1 mode, length-bytes 2 vbucket, length-rule false)
 
 pub clock-same : (last clock : ℕ) → eqb clock last ≡ true → clockFields last clock ≡ []
 unfolding clockFields

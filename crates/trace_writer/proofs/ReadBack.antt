@@ -2,8 +2,8 @@
 use native.Mathlib.Omega.{arith}
 use Prim.Native.Nat.{ℕ, zero, suc, _+_, _^_, _≤_, _<_}
 use mathlib.Core.Path.{_≡_, refl, sym, ap, _∙_}
-use mathlib.Core.Bool.{true, false, cond, _||_}
-use mathlib.Core.List.{List, _++_}
+use mathlib.Core.Bool.{Bool, true, false, cond, _||_}
+use mathlib.Core.List.{List, [], _∷_, _++_}
 use lib.ListN.{length, take, drop, length-append}
 use lib.Seq.{take-at, drop-at}
 use lib.Dec.{ltb, eqb}
@@ -14,10 +14,10 @@ use Rattle.octets.proofs.Numbers.{length-bytes, be-bytes}
 use Rattle.trace.specs.declared.Opening.{Opening}
 use Rattle.trace.specs.declared.Opening.the-variants.{Opened}
 use Rattle.trace.specs.declared.Field.{Field}
-use Rattle.trace.specs.declared.Field.the-variants.{Clock, Frame, Reply, Purge}
-use Rattle.trace.specs.Trace.{lengthIn, bytesHeld, openingOf, fieldBy, fieldOf}
-use Rattle.trace_writer.specs.Writing.{openingBytes, fieldBytes}
-use Rattle.trace_writer.specs.Claims.{FieldBack, ClockBack, FrameBack, ReplyBack, PurgeBack, OpeningBack}
+use Rattle.trace.specs.declared.Field.the-variants.{Clock, Frame, Reply, Purge, Rule}
+use Rattle.trace.specs.Trace.{lengthIn, bytesHeld, openingOf, fieldBy, fieldOf, forcingBy, forcingIn}
+use Rattle.trace_writer.specs.Writing.{fieldBytes, ruleByte, ruleField, openingBytes}
+use Rattle.trace_writer.specs.Claims.{FieldBack, ClockBack, FrameBack, ReplyBack, PurgeBack, RuleBack, OpensBack, OpeningBack}
 use Rattle.trace_writer.proofs.FieldLaws.{length-opening, length-field}
 
 -- a field of which all bytes are there
@@ -74,6 +74,14 @@ pub reply-back : ReplyBack
 unfolding fieldBy
 reply-back reply rest h = field-by 3 reply rest (omega arith) h (Reply (length reply)) refl
 
+rule-by : (forcing : Bool) (rest : List ℕ) → fieldBy 5 1 (ruleField forcing ++ rest) ≡ Rule forcing
+unfolding fieldBy fieldBytes bytesOf be beFrom
+rule-by true rest = refl
+rule-by false rest = refl
+
+pub rule-back : RuleBack
+rule-back forcing rest = field-by 5 (ruleByte forcing ∷ []) rest (omega arith) (omega arith) (Rule forcing) (rule-by forcing rest)
+
 opened : (s : List ℕ) (mode vbucket : ℕ) → num s 0 1 ≡ mode → num s 1 2 ≡ vbucket → (eqb mode 1 || eqb mode 2) ≡ true → 3 ≤ length s → length s ≤ 65536
     → openingOf s ≡ Opened mode vbucket
 unfolding openingOf
@@ -85,7 +93,7 @@ is-mode (suc zero) h k = refl
 is-mode (suc (suc zero)) h k = refl
 is-mode (suc (suc (suc n))) h k = absurd (omega (arith, k))
 
-module _ (mode vbucket : ℕ) (rest : List ℕ) (a : 1 ≤ mode) (b : mode ≤ 2) (v : vbucket < 65536) (l : length rest ≤ 65533) where
+module _ (mode vbucket : ℕ) (rest : List ℕ) (a : 1 ≤ mode) (b : mode ≤ 2) (v : vbucket < 65536) (l : length rest ≤ 65529) where
   abbrev trace : List ℕ
   trace = openingBytes mode vbucket ++ rest
 
@@ -97,14 +105,20 @@ module _ (mode vbucket : ℕ) (rest : List ℕ) (a : 1 ≤ mode) (b : mode ≤ 2
   unfolding openingBytes bytesOf be beFrom
   vbucket-back = omega (arith, v)
 
-  size : length trace ≡ 3 + length rest
+  size : length trace ≡ 7 + length rest
   size = omega (arith, length-append (openingBytes mode vbucket) rest, length-opening mode vbucket)
 
-  opens : (openingOf trace ≡ Opened mode vbucket) × (drop 3 trace ≡ rest)
-  opens = (
-    opened trace mode vbucket mode-back vbucket-back (is-mode mode a b) (omega (arith, size)) (omega (arith, size, l)),
-    drop-at (openingBytes mode vbucket) rest 3 (length-opening mode vbucket),
-  )
+  fields : drop 3 trace ≡ ruleField false ++ rest
+  unfolding openingBytes bytesOf
+  fields = refl
+
+  pub opens : OpensBack mode vbucket rest trace
+  unfolding forcingIn
+  opens = record {
+    opening = opened trace mode vbucket mode-back vbucket-back (is-mode mode a b) (omega (arith, size)) (omega (arith, size, l));
+    fields = fields;
+    forcing = ap (λ (s : List ℕ). forcingBy (fieldOf s)) fields ∙ ap forcingBy (rule-back false rest .field);
+  }
 
 pub opening-back : OpeningBack
 opening-back mode vbucket rest a b v l = opens mode vbucket rest a b v l

@@ -14,6 +14,14 @@ const FRAME: u8 = 2;
 
 const REPLY: u8 = 3;
 
+const RULE: u8 = 5;
+
+// The rule of force that is recorded: the new one, by which it isn't taken.
+const RETIRED: u8 = 2;
+
+// The bytes that a recorded trace begins with: its opening, and its rule as the first field.
+pub const BEGINNING: usize = OPENING + FRONT + 1;
+
 // Whether so much room has three lengths, one after another.
 fn fits(room: usize, a: usize, b: usize, c: usize) -> bool
     ensures { λ r. ⌜ r ≡ leb (a + b + c) room ⌝ }
@@ -27,15 +35,16 @@ fn fits(room: usize, a: usize, b: usize, c: usize) -> bool
     c <= room - a - b
 }
 
-// Writes how a trace opens, at the start.
+// Writes how a trace opens, and its rule of force, at the start.
 pub fn put_opening(out: &mut [u8], mode: u8, vbucket: u16)
     ensures { λ _. ⌜ now (out .exit) ≡ written (now (out .entry)) 0 (openingBytes mode vbucket) ⌝ }
 {
-    if out.len() < OPENING {
+    if out.len() < BEGINNING {
         return;
     }
     octet_writer::put_be(out, 0, 1, mode as u64);
     octet_writer::put_be(out, 1, 2, vbucket as u64);
+    put_field(out, OPENING, RULE, &[RETIRED]);
 }
 
 // Writes a field that holds these bytes. Of their number only the two lowest bytes stand in it, so they are under 65,536 where

@@ -21,9 +21,11 @@ use Rattle.serving.specs.declared.Served.{Served}
 use Rattle.serving.specs.Serve.{gateAll, served, servedTable}
 use Rattle.trace.specs.declared.Opening.the-variants.{Broken as NotOpened}
 use Rattle.trace.specs.declared.Field.{Field}
-use Rattle.trace.specs.declared.Field.the-variants.{Clock, Frame, Reply, Purge, Broken}
+use Rattle.trace.specs.declared.Field.the-variants.{Clock, Frame, Reply, Purge, Rule, Broken}
 use Rattle.trace.specs.Trace.{Placed, openingOf, fieldsIn}
-use Rattle.replay.specs.Replay.{Voyage, isOneFrame, replyFor, sentReply, onField, onTurn, After, walked, replayed}
+use Rattle.replay.specs.Replay.{Voyage, isOneFrame, replyFor, sentReply, onField, onTurn, After, walked, ruledBy, replayed}
+use Rattle.engines.specs.Damage.{soundBy}
+use Rattle.agreement.specs.Agreement.{SameTable}
 use Rattle.agreement.proofs.Twins.{Twin, Twins, twins, by-tables, same-table, fresh-twin}
 use Rattle.agreement.proofs.Frames.{gate-alike, reply-alike, serve-alike}
 use Rattle.agreement.proofs.Owning.{purge-alike}
@@ -38,6 +40,7 @@ Short (Clock n) = n < 2 ^ 32
 Short (Frame len) = Unit {0}
 Short (Reply len) = Unit {0}
 Short (Purge bound) = Unit {0}
+Short (Rule forcing) = Unit {0}
 Short Broken = Unit {0}
 
 abbrev AllShort : List Placed → Type 0
@@ -50,6 +53,7 @@ module _ (trace : List ℕ) (y : Bytes trace) where
   short at (Frame len) s = tt
   short at (Reply len) s = tt
   short at (Purge bound) s = tt
+  short at (Rule forcing) s = tt
   short at Broken s = tt
 
   all-short : (at : ℕ) (ps : List Placed) → SpeltFrom trace at ps → AllShort ps
@@ -63,7 +67,7 @@ module _ (trace : List ℕ) (y : Bytes trace) where
 
 -- ---- a frame's reply
 module _ (config other : Config) (clock : ℕ) (s : List ℕ) (y : Bytes s) (l : clock < 2 ^ 32) where
-  by-gate : (t u : Table) (w : Twin config other t u) (g : Gate) → replyFor (tableBytes t) clock s g ≡ replyFor (tableBytes u) clock s g
+  by-gate : (t u : Table) (w : Twin config other t u) (g : Gate) → replyFor config (tableBytes t) clock s g ≡ replyFor other (tableBytes u) clock s g
   by-gate t u w (Stop n need) = refl
   by-gate t u w (Whole h) = reply-alike config other t u w clock s y l h
 
@@ -71,7 +75,7 @@ module _ (config other : Config) (clock : ℕ) (s : List ℕ) (y : Bytes s) (l :
   unfolding sentReply
   sent-alike b c w =
       by-tables config other b c w (λ x z. sentReply config x clock s ≡ sentReply other z clock s)
-      (λ t u v. by-gate t u v (gateAll config (tableBytes t) 1302 s) ∙ ap (replyFor (tableBytes u) clock s) (gate-alike config other t u v clock s y l 1302))
+      (λ t u v. by-gate t u v (gateAll config (tableBytes t) 1302 s) ∙ ap (replyFor other (tableBytes u) clock s) (gate-alike config other t u v clock s y l 1302))
 
 -- ---- one field more
 record EndsAlike (config other : Config) (x y : After) : Type 0 where
@@ -114,6 +118,7 @@ module _ (config other : Config) (ps : List Placed) (rest : WalksAlike config ot
         cases (eqb frames 0) (λ t. rw t (record { answer = refl; tables = w }))
         (λ t. cases (same bytes reply) (λ u. rw (t, u) (rest b c w clock frames reply l)) (λ u. rw (t, u) (record { answer = refl; tables = w })))
     turn (Purge bound) k = rest _ _ (purge-alike config other b c w clock (bound .0) l .tables) clock frames reply l
+    turn (Rule forcing) k = rest b c w clock frames reply l
     turn Broken k = record { answer = refl; tables = w }
 
 walks-alike : (config other : Config) (ps : List Placed) → AllShort ps → WalksAlike config other ps
@@ -127,17 +132,36 @@ mode-range n (inl e) = (omega (arith, e), omega (arith, e))
 mode-range n (inr e) = (omega (arith, e), omega (arith, e))
 
 module _ (config other : Config) (b trace : List ℕ) (y : Bytes trace) where
-  opened : length b ≡ 42000 → WellOpened trace → EndsAlike config other (replayed config b trace) (replayed other b trace)
+  abbrev ruled : Config
+  ruled = ruledBy config trace
+
+  abbrev other-ruled : Config
+  other-ruled = ruledBy other trace
+
+  -- the trace has one rule of force for both
+  opened : length b ≡ 42000 → WellOpened trace → EndsAlike ruled other-ruled (replayed config b trace) (replayed other b trace)
   unfolding replayed
   opened n o =
       let mode = num trace 0 1 in
       let vbucket = num trace 1 2 in
       let t = fresh 32 1 mode vbucket in
       let state : (1 ≤ 1) × (1 ≤ 4) = (omega arith, omega arith) in
-      let w = fresh-twin config other 32 1 mode vbucket (omega arith) (omega arith) state (mode-range mode (o .mode)) (num-below trace 1 2 y) in
+      let w = fresh-twin ruled other-ruled refl 32 1 mode vbucket (omega arith) (omega arith) state (mode-range mode (o .mode)) (num-below trace 1 2 y) in
       let fields = all-short trace y 3 (fieldsIn trace) (fields-spelt trace) in
       rw (eq-eqb (length b) 42000 n, opening-read trace o)
-      (walks-alike config other (fieldsIn trace) fields (tableBytes t) (tableBytes t) (twins config other t t w) 0 0 [] (omega arith))
+      (walks-alike ruled other-ruled (fieldsIn trace) fields (tableBytes t) (tableBytes t) (twins ruled other-ruled t t w) 0 0 [] (omega arith))
+
+  -- which tables are the same doesn't depend on a rule of force
+  by-engine : (x z : List ℕ) → SameTable ruled other-ruled x z → SameTable config other x z
+  unfolding soundBy
+  by-engine x z w = record {
+    documents = w .documents;
+    head = w .head;
+    size = w .size;
+    free = w .free;
+    undamaged = w .undamaged;
+    other-undamaged = w .other-undamaged;
+  }
 
   answer-alike : length b ≡ 42000 → WellOpened trace ⊎ (openingOf trace ≡ NotOpened) → replayed config b trace .answer ≡ replayed other b trace .answer
   answer-alike n (inl o) = opened n o .answer
@@ -149,5 +173,6 @@ replays-alike config other b trace y = record {
       cases (eqb (length b) 42000) (λ t. answer-alike config other b trace y (eqb-true _ _ t) (opened-or-not trace))
       (λ t. let f = eqb-false (length b) 42000 t in
       other-size-refused config b trace f .0 ∙ sym (other-size-refused other b trace f .0));
-  tables = λ n o. same-table config other (replayed config b trace .table) (replayed other b trace .table) (opened config other b trace y n o .tables);
+  tables = λ n o. by-engine config other b trace y (replayed config b trace .table) (replayed other b trace .table)
+      (same-table (ruledBy config trace) (ruledBy other trace) (replayed config b trace .table) (replayed other b trace .table) (opened config other b trace y n o .tables));
 }

@@ -1,4 +1,6 @@
 pub mod Serving
 pub mod Spelling
+pub mod Forcing
 pub mod Recorded
+pub mod OldField
 pub mod Alike

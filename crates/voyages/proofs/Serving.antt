@@ -18,16 +18,16 @@ use Rattle.serving.specs.declared.Served.the-variants.{Refused, Done}
 use Rattle.serving.specs.Serve.{served, servedTable}
 use Rattle.trace.specs.declared.Opening.the-variants.{Opened}
 use Rattle.trace.specs.declared.Field.{Field}
-use Rattle.trace.specs.declared.Field.the-variants.{Clock, Frame, Reply, Purge as Purges, Broken}
+use Rattle.trace.specs.declared.Field.the-variants.{Clock, Frame, Reply, Purge as Purges, Rule, Broken}
 use Rattle.trace.specs.Trace.{Placed, openingOf, fieldsIn}
 use Rattle.replay.specs.declared.Ending.{Ending}
 use Rattle.replay.specs.declared.Ending.the-variants.{Differs, Stopped}
-use Rattle.replay.specs.Replay.{Voyage, withClock, withFrame, withPurge, isOneFrame, On, End, onField, onTurn, After, walked, setOut, replayed}
+use Rattle.replay.specs.Replay.{Voyage, withClock, withFrame, withPurge, isOneFrame, On, End, onField, onTurn, After, walked, setOut, ruledBy, replayed}
 use Rattle.replay.proofs.Frames.{was-sent}
 use Rattle.promises.specs.Clock.{TableCall, memoryAfter, tableCalled}
 use Rattle.voyages.specs.Serving.{clockBy, callBy, callsOf, framesBy, framesIn, lastBy, OneFrame, LeadsOn, EndsAt, clockPast, lastAfter, ReplaysAs, SentIsReply}
 
-after-both : (config : Config) (b : List ℕ) (xs ys : List TableCall) → memoryAfter config b (xs ++ ys) ≡ memoryAfter config (memoryAfter config b xs) ys
+pub after-both : (config : Config) (b : List ℕ) (xs ys : List TableCall) → memoryAfter config b (xs ++ ys) ≡ memoryAfter config (memoryAfter config b xs) ys
 after-both config b [] ys = refl
 after-both config b (x ∷ xs) ys = after-both config (tableCalled config b x) xs ys
 
@@ -57,7 +57,7 @@ module _ (config : Config) (b : List ℕ) (clock : ℕ) (last : Option (List ℕ
 
 -- ---- by the field
 -- the last reply is there once a frame was served
-abbrev Agrees : Voyage → Option (List ℕ) → Type 0
+abbrev pub Agrees : Voyage → Option (List ℕ) → Type 0
 Agrees v last = last ≡ cond (eqb (v .frames) 0) none (some (v .reply))
 
 module _ (config : Config) (b : List ℕ) (clock : ℕ) (bytes : List ℕ) (len : ℕ) where
@@ -110,6 +110,7 @@ module _ (config : Config) (v : Voyage) (last : Option (List ℕ)) (a : Agrees v
   turn (Purges bound) =
       further config (v .table) (v .clock) last (v .frames) (field (Purges bound)) ps (walked config (withPurge config (bound .0) v) ps) (v .frames) tt (omega arith)
       (rest (withPurge config (bound .0) v) last a)
+  turn (Rule forcing) = further config (v .table) (v .clock) last (v .frames) (field (Rule forcing)) ps (walked config v ps) (v .frames) tt (omega arith) (rest v last a)
   turn Broken = here Broken (Stopped at) (refl, tt)
 
 replays : (config : Config) (v : Voyage) (last : Option (List ℕ)) (ps : List Placed) → Agrees v last → ReplaysAs config (v .table) (v .clock) last (v .frames) ps (walked config v ps)
@@ -118,10 +119,10 @@ replays config v last (p ∷ ps) a = turn config v last a (p .at) (p .bytes) ps 
 
 -- a trace that has opened
 pub opened-serves : (config : Config) (b trace : List ℕ) (mode vbucket : ℕ) → length b ≡ 42000 → openingOf trace ≡ Opened mode vbucket
-    → ReplaysAs config (tableBytes (fresh 32 1 mode vbucket)) 0 none 0 (fieldsIn trace) (replayed config b trace)
+    → ReplaysAs (ruledBy config trace) (tableBytes (fresh 32 1 mode vbucket)) 0 none 0 (fieldsIn trace) (replayed config b trace)
 unfolding replayed
 opened-serves config b trace mode vbucket n e =
-    rw (eq-eqb (length b) 42000 n, e) (replays config (setOut mode vbucket) none (fieldsIn trace) refl)
+    rw (eq-eqb (length b) 42000 n, e) (replays (ruledBy config trace) (setOut mode vbucket) none (fieldsIn trace) refl)
 
 pub sent-is-reply : (config : Config) → SentIsReply config
 sent-is-reply config b clock s out st used len y n e = sym (was-sent config b clock s out st used len n y e .reply)

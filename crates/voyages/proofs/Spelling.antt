@@ -16,14 +16,14 @@ use Rattle.octets.specs.BigEndian.{be, num}
 use Rattle.octets.proofs.Choices.{cases, both}
 use Rattle.trace.specs.declared.Opening.the-variants.{Broken as NotOpened, Opened}
 use Rattle.trace.specs.declared.Field.{Field}
-use Rattle.trace.specs.declared.Field.the-variants.{Clock, Frame, Reply, Purge, Broken}
-use Rattle.trace.specs.Trace.{Placed, openingOf, lengthIn, bytesHeld, fieldBy, fieldOf, isBroken, placedFrom, fieldsFrom, fieldsIn}
+use Rattle.trace.specs.declared.Field.the-variants.{Clock, Frame, Reply, Purge, Rule, Broken}
+use Rattle.trace.specs.Trace.{Placed, openingOf, lengthIn, bytesHeld, ruleBy, fieldBy, fieldOf, isRule, fieldAt, isBroken, placedFrom, fieldsFrom, fieldsIn}
 use Rattle.trace.proofs.Modes.{mode-known, known-mode}
 use Rattle.replay.specs.declared.Ending.{Ending}
 use Rattle.replay.specs.declared.Ending.the-variants.{Damaged, Differs, Stopped, Replayed}
-use Rattle.replay.specs.Replay.{replayed}
+use Rattle.replay.specs.Replay.{ruledBy, replayed}
 use Rattle.voyages.specs.Serving.{EndsAt}
-use Rattle.voyages.specs.Spelling.{WellOpened, BadOpeningStops, OtherSizeRefused, ReplayServes, saidAt, tagAt, WholeAt, SpeltAt, NextOf, SpeltFrom, FieldsSpelt, EndsWithin, PlacesWithin}
+use Rattle.voyages.specs.Spelling.{WellOpened, BadOpeningStops, OtherSizeRefused, ReplayServes, saidAt, tagAt, WholeAt, RuleAt, SpeltAt, NextOf, SpeltFrom, FieldsSpelt, EndsWithin, PlacesWithin}
 use Rattle.voyages.proofs.Serving.{opened-serves}
 
 -- ---- the opening
@@ -76,13 +76,14 @@ not-both : (a b : Bool) → (a && b) ≡ false → a ≡ true → b ≡ false
 not-both true b e t = e
 not-both false b e t = absurd (false≢true t)
 
-unknown : (n : ℕ) → (n ≡ 1 → ⊥) → (n ≡ 2 → ⊥) → (n ≡ 3 → ⊥) → (n ≡ 4 → ⊥) → (n ≡ 0) ⊎ (4 < n)
-unknown zero a b c d = inl refl
-unknown (suc zero) a b c d = absurd (a refl)
-unknown (suc (suc zero)) a b c d = absurd (b refl)
-unknown (suc (suc (suc zero))) a b c d = absurd (c refl)
-unknown (suc (suc (suc (suc zero)))) a b c d = absurd (d refl)
-unknown (suc (suc (suc (suc (suc n))))) a b c d = inr (omega arith)
+unknown : (n : ℕ) → (n ≡ 1 → ⊥) → (n ≡ 2 → ⊥) → (n ≡ 3 → ⊥) → (n ≡ 4 → ⊥) → (n ≡ 5 → ⊥) → (n ≡ 0) ⊎ (5 < n)
+unknown zero a b c d e = inl refl
+unknown (suc zero) a b c d e = absurd (a refl)
+unknown (suc (suc zero)) a b c d e = absurd (b refl)
+unknown (suc (suc (suc zero))) a b c d e = absurd (c refl)
+unknown (suc (suc (suc (suc zero)))) a b c d e = absurd (d refl)
+unknown (suc (suc (suc (suc (suc zero))))) a b c d e = absurd (e refl)
+unknown (suc (suc (suc (suc (suc (suc n)))))) a b c d e = inr (omega arith)
 
 -- what holds of no fields, and of those that come after a field, holds of all after it
 pub after : (P : List Placed → Type 0) → P [] → (f : Field) (ps : List Placed) (X : Type 0) → (X → P ps) → NextOf f ps X → P ps
@@ -91,6 +92,7 @@ after P end (Clock n) ps X go x = go x
 after P end (Frame len) ps X go x = go x
 after P end (Reply len) ps X go x = go x
 after P end (Purge bound) ps X go x = go x
+after P end (Rule forcing) ps X go x = go x
 
 module _ (trace : List ℕ) where
   module _ (at : ℕ) where
@@ -103,37 +105,78 @@ module _ (trace : List ℕ) where
     said : lengthIn s ≡ saidAt trace at
     said = length-on trace at
 
-    -- no tag of an order, or a clock or a bound of another length
-    refused : (eqb tag 1 && eqb (lengthIn s) 4) ≡ false → eqb tag 2 ≡ false → eqb tag 3 ≡ false → (eqb tag 4 && eqb (lengthIn s) 8) ≡ false → SpeltAt trace at Broken
-    refused t u v w =
+    -- no tag of an order, or a clock, a bound or a rule of another length
+    refused : (eqb tag 1 && eqb (lengthIn s) 4) ≡ false → eqb tag 2 ≡ false → eqb tag 3 ≡ false → (eqb tag 4 && eqb (lengthIn s) 8) ≡ false
+        → (eqb tag 5 && eqb (lengthIn s) 1) ≡ false → SpeltAt trace at Broken
+    refused t u v w x =
         cases (eqb tag 1)
-        (λ x. inr (inr (inl (eqb-true _ _ x, λ n. eqb-false _ _ (not-both (eqb tag 1) (eqb (lengthIn s) 4) t x) (said ∙ n)))))
-        (λ x. cases (eqb tag 4)
-        (λ y. inr (inr (inr (eqb-true _ _ y, λ n. eqb-false _ _ (not-both (eqb tag 4) (eqb (lengthIn s) 8) w y) (said ∙ n)))))
-        (λ y. inr (inl (unknown tag (eqb-false _ _ x) (eqb-false _ _ u) (eqb-false _ _ v) (eqb-false _ _ y)))))
+        (λ y. inr (inr (inl (inl (eqb-true _ _ y, λ n. eqb-false _ _ (not-both (eqb tag 1) (eqb (lengthIn s) 4) t y) (said ∙ n))))))
+        (λ a. cases (eqb tag 4)
+        (λ y. inr (inr (inl (inr (eqb-true _ _ y, λ n. eqb-false _ _ (not-both (eqb tag 4) (eqb (lengthIn s) 8) w y) (said ∙ n))))))
+        (λ d. cases (eqb tag 5)
+        (λ y. inr (inr (inr (record { tag = eqb-true _ _ y; other = λ f r. eqb-false _ _ (not-both (eqb tag 5) (eqb (lengthIn s) 1) x y) (said ∙ r .one) }))))
+        (λ e. inr (inl (unknown tag (eqb-false _ _ a) (eqb-false _ _ u) (eqb-false _ _ v) (eqb-false _ _ d) (eqb-false _ _ e))))))
 
-    by-tag : WholeAt trace at → SpeltAt trace at (fieldBy tag (lengthIn s) s)
+    -- a rule is spelt where it is the first field, and only by tag 5
+    abbrev SpeltFirst : Field → Type 0
+    SpeltFirst f = ((isRule f ≡ true → at ≡ 3) → SpeltAt trace at f) × (isRule f ≡ true → tag ≡ 5)
+
+    other-field : (f : Field) → isRule f ≡ false → SpeltAt trace at f → SpeltFirst f
+    other-field f e x = ((λ y. x), λ t. absurd (false≢true (sym e ∙ t)))
+
+    abbrev byte : ℕ
+    byte = num s 3 1
+
+    byte-on : byte ≡ num trace (at + 3) 1
+    byte-on = ap be (part-on trace at 3 1)
+
+    no-rule : eqb byte 1 ≡ false → eqb byte 2 ≡ false → (forcing : Bool) → RuleAt trace at forcing → ⊥
+    no-rule a b true r = eqb-false _ _ a (byte-on ∙ r .rule)
+    no-rule a b false r = eqb-false _ _ b (byte-on ∙ r .rule)
+
+    by-rule : WholeAt trace at → tag ≡ 5 → saidAt trace at ≡ 1 → SpeltFirst (ruleBy byte)
+    by-rule h t l =
+        cases (eqb byte 1)
+        (λ a. rw a ((λ y. (h, record { first = y refl; tag = t; one = l; rule = sym byte-on ∙ eqb-true _ _ a })), λ y. t))
+        (λ a. cases (eqb byte 2)
+        (λ b. rw (a, b) ((λ y. (h, record { first = y refl; tag = t; one = l; rule = sym byte-on ∙ eqb-true _ _ b })), λ y. t))
+        (λ b. rw (a, b) (other-field Broken refl (inr (inr (inr (record { tag = t; other = no-rule a b })))))))
+
+    by-tag : WholeAt trace at → SpeltFirst (fieldBy tag (lengthIn s) s)
     unfolding fieldBy
     by-tag h =
         cases (eqb tag 1 && eqb (lengthIn s) 4)
         (λ t. let k = both (eqb tag 1) (eqb (lengthIn s) 4) t in
-        rw t (h, (eqb-true _ _ (k .0), (sym said ∙ eqb-true _ _ (k .1), ap be (part-on trace at 3 4)))))
-        (λ t. cases (eqb tag 2) (λ u. rw (t, u) (h, (eqb-true _ _ u, said)))
-        (λ u. cases (eqb tag 3) (λ v. rw (t, u, v) (h, (eqb-true _ _ v, said)))
+        rw t (other-field (Clock (num s 3 4)) refl (h, (eqb-true _ _ (k .0), (sym said ∙ eqb-true _ _ (k .1), ap be (part-on trace at 3 4))))))
+        (λ t. cases (eqb tag 2) (λ u. rw (t, u) (other-field (Frame (lengthIn s)) refl (h, (eqb-true _ _ u, said))))
+        (λ u. cases (eqb tag 3) (λ v. rw (t, u, v) (other-field (Reply (lengthIn s)) refl (h, (eqb-true _ _ v, said))))
         (λ v. cases (eqb tag 4 && eqb (lengthIn s) 8)
         (λ w. let k = both (eqb tag 4) (eqb (lengthIn s) 8) w in
-        rw (t, u, v, w) (h, (eqb-true _ _ (k .0), (sym said ∙ eqb-true _ _ (k .1), ap be (part-on trace at 3 8)))))
-        (λ w. rw (t, u, v, w) (refused t u v w)))))
+        rw (t, u, v, w) (other-field (Purge (record { 0 = num s 3 8 })) refl (h, (eqb-true _ _ (k .0), (sym said ∙ eqb-true _ _ (k .1), ap be (part-on trace at 3 8))))))
+        (λ w. cases (eqb tag 5 && eqb (lengthIn s) 1)
+        (λ x. let k = both (eqb tag 5) (eqb (lengthIn s) 1) x in
+        rw (t, u, v, w, x) (by-rule h (eqb-true _ _ (k .0)) (sym said ∙ eqb-true _ _ (k .1))))
+        (λ x. rw (t, u, v, w, x) (other-field Broken refl (refused t u v w x)))))))
 
-    spelt : at ≤ length trace → SpeltAt trace at (fieldOf s)
+    pub spelt-first : at ≤ length trace → SpeltFirst (fieldOf s)
     unfolding fieldOf
-    spelt h =
+    spelt-first h =
         let k = length-drop at trace in
         cases (ltb (length s) 3)
-        (λ t. rw t (inl (inl (omega (arith, ltb-true (length s) 3 t, k)))))
+        (λ t. rw t (other-field Broken refl (inl (inl (omega (arith, ltb-true (length s) 3 t, k))))))
         (λ t. cases (ltb (length s) (3 + lengthIn s))
-        (λ u. rw (t, u) (inl (inr (omega (arith, ltb-true (length s) (3 + lengthIn s) u, k, said)))))
+        (λ u. rw (t, u) (other-field Broken refl (inl (inr (omega (arith, ltb-true (length s) (3 + lengthIn s) u, k, said))))))
         (λ u. rw (t, u) (by-tag (omega (arith, ltb-false (length s) (3 + lengthIn s) u, k, said, h)))))
+
+    spelt : at ≤ length trace → SpeltAt trace at (fieldAt at s)
+    unfolding fieldAt
+    spelt h =
+        let w = spelt-first h in
+        cases (eqb at 3)
+        (λ t. rw t (w .0 (λ y. eqb-true _ _ t)))
+        (λ t. cases (isRule (fieldOf s))
+        (λ u. rw (t, u) (inr (inr (inr (record { tag = w .1 u; other = λ f r. eqb-false _ _ t (r .first) })))))
+        (λ u. rw (t, u) (w .0 (λ y. absurd (false≢true (sym u ∙ y))))))
 
   -- ---- one after another
   next : (f : Field) (more : List Placed) (X : List Placed → Type 0) → X more → NextOf f (cond (isBroken f) [] more) (X (cond (isBroken f) [] more))
@@ -142,6 +185,7 @@ module _ (trace : List ℕ) where
   next (Frame len) more X x = x
   next (Reply len) more X x = x
   next (Purge bound) more X x = x
+  next (Rule forcing) more X x = x
 
   spelt-from : (n at : ℕ) (s : List ℕ) → s ≡ drop at trace → length s ≤ n → SpeltFrom trace at (placedFrom n at s)
   unfolding placedFrom
@@ -160,10 +204,10 @@ module _ (trace : List ℕ) where
         (
           refl,
           (
-            subst (λ (z : List ℕ). SpeltAt trace at (fieldOf z)) (sym e) (spelt at (omega (arith, inside))),
+            subst (λ (z : List ℕ). SpeltAt trace at (fieldAt at z)) (sym e) (spelt at (omega (arith, inside))),
             (
               ap bytesHeld e ∙ held-on trace at,
-              next (fieldOf s) more (SpeltFrom trace (at + (3 + saidAt trace at))) (subst (λ (m : ℕ). SpeltFrom trace (at + (3 + m)) more) k all),
+              next (fieldAt at s) more (SpeltFrom trace (at + (3 + saidAt trace at))) (subst (λ (m : ℕ). SpeltFrom trace (at + (3 + m)) more) k all),
             ),
           ),
         ),
@@ -205,4 +249,4 @@ pub places-within : (config : Config) → PlacesWithin config
 places-within config b trace n w =
     let r = replay-serves config b trace n w in
     let all = all-within trace 3 (fieldsIn trace) (omega arith) (fields-spelt trace) in
-    ends-within trace config _ _ _ _ (r .rest) (replayed config b trace .answer) (suffix trace (r .done) (r .rest) (subst (AllWithin trace) (r .split) all)) (r .ends)
+    ends-within trace (ruledBy config trace) _ _ _ _ (r .rest) (replayed config b trace .answer) (suffix trace (r .done) (r .rest) (subst (AllWithin trace) (r .split) all)) (r .ends)

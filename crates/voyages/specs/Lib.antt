@@ -1,4 +1,5 @@
 pub mod Serving
 pub mod Spelling
+pub mod Forcing
 pub mod Recorded
 pub mod Alike

@@ -1,6 +1,7 @@
 -- A trace that was recorded is replayed, with as many frames and to the same table: over any list of frames that were served one after another on a fresh table, each at its clock. Proved in proofs/Recorded.antt.
 use Prim.Native.Nat.{ℕ, _^_, _≤_, _<_}
 use mathlib.Core.Path.{_≡_}
+use mathlib.Core.Bool.{false}
 use mathlib.Core.List.{List, [], _∷_, _++_}
 use lib.ListN.{length, take}
 use Rattle.engine.specs.declared.Config.{Config}
@@ -36,14 +37,15 @@ abbrev pub fieldsAdded : Config → List ℕ → ℕ → List Asked → List ℕ
 fieldsAdded config b last [] = []
 fieldsAdded config b last (a ∷ xs) = frameFields last (a .clock) (a .frame) (sentReply config b (a .clock) (a .frame)) ++ fieldsAdded config (left config b a) (a .clock) xs
 
--- "The clock is 0 until a tag 1."
+-- "The clock is 0 until a tag 1."; the new rule is the first field (`openingBytes`)
 abbrev pub traceOf : Config → ℕ → ℕ → List Asked → List ℕ
 traceOf config mode vbucket xs = openingBytes mode vbucket ++ fieldsAdded config (tableBytes (fresh 32 1 mode vbucket)) 0 xs
 
--- it rules out a recorder that tells a clock too late, or leaves one out, and one that records an earlier frame's reply
+-- served under the new rule, by which force isn't taken
+-- it rules out a recorder that tells a clock too late, or leaves one out, one that records an earlier frame's reply, and one that says the old rule or none
 abbrev pub RecordedReplays : Config → Type 0
 RecordedReplays config =
-    (b : List ℕ) (mode vbucket : ℕ) (xs : List Asked) → length b ≡ 42000 → 1 ≤ mode → mode ≤ 2 → vbucket < 65536
+    config .forcing ≡ false → (b : List ℕ) (mode vbucket : ℕ) (xs : List Asked) → length b ≡ 42000 → 1 ≤ mode → mode ≤ 2 → vbucket < 65536
     → AllServed config (tableBytes (fresh 32 1 mode vbucket)) xs → length (traceOf config mode vbucket xs) ≤ 65536
     → replayed config b (traceOf config mode vbucket xs) ≡ record { answer = Replayed (length xs); table = leftByAll config (tableBytes (fresh 32 1 mode vbucket)) xs }
 

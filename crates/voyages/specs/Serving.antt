@@ -9,7 +9,7 @@ use Rattle.octets.specs.Parts.{Bytes, part}
 use Rattle.serving.specs.declared.Served.the-variants.{Done}
 use Rattle.serving.specs.Serve.{served, servedReply}
 use Rattle.trace.specs.declared.Field.{Field}
-use Rattle.trace.specs.declared.Field.the-variants.{Clock, Frame, Reply, Purge as Purges, Broken}
+use Rattle.trace.specs.declared.Field.the-variants.{Clock, Frame, Reply, Purge as Purges, Rule, Broken}
 use Rattle.trace.specs.Trace.{Placed}
 use Rattle.replay.specs.declared.Ending.{Ending}
 use Rattle.replay.specs.declared.Ending.the-variants.{Damaged, Differs, Stopped, Replayed}
@@ -23,6 +23,7 @@ clockBy clock (Clock n) = n
 clockBy clock (Frame len) = clock
 clockBy clock (Reply len) = clock
 clockBy clock (Purges bound) = clock
+clockBy clock (Rule forcing) = clock
 clockBy clock Broken = clock
 
 -- "tag 2 one request frame", "tag 4 a purge bound": the call that a field asks for, if it asks for one
@@ -31,6 +32,7 @@ callBy clock (Clock n) bytes = []
 callBy clock (Frame len) bytes = Serve (record { clock = clock; received = bytes; reply = replicate {A = ℕ} 1302 0 }) ∷ []
 callBy clock (Reply len) bytes = []
 callBy clock (Purges bound) bytes = Purge clock (bound .0) ∷ []
+callBy clock (Rule forcing) bytes = []
 callBy clock Broken bytes = []
 
 abbrev pub callsOf : ℕ → List Placed → List TableCall
@@ -42,6 +44,7 @@ framesBy (Clock n) = 0
 framesBy (Frame len) = 1
 framesBy (Reply len) = 0
 framesBy (Purges bound) = 0
+framesBy (Rule forcing) = 0
 framesBy Broken = 0
 
 abbrev pub framesIn : List Placed → ℕ
@@ -54,6 +57,7 @@ lastBy config b clock last (Clock n) bytes = last
 lastBy config b clock last (Frame len) bytes = some (sentReply config b clock bytes)
 lastBy config b clock last (Reply len) bytes = last
 lastBy config b clock last (Purges bound) bytes = last
+lastBy config b clock last (Rule forcing) bytes = last
 lastBy config b clock last Broken bytes = last
 
 -- ---- on a table's memory b, at a clock, after a frame with this reply or none
@@ -69,6 +73,7 @@ LeadsOn config b clock last (Clock n) bytes = Unit {0}
 LeadsOn config b clock last (Frame len) bytes = OneFrame config b clock bytes len
 LeadsOn config b clock last (Reply len) bytes = last ≡ some bytes
 LeadsOn config b clock last (Purges bound) bytes = Unit {0}
+LeadsOn config b clock last (Rule forcing) bytes = Unit {0}
 LeadsOn config b clock last Broken bytes = ⊥
 
 abbrev pub AllLeadOn : Config → List ℕ → ℕ → Option (List ℕ) → List Placed → Type 0
@@ -83,6 +88,7 @@ DiffersAt b clock last (Reply len) bytes = (r : List ℕ) × ((last ≡ some r) 
 DiffersAt b clock last (Clock n) bytes = ⊥
 DiffersAt b clock last (Frame len) bytes = ⊥
 DiffersAt b clock last (Purges bound) bytes = ⊥
+DiffersAt b clock last (Rule forcing) bytes = ⊥
 DiffersAt b clock last Broken bytes = ⊥
 
 abbrev pub StopsAt : Config → List ℕ → ℕ → Option (List ℕ) → Field → List ℕ → Type 0
@@ -90,6 +96,7 @@ StopsAt config b clock last (Reply len) bytes = last ≡ none
 StopsAt config b clock last (Clock n) bytes = ⊥
 StopsAt config b clock last (Frame len) bytes = OneFrame config b clock bytes len → ⊥
 StopsAt config b clock last (Purges bound) bytes = ⊥
+StopsAt config b clock last (Rule forcing) bytes = ⊥
 StopsAt config b clock last Broken bytes = Unit {0}
 
 -- where a replay of these fields ended, after some that lead on

@@ -18,13 +18,14 @@ pub fn write_status(c: Context, i: Instruction, fault: bool, needs: bool, fresh:
 {
     let head = c.head;
     let row = c.row;
-    let here = status::is_here(head, i.vbucket, false);
+    let here = status::is_here(head, i.vbucket);
     let live = document::live(row, c.clock);
     let old = document::numbers_of(row);
     let used = document::has_row(row);
     let guard = i.cas.0 != 0;
     status::first_status(Tests {
         fault,
+        unsupported: i.unsupported,
         long: 1024 < i.size,
         elsewhere: !here,
         unstored: false,
@@ -53,7 +54,7 @@ pub fn count_status(c: Context, i: Instruction, k: Counter) -> u8
     let row = c.row;
     let number = c.number;
     let fault = numbers::passes(k.expiry, c.clock);
-    let here = status::is_here(head, i.vbucket, false);
+    let here = status::is_here(head, i.vbucket);
     let live = document::live(row, c.clock);
     let old = document::numbers_of(row);
     let used = document::has_row(row);
@@ -61,6 +62,7 @@ pub fn count_status(c: Context, i: Instruction, k: Counter) -> u8
     let guard = i.cas.0 != 0;
     status::first_status(Tests {
         fault,
+        unsupported: i.unsupported,
         long: 1024 < i.size,
         elsewhere: !here,
         unstored: false,
@@ -89,7 +91,7 @@ pub fn join_status(c: Context, i: Instruction) -> u8
 {
     let head = c.head;
     let row = c.row;
-    let here = status::is_here(head, i.vbucket, false);
+    let here = status::is_here(head, i.vbucket);
     let live = document::live(row, c.clock);
     let old = document::numbers_of(row);
     let used = document::has_row(row);
@@ -97,6 +99,7 @@ pub fn join_status(c: Context, i: Instruction) -> u8
     let guard = i.cas.0 != 0;
     status::first_status(Tests {
         fault: false,
+        unsupported: i.unsupported,
         long: 1024 < i.size,
         elsewhere: !here,
         unstored: !live,
@@ -116,12 +119,13 @@ pub fn touch_status(c: Context, i: Instruction, t: Touching) -> u8
     let head = c.head;
     let row = c.row;
     let fault = numbers::passes(t.expiry, c.clock);
-    let here = status::is_here(head, i.vbucket, false);
+    let here = status::is_here(head, i.vbucket);
     let live = document::live(row, c.clock);
     let old = document::numbers_of(row);
     let used = document::has_row(row);
     status::first_status(Tests {
         fault,
+        unsupported: i.unsupported,
         long: 1024 < i.size,
         elsewhere: !here,
         unstored: false,

@@ -80,6 +80,14 @@ pub struct Purged {
     pub freed: usize,
 }
 
+/// The owner's activation: outcome 5, or status 0x07, or neither.
+#[repr(C)]
+#[derive(Clone, Copy, Debug, Default, PartialEq, Eq)]
+pub struct Activated {
+    pub outcome: u8,
+    pub status: u8,
+}
+
 /// A request read: outcome 1, 2 or 3, or a status, or the fields with parts counted from the frame's first byte.
 #[repr(C)]
 #[derive(Clone, Copy, Debug, Default, PartialEq, Eq)]
@@ -159,6 +167,7 @@ pub trait Store {
     fn sound(&self, table: &[u8]) -> bool;
     fn read(&self, table: &[u8], clock: u32, key: &[u8]) -> Document;
     fn purge(&self, table: &mut [u8], clock: u32, bound: u64) -> Purged;
+    fn activate(&self, table: &mut [u8]) -> Activated;
     fn serve(&self, table: &mut [u8], clock: u32, received: &[u8], reply: &mut [u8], tally: &mut Tally) -> Served;
     fn serve_run(&self, table: &mut [u8], clock: u32, received: &[u8], reply: &mut [u8], tally: &mut Tally) -> Ran;
     fn read_request(&self, received: &[u8]) -> Request;

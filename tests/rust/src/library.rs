@@ -1,6 +1,8 @@
 //! The proved library, `libcontacts.a`, behind the same calls.
 
-use crate::answers::{Document, Engine, Fields, Purged, Ran, Replayed, Request, Served, Store, Tally, Written};
+use crate::answers::{
+    Activated, Document, Engine, Fields, Purged, Ran, Replayed, Request, Served, Store, Tally, Written,
+};
 
 /// The library's engine as a store.
 #[derive(Clone, Copy, Debug)]
@@ -26,6 +28,7 @@ extern "C" {
         key_len: usize,
     ) -> Document;
     fn contacts_purge(plain: bool, table: *mut u8, table_len: usize, clock: u32, bound: u64) -> Purged;
+    fn contacts_activate(plain: bool, table: *mut u8, table_len: usize) -> Activated;
     fn contacts_serve(
         plain: bool,
         table: *mut u8,
@@ -88,6 +91,10 @@ impl Store for Library {
 
     fn purge(&self, table: &mut [u8], clock: u32, bound: u64) -> Purged {
         unsafe { contacts_purge(self.plain(), table.as_mut_ptr(), table.len(), clock, bound) }
+    }
+
+    fn activate(&self, table: &mut [u8]) -> Activated {
+        unsafe { contacts_activate(self.plain(), table.as_mut_ptr(), table.len()) }
     }
 
     fn serve(&self, table: &mut [u8], clock: u32, received: &[u8], reply: &mut [u8], tally: &mut Tally) -> Served {

@@ -21,6 +21,7 @@ fn call_line(call: &Call) -> String {
         Call::Run { clock, room, received } => format!("run {clock} {room} {}", hex(received)),
         Call::Read { clock, key } => format!("read {clock} {}", hex(key)),
         Call::Purge { clock, bound } => format!("purge {clock} {bound}"),
+        Call::Activate => "activate".to_string(),
         Call::Sound => "sound".to_string(),
         Call::Make { rows, state, mode, vbucket } => format!("make {rows} {state} {mode} {vbucket}"),
         Call::Size { rows } => format!("size {rows}"),
@@ -58,6 +59,7 @@ fn read_line(session: &mut Session, line: &str) -> Option<()> {
         "run" => Call::Run { clock: words.number()?, room: words.number()?, received: words.bytes()? },
         "read" => Call::Read { clock: words.number()?, key: words.bytes()? },
         "purge" => Call::Purge { clock: words.number()?, bound: words.number()? },
+        "activate" => Call::Activate,
         "sound" => Call::Sound,
         "make" => Call::Make {
             rows: words.number()?,

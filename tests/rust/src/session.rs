@@ -1,10 +1,10 @@
 //! Sessions: calls on one table, each made on two stores and compared in every byte.
 
-use crate::answers::{lifetime, Document, Fields, Purged, Ran, Request, Served, Store, Tally, Written};
+use crate::answers::{lifetime, Activated, Document, Fields, Purged, Ran, Request, Served, Store, Tally, Written};
 use crate::frame::Frame;
 use crate::generate::GET_KEYS;
 use crate::rendering::bytes::u32_at;
-use crate::rendering::table::KEPT_AT;
+use crate::rendering::table::{ACTIVE, KEPT_AT};
 use std::time::{Duration, Instant};
 
 /// What the reply area and the writer's output hold before each call.
@@ -22,6 +22,7 @@ pub enum Call {
     Run { clock: u32, room: usize, received: Vec<u8> },
     Read { clock: u32, key: Vec<u8> },
     Purge { clock: u32, bound: u64 },
+    Activate,
     Sound,
     Make { rows: usize, state: u8, mode: u8, vbucket: u16 },
     Size { rows: usize },
@@ -35,6 +36,7 @@ pub enum Answer {
     Ran(Ran),
     Document(Document),
     Purged(Purged),
+    Activated(Activated),
     Sound(bool),
     Made(u8),
     Size(usize),
@@ -78,6 +80,7 @@ impl State {
             Call::Run { clock, received, .. } => Answer::Ran(store.serve_run(table, *clock, received, out, tally)),
             Call::Read { clock, key } => Answer::Document(store.read(table, *clock, key)),
             Call::Purge { clock, bound } => Answer::Purged(store.purge(table, *clock, *bound)),
+            Call::Activate => Answer::Activated(store.activate(table)),
             Call::Sound => Answer::Sound(store.sound(table)),
             Call::Make { rows, state, mode, vbucket } => {
                 Answer::Made(store.make(table, *rows, *state, *mode, *vbucket))
@@ -142,6 +145,7 @@ impl<'s> Pair<'s> {
         same_bytes("table", &one.table, &two.table)?;
         changes_within_the_answer(call, &first, &self.before, one)?;
         left_agrees(call, &first, &self.before.table)?;
+        state_agrees(&first, &self.before.table, &one.table)?;
         for store in self.stores {
             round_trip(store, call, &first, &one.out)?;
         }
@@ -182,6 +186,7 @@ fn changes_within_the_answer(call: &Call, answer: &Answer, before: &State, after
         Answer::Served(served) => (served.status == 0 && !only_shows(call), served.outcome == 0, served.reply),
         Answer::Ran(ran) => (ran.used > 0, ran.used > 0, ran.reply),
         Answer::Purged(purged) => (purged.freed > 0, false, 0),
+        Answer::Activated(activated) => (activated == Activated::default(), false, 0),
         Answer::Made(outcome) => (outcome == 0, false, 0),
         Answer::Written(written) => (false, false, written.len),
         Answer::Document(_) | Answer::Sound(_) | Answer::Size(_) | Answer::Request(_) => (false, false, 0),
@@ -213,6 +218,14 @@ fn left_agrees(call: &Call, answer: &Answer, table: &[u8]) -> Result<(), String>
         _ => false,
     };
     agrees.then_some(()).ok_or_else(|| format!("the seconds left are at odds with the rest: {document:?}"))
+}
+
+/// An activation leaves an active table and "changes nothing but the state".
+fn state_agrees(answer: &Answer, before: &[u8], after: &[u8]) -> Result<(), String> {
+    let &Answer::Activated(Activated { outcome: 0, status: 0 }) = answer else {
+        return Ok(());
+    };
+    same_bytes("the activated table", &[&[ACTIVE], &before[1..]].concat(), after)
 }
 
 /// Whether it is a frame of a command that stores nothing.

@@ -100,7 +100,7 @@ fn simpler_calls(call: &Call) -> Forms<'_, Call> {
         &Call::WriteRequest { room, ref frame } => {
             Box::new(simpler_frames(frame).map(move |frame| Call::WriteRequest { room, frame }))
         }
-        Call::Sound | Call::Make { .. } | Call::Size { .. } => Box::new([].into_iter()),
+        Call::Activate | Call::Sound | Call::Make { .. } | Call::Size { .. } => Box::new([].into_iter()),
     }
 }
 

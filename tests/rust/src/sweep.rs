@@ -73,11 +73,13 @@ fn refuses(answer: &Answer) -> bool {
         Answer::Sound(sound) => !sound,
         Answer::Document(document) => document.outcome == 5,
         Answer::Served(served) => served.outcome == 5,
+        Answer::Activated(activated) => activated.outcome == 5,
         _ => false,
     }
 }
 
-/// All keys listed, every key read at every clock, then a Get and a set-with-meta served for each.
+/// All keys listed, every key read at every clock, then a Get and a set-with-meta served for each, and those once more on the
+/// table made active.
 fn calls(memory: &[u8], mode: u8) -> Vec<Call> {
     let mut keys: Vec<&[u8]> = vec![b"contact-1", b"contact-2", b"contact-3"];
     let found = Table::read(Engine::Plain, memory).map(|table| table.rows).unwrap_or_default();
@@ -88,7 +90,9 @@ fn calls(memory: &[u8], mode: u8) -> Vec<Call> {
     let listing = serve(Frame { opcode: 0xb8, vbucket: VBUCKET, ..Frame::default() });
     let gets = keys.iter().map(|key| serve(get(key)));
     let sets = keys.iter().map(|key| serve(set_with_meta(key, mode)));
-    [Call::Sound, listing].into_iter().chain(reads).chain(gets).chain(sets).collect()
+    let served: Vec<Call> = gets.chain(sets).collect();
+    let before = [Call::Sound, listing].into_iter().chain(reads).chain(served.clone());
+    before.chain([Call::Activate]).chain(served).collect()
 }
 
 fn serve(frame: Frame) -> Call {

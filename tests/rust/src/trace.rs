@@ -1,7 +1,7 @@
 //! Traces built freely, by no rule but the layout.
 
 use crate::rendering::bytes::u16_at;
-use crate::rendering::voyage::{BOUND, CLOCK, FIELD_HEADER, FRAME, OPENING, REPLY};
+use crate::rendering::voyage::{BOUND, CLOCK, FIELD_HEADER, FRAME, OPENING, REPLY, RULE};
 
 #[derive(Clone, Debug, PartialEq, Eq)]
 pub struct Field {
@@ -28,6 +28,11 @@ impl Field {
 
     pub fn bound(bound: u64) -> Field {
         Field::new(BOUND, &bound.to_be_bytes())
+    }
+
+    /// 1 for the old rule, 2 for the new.
+    pub fn rule(rule: u8) -> Field {
+        Field::new(RULE, &[rule])
     }
 
     /// How many bytes of a trace it takes.

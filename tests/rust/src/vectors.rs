@@ -115,6 +115,7 @@ impl Driver {
                 (if self.store.sound(&self.memory[..self.lent]) { "sound" } else { "damaged" }).to_string()
             }
             ("purge", &[clock, bound]) => self.purge(clock as u32, bound),
+            ("activate", &[]) => self.activate(),
             ("poke", &[at]) => self.poke(at as usize, &spelled(line.spelled)?),
             ("store", numbers @ &[_, _, _, _, _, _]) => self.store(numbers, line.spelled)?,
             ("read", &[clock]) => self.read(clock as u32, &spelled(line.spelled)?),
@@ -161,6 +162,14 @@ impl Driver {
         match purged.outcome {
             0 => format!("freed {}", purged.freed),
             outcome => format!("outcome {outcome}"),
+        }
+    }
+
+    fn activate(&mut self) -> String {
+        let activated = self.store.activate(&mut self.memory[..self.lent]);
+        match activated.status {
+            0 => format!("outcome {}", activated.outcome),
+            status => format!("status {status:02x}"),
         }
     }
 

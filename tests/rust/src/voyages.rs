@@ -176,6 +176,7 @@ pub fn shown(trace: &[u8]) -> String {
             2 => "frame",
             3 => "reply",
             4 => "bound",
+            5 => "rule",
             _ => "?",
         };
         lines.push(format!("{:>5}  {tag} {name:<7}{}", trace.place(number), hexadecimal(value)));

@@ -163,13 +163,13 @@ fn extended_meta() {
 }
 
 #[test]
-fn options_pass_states_and_comparisons() {
-    for (state, plain, forced) in [(1, 0x02, 0), (2, 0x07, 0), (3, 0x07, 0), (4, 0x07, 0x07)] {
+fn options_pass_comparisons_and_no_state() {
+    for (state, compared, skipped) in [(1, 0x02, 0), (2, 0x07, 0x07), (3, 0x07, 0x07), (4, 0x07, 0x07)] {
         for mut boat in boats(1, REVISION) {
             assert_eq!(boat.status(0, &with_meta(0xa2, "c", (0, 0, 5, 5), None)), 0);
             boat.table[0] = state;
-            assert_eq!(boat.status(0, &with_meta(0xa2, "c", (0, 0, 4, 4), None)), plain);
-            assert_eq!(boat.status(0, &with_meta(0xa2, "c", (0, 0, 4, 4), Some(0x01))), forced);
+            assert_eq!(boat.status(0, &with_meta(0xa2, "c", (0, 0, 4, 4), None)), compared);
+            assert_eq!(boat.status(0, &with_meta(0xa2, "c", (0, 0, 4, 4), Some(0x08))), skipped);
         }
     }
 }

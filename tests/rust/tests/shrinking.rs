@@ -1,7 +1,7 @@
 //! A fault injected into the rendering is found, and its session or its trace is made small.
 
 use contact_tests::answers::{
-    end, Document, Engine, Fields, Purged, Ran, Replayed, Request, Served, Store, Tally, Written,
+    end, Activated, Document, Engine, Fields, Purged, Ran, Replayed, Request, Served, Store, Tally, Written,
 };
 use contact_tests::comparison::Comparison;
 use contact_tests::engines::{difference, Stores};
@@ -47,6 +47,10 @@ impl Store for Faulty {
 
     fn purge(&self, table: &mut [u8], clock: u32, bound: u64) -> Purged {
         Rendering(self.0).purge(table, clock, bound)
+    }
+
+    fn activate(&self, table: &mut [u8]) -> Activated {
+        Rendering(self.0).activate(table)
     }
 
     fn serve_run(&self, table: &mut [u8], clock: u32, received: &[u8], reply: &mut [u8], tally: &mut Tally) -> Ran {

@@ -1,4 +1,4 @@
-//! Replay of a voyage, order 6 of document 02, on the rendering and on the library.
+//! Replay of a voyage, order 6 of document 02, and its rule, order 9, on the rendering and on the library.
 
 mod boat;
 
@@ -167,7 +167,7 @@ fn what_an_answer_does_not_have_is_0() {
 
 #[test]
 fn an_unknown_tag_stops_at_its_place() {
-    for tag in [0, 5, 6, 7, 0x80, 0x81, 0xff] {
+    for tag in [0, 6, 7, 0x80, 0x81, 0xff] {
         for value in [&[][..], &[2], &[0; 4], &[0; 8]] {
             assert_eq!(line_of([Field::new(tag, value)]), "stopped 3");
             let after = [Field::clock(1), Field::frame(&noop()), Field::new(tag, value), Field::frame(&noop())];
@@ -403,6 +403,113 @@ fn the_mode_is_the_openings() {
             Field::reply(&bare(0xa2, status, cas)),
         ];
         assert_eq!(answer(&Trace::open(mode, VBUCKET).with(fields).bytes()), "replayed 2");
+    }
+}
+
+/// A Set with revision 5 and CAS 5, then a smaller one with option 0x01, in any mode.
+fn forced(mode: u8) -> [Vec<u8>; 2] {
+    let accepts = if mode == LAST_WRITE_WINS { 0x02 } else { 0 };
+    let write = |numbers, options: u32| {
+        let extras = meta_extras(numbers, Some(options | accepts), None);
+        here(Frame { extras, value: b"v".to_vec(), ..keyed(0xa2, "c") })
+    };
+    [write((0, 0, 5, 5), 0), write((0, 0, 4, 4), 0x01)]
+}
+
+#[test]
+fn option_0x01_is_stored_by_the_old_rule_alone() {
+    for mode in [REVISION, LAST_WRITE_WINS] {
+        let [first, forced] = forced(mode);
+        let recorded = |rule: Option<u8>, status, cas| {
+            let frames = [Field::frame(&first), Field::frame(&forced), Field::reply(&bare(0xa2, status, cas))];
+            Trace::open(mode, VBUCKET).with(rule.map(Field::rule)).with(frames).bytes()
+        };
+        for old in [None, Some(1)] {
+            assert_eq!(answer(&recorded(old, 0, 4)), "replayed 2");
+            let place = recorded(old, 0x83, 0).len() - 27;
+            assert_eq!(answer(&recorded(old, 0x83, 0)), format!("differs {place}"));
+        }
+        assert_eq!(answer(&recorded(Some(2), 0x83, 0)), "replayed 2");
+        let place = recorded(Some(2), 0, 4).len() - 27;
+        assert_eq!(answer(&recorded(Some(2), 0, 4)), format!("differs {place}"));
+    }
+}
+
+#[test]
+fn what_force_stored_stays_and_is_compared() {
+    let [first, forced] = forced(REVISION);
+    let between = |revision| with_meta(0xa2, "c", "w", (0, 0, revision, 1));
+    let fields = [
+        Field::frame(&first),
+        Field::frame(&forced),
+        Field::frame(&between(3)),
+        Field::reply(&bare(0xa2, 0x02, 0)),
+        Field::frame(&get("c")),
+        Field::reply(&shown("v", 4)),
+        Field::frame(&between(5)),
+        Field::reply(&bare(0xa2, 0, 1)),
+    ];
+    assert_eq!(line_of(fields), "replayed 5");
+}
+
+#[test]
+fn by_the_old_rule_all_else_is_as_by_the_new() {
+    // 0x04 without 0x08, a value over 1,024 bytes, another vbucket, a header CAS, an Add on a live document
+    let [first, _] = forced(REVISION);
+    let set = |options| Frame {
+        vbucket: VBUCKET,
+        extras: meta_extras((0, 0, 4, 4), Some(options), None),
+        value: b"w".to_vec(),
+        ..keyed(0xa2, "c")
+    };
+    let others = [
+        (set(0x05), 0x04),
+        (set(0x11), 0x04),
+        (set(0x03), 0x04),
+        (Frame { value: vec![0; 1_025], ..set(0x01) }, 0x03),
+        (Frame { vbucket: 0, ..set(0x01) }, 0x07),
+        (Frame { cas: 9, ..set(0x01) }, 0x02),
+        (Frame { cas: 9, key: b"d".to_vec(), ..set(0x01) }, 0x01),
+        (Frame { opcode: 0xa4, ..set(0x01) }, 0x02),
+    ];
+    for (frame, status) in others {
+        let opcode = frame.opcode;
+        let told = |rule: Option<u8>, status| {
+            let frames = [Field::frame(&first), Field::frame(&frame.bytes()), Field::reply(&bare(opcode, status, 0))];
+            answer(&Trace::open(REVISION, VBUCKET).with(rule.map(Field::rule)).with(frames).bytes())
+        };
+        assert_eq!(told(None, status), "replayed 2");
+        assert_eq!(told(Some(1), status), "replayed 2");
+        assert_eq!(told(Some(2), if status == 0x04 { 0x04 } else { 0x83 }), "replayed 2");
+    }
+}
+
+#[test]
+fn any_other_tag_5_stops_at_its_place() {
+    for rule in 0..=255 {
+        let line = line_of([Field::rule(rule), Field::frame(&noop())]);
+        assert_eq!(line, if matches!(rule, 1 | 2) { "replayed 1" } else { "stopped 3" });
+        for first in [Field::rule(1), Field::rule(2)] {
+            assert_eq!(line_of([first, Field::rule(rule)]), "stopped 7");
+        }
+        assert_eq!(line_of([Field::clock(1), Field::rule(rule)]), "stopped 10");
+        assert_eq!(line_of([Field::frame(&noop()), Field::rule(rule), Field::frame(&noop())]), "stopped 30");
+        assert_eq!(line_of([Field::bound(0), Field::rule(rule)]), "stopped 14");
+    }
+    for value in [&[][..], &[1, 1], &[2, 2], &[0, 2], &[2, 0], &[2; 4], &[2; 256], &[2; 257]] {
+        assert_eq!(line_of([Field::new(5, value), Field::frame(&noop())]), "stopped 3");
+        assert_eq!(line_of([Field::rule(2), Field::new(5, value)]), "stopped 7");
+    }
+    for cut in [&[5][..], &[5, 0], &[5, 0, 1], &[5, 1, 1, 2], &[5, 0, 2, 2]] {
+        assert_eq!(answer(&Trace { rest: cut.to_vec(), ..opened([]) }.bytes()), "stopped 3");
+    }
+}
+
+#[test]
+fn a_rule_alone_is_a_voyage_of_no_frames() {
+    for rule in [1, 2] {
+        assert_eq!(line_of([Field::rule(rule)]), "replayed 0");
+        assert_eq!(line_of([Field::rule(rule), Field::reply(&[])]), "stopped 7");
     }
 }
 

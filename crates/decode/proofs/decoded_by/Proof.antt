@@ -1,5 +1,6 @@
 use Prim.Native.Nat.{ℕ}
 use mathlib.Core.Path.{_≡_, sym, ap, _∙_}
+use mathlib.Core.Bool.{Bool, false}
 use mathlib.Core.List.{List}
 use denote.Ref.{now}
 use lib.ListN.{length}
@@ -15,9 +16,10 @@ use Rattle.decode.proofs.decoded_by.Statement.{statement}
 use Rattle.decode.proofs.decoded_by.Tie as tie
 
 -- a frame's family, as the code has found it
-told : (s : Shape) (h : Header) (extras value : List ℕ) (f g : Family) → f ≡ familyOf (s .operation) → f ≡ g → decodedAs g s h extras value ≡ decodedBy s h extras value
+told : (forcing : Bool) (s : Shape) (h : Header) (extras value : List ℕ) (f g : Family) → f ≡ familyOf (s .operation) → f ≡ g
+    → decodedAs forcing g s h extras value ≡ decodedBy forcing s h extras value
 unfolding decodedBy
-told s h extras value f g e d = ap (λ (x : Family). decodedAs x s h extras value) (sym d ∙ e)
+told forcing s h extras value f g e d = ap (λ (x : Family). decodedAs forcing x s h extras value) (sym d ∙ e)
 
 family-of-requires : tie.Need-family-of-requires
 family-of-requires c κs = search needs
@@ -70,38 +72,39 @@ instruction-with-requires-4 c κs = search needs
 returns : tie.Need-returns
 returns c =
     let a = c .before .before .before .before .before .before .before .args in
-    ap Whole (c .instruction-with .ensures) ∙ told (a .shape) (a .h) (now (a .extras)) (now (a .value)) _ _ (c .before .before .before .before .family-of .ensures) (c .before .before .c .given .1)
+    ap Whole (c .instruction-with .ensures)
+    ∙ told (a .forcing) (a .shape) (a .h) (now (a .extras)) (now (a .value)) _ _ (c .before .before .before .before .family-of .ensures) (c .before .before .c .given .1)
 
 returns-2 : tie.Need-returns-2
 returns-2 c =
     let a = c .before .before .before .before .before .before .before .before .args in
-    let made : Command → Instruction = λ x. instructionWith (a .shape) (a .h) x (length (now (a .value))) in
+    let made : Command → Instruction = λ x. instructionWith (a .shape) (a .h) x (length (now (a .value))) false in
     ap Whole (c .instruction-with2 .ensures ∙ ap made (c .before .plain-of .ensures))
-    ∙ told (a .shape) (a .h) (now (a .extras)) (now (a .value)) _ _ (c .before .before .before .before .before .family-of .ensures) (c .before .before .before .k .given .1)
+    ∙ told (a .forcing) (a .shape) (a .h) (now (a .extras)) (now (a .value)) _ _ (c .before .before .before .before .before .family-of .ensures) (c .before .before .before .k .given .1)
 
 returns-3 : tie.Need-returns-3
 returns-3 c =
     let a = c .before .before .before .before .before .before .before .before .args in
-    let made : Command → Instruction = λ x. instructionWith (a .shape) (a .h) x (length (now (a .value))) in
+    let made : Command → Instruction = λ x. instructionWith (a .shape) (a .h) x (length (now (a .value))) false in
     ap Whole (c .instruction-with3 .ensures ∙ ap made (c .before .counter-of .ensures))
-    ∙ told (a .shape) (a .h) (now (a .extras)) (now (a .value)) _ _ (c .before .before .before .before .before .family-of .ensures) (c .before .before .before .u .given .1)
+    ∙ told (a .forcing) (a .shape) (a .h) (now (a .extras)) (now (a .value)) _ _ (c .before .before .before .before .before .family-of .ensures) (c .before .before .before .u .given .1)
 
 returns-4 : tie.Need-returns-4
 returns-4 c =
     let a = c .before .before .before .before .before .before .before .args in
-    c .meta-decoded .ensures ∙ told (a .shape) (a .h) (now (a .extras)) (now (a .value)) _ _ (c .before .before .before .before .family-of .ensures) (c .before .before .k2 .given .1)
+    c .meta-decoded .ensures ∙ told (a .forcing) (a .shape) (a .h) (now (a .extras)) (now (a .value)) _ _ (c .before .before .before .before .family-of .ensures) (c .before .before .k2 .given .1)
 
 returns-5 : tie.Need-returns-5
 returns-5 c =
     let a = c .before .before .before .before .before .before .args in
-    c .list-decoded .ensures ∙ told (a .shape) (a .h) (now (a .extras)) (now (a .value)) _ _ (c .before .before .before .family-of .ensures) (c .before .enum-told .given .1)
+    c .list-decoded .ensures ∙ told (a .forcing) (a .shape) (a .h) (now (a .extras)) (now (a .value)) _ _ (c .before .before .before .family-of .ensures) (c .before .enum-told .given .1)
 
 returns-6 : tie.Need-returns-6
 returns-6 c =
     let a = c .before .before .before .before .before .before .before .before .args in
-    let made : Command → Instruction = λ x. instructionWith (a .shape) (a .h) x (length (now (a .value))) in
+    let made : Command → Instruction = λ x. instructionWith (a .shape) (a .h) x (length (now (a .value))) false in
     ap Whole (c .instruction-with4 .ensures ∙ ap made (c .before .touch-of .ensures))
-    ∙ told (a .shape) (a .h) (now (a .extras)) (now (a .value)) _ _ (c .before .before .before .before .before .family-of .ensures) (c .before .before .before .s .given .1)
+    ∙ told (a .forcing) (a .shape) (a .h) (now (a .extras)) (now (a .value)) _ _ (c .before .before .before .before .before .family-of .ensures) (c .before .before .before .s .given .1)
 
 pub decoded-by-spec : {M : Type 1} → statement M
 decoded-by-spec =

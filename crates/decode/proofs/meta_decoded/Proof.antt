@@ -24,19 +24,23 @@ cast-minus c = search needs
 minus-requires : tie.Need-minus-requires
 minus-requires c κs = search needs
 
+is-forced-requires : tie.Need-is-forced-requires
+is-forced-requires c κs = tt
+
 instruction-with-requires : tie.Need-instruction-with-requires
 instruction-with-requires c κs = search needs
 
 returns-2 : tie.Need-returns-2
 unfolding metaDecoded
 returns-2 c =
-    let p = c .before .before .before .before in
+    let p = c .before .before .before .before .before in
     simp (
       ← p .before .before .read .ensures,
       sym (p .before .with-meta-ok .ensures) ∙ not-false _ (p .if1 .left),
       c .instruction-with .ensures,
-      c .before .before .before .meta-of .ensures,
-      c .before .minus .ensures,
+      c .before .before .before .before .meta-of .ensures,
+      c .before .before .minus .ensures,
+      c .before .is-forced .ensures,
     )
 
 pub meta-decoded-spec : {M : Type 1} → statement M
@@ -49,5 +53,6 @@ meta-decoded-spec =
     meta-of-requires
     cast-minus
     minus-requires
+    is-forced-requires
     instruction-with-requires
     returns-2)

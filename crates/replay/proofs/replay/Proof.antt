@@ -22,15 +22,18 @@ enum-known-mode c = search needs
 make-requires : tie.Need-make-requires
 make-requires c κs = tt
 
+ruled-by-requires : tie.Need-ruled-by-requires
+ruled-by-requires c κs = tt
+
 slice-aggregate-replay-fields : tie.Need-slice-aggregate-replay-fields
 slice-aggregate-replay-fields c = search needs
 
 replay-fields-requires : tie.Need-replay-fields-requires
 replay-fields-requires c κs =
-    let c7 = c .before .before .before .before .before .before .before in
-    let c9 = c7 .before .before in
-    let c13 = c9 .before .before .before .before in
-    let o = opens (c13 .args .trace .now) _ _ (sym (c9 .opening-of .ensures) ∙ c7 .mode .given .1) in
+    let c8 = c .before .before .before .before .before .before .before .before in
+    let c10 = c8 .before .before in
+    let c14 = c10 .before .before .before .before in
+    let o = opens (c14 .args .trace .now) _ _ (sym (c10 .opening-of .ensures) ∙ c8 .mode .given .1) in
     (refl, (o .least, o .most))
 
 returns-2 : tie.Need-returns-2
@@ -44,15 +47,16 @@ same-length c = search needs
 
 returns-3 : tie.Need-returns-3
 returns-3 c =
-    let c8 = c .before .before .before .before .before .before .before .before in
-    let c11 = c8 .before .before .before in
-    let c13 = c11 .before .before in
-    let c14 = c13 .before in
-    let c17 = c14 .before .before .before in
-    opened (c17 .args .config) (c17 .args .b .now) (c17 .args .trace .now) (c14 .if1 .left) _ _ _ _ _ (sym (c13 .opening-of .ensures) ∙ c11 .mode .given .1)
-    (c8 .make .ensures .1) (c .before .before .before .replay-fields .ensures)
+    let c6 = c .before .before .before .before .before .before in
+    let c9 = c6 .before .before .before in
+    let c12 = c9 .before .before .before in
+    let c14 = c12 .before .before in
+    let c15 = c14 .before in
+    let c18 = c15 .before .before .before in
+    opened (c18 .args .config) (c18 .args .b .now) (c18 .args .trace .now) (c15 .if1 .left) _ _ _ _ _ (sym (c14 .opening-of .ensures) ∙ c12 .mode .given .1)
+    (c9 .make .ensures .1) _ (c6 .ruled-by .ensures) (c .before .before .before .replay-fields .ensures)
 
 pub replay-spec : {M : Type 1} → statement M
 replay-spec =
     tie.close
-    (tie.spec returns opening-of-requires enum-told enum-known-mode make-requires slice-aggregate-replay-fields replay-fields-requires returns-2 same-length returns-3)
+    (tie.spec returns opening-of-requires enum-told enum-known-mode make-requires ruled-by-requires slice-aggregate-replay-fields replay-fields-requires returns-2 same-length returns-3)

@@ -1,12 +1,12 @@
 use borrow.Author.Needs.{needs}
 use native.Mathlib.Omega.{arith}
 use mathlib.Core.Path.{refl, sym, _∙_}
-use Rattle.replay.proofs.Turning.{says, inside, clock-turns, broken-turns, held-length, frame-turns, reply-turns, purge-turns}
+use Rattle.replay.proofs.Turning.{says, inside, clock-turns, rule-turns, broken-turns, held-length, frame-turns, reply-turns, purge-turns}
 use Rattle.replay.proofs.turn.Statement.{statement}
 use Rattle.replay.proofs.turn.Tie as tie
 
-field-of-requires : tie.Need-field-of-requires
-field-of-requires c κs = tt
+field-at-requires : tie.Need-field-at-requires
+field-at-requires c κs = tt
 
 enum-known-clock : tie.Need-enum-known-clock
 enum-known-clock c = search needs
@@ -29,9 +29,9 @@ serve-field-requires c κs =
     let c6 = c4 .before .before in
     let c10 = c6 .before .before .before .before in
     let a = c10 .args in
-    let e = sym (c6 .field-of .ensures) ∙ c4 .len .given .1 in
-    let l = held-length (a .s .now) _ _ _ e refl (says (a .s .now) _ e) (c .before .part .ensures) in
-    (c10 .pre .0, (c10 .pre .1 .0, omega (arith, l, inside (a .s .now) _ e refl, c10 .pre .1 .1)))
+    let e = sym (c6 .field-at .ensures) ∙ c4 .len .given .1 in
+    let l = held-length (a .p .at) (a .s .now) _ _ _ e refl (says (a .p .at) (a .s .now) _ e) (c .before .part .ensures) in
+    (c10 .pre .0, (c10 .pre .1 .0, omega (arith, l, inside (a .p .at) (a .s .now) _ e refl, c10 .pre .1 .1)))
 
 enum-known-len-2 : tie.Need-enum-known-len-2
 enum-known-len-2 c = search needs
@@ -45,9 +45,9 @@ part-requires-3 c κs = tt
 compare-reply-requires : tie.Need-compare-reply-requires
 compare-reply-requires c κs =
     let a = c .before .before .before .before .before .before .before .before .before .before .args in
-    let e = sym (c .before .before .before .before .before .before .field-of .ensures) ∙ c .before .before .before .before .len2 .given .1 in
-    let l = held-length (a .s .now) _ _ _ e refl (says (a .s .now) _ e) (c .before .before .part2 .ensures) in
-    omega (arith, l, inside (a .s .now) _ e refl, c .before .before .before .before .before .before .before .before .before .before .pre .1 .1)
+    let e = sym (c .before .before .before .before .before .before .field-at .ensures) ∙ c .before .before .before .before .len2 .given .1 in
+    let l = held-length (a .p .at) (a .s .now) _ _ _ e refl (says (a .p .at) (a .s .now) _ e) (c .before .before .part2 .ensures) in
+    omega (arith, l, inside (a .p .at) (a .s .now) _ e refl, c .before .before .before .before .before .before .before .before .before .before .pre .1 .1)
 
 enum-known-bound : tie.Need-enum-known-bound
 enum-known-bound c = search needs
@@ -58,16 +58,26 @@ purge-requires c κs = tt
 passed-requires : tie.Need-passed-requires
 passed-requires c κs =
     let a = c .before .before .before .before .before .before .before .before .before .before .before .args in
-    let e = sym (c .before .before .before .before .before .before .before .field-of .ensures) ∙ c .before .before .before .before .before .bound .given .1 in
-    omega (arith, says (a .s .now) _ e, inside (a .s .now) _ e refl, c .before .before .before .before .before .before .before .before .before .before .before .pre .1 .1)
+    let e = sym (c .before .before .before .before .before .before .before .field-at .ensures) ∙ c .before .before .before .before .before .bound .given .1 in
+    omega (arith, says (a .p .at) (a .s .now) _ e, inside (a .p .at) (a .s .now) _ e refl, c .before .before .before .before .before .before .before .before .before .before .before .pre .1 .1)
 
 enum-told : tie.Need-enum-told
 enum-told c = search needs
 
+passed-requires-2 : tie.Need-passed-requires-2
+passed-requires-2 c κs =
+    let s = c .before .before .before .before .before .before in
+    let a = s .args in
+    let e = sym (c .before .before .field-at .ensures) ∙ c .enum-told .given .1 in
+    omega (arith, says (a .p .at) (a .s .now) _ e, inside (a .p .at) (a .s .now) _ e refl, s .pre .1 .1)
+
+enum-told-2 : tie.Need-enum-told-2
+enum-told-2 c = search needs
+
 returns : tie.Need-returns
 returns c =
     let a = c .before .before .before .before .before .before .before .before .args in
-    clock-turns (a .config) (a .b .now) (a .s .now) (a .out .now) (a .p) _ (sym (c .before .before .before .before .field-of .ensures) ∙ c .before .before .clock .given .1)
+    clock-turns (a .config) (a .b .now) (a .s .now) (a .out .now) (a .p) _ (sym (c .before .before .before .before .field-at .ensures) ∙ c .before .before .clock .given .1)
 
 same-length : tie.Need-same-length
 same-length c = search needs
@@ -84,7 +94,7 @@ returns-2 c =
     let c15 = c11 .before .before .before .before in
     let a = c15 .args in
     frame-turns (a .config) (a .b .now) (a .s .now) (a .out .now) (a .p) _ _ _ _ _
-    (sym (c11 .field-of .ensures) ∙ c9 .len .given .1) (c6 .part .ensures) (c4 .serve-field .ensures)
+    (sym (c11 .field-at .ensures) ∙ c9 .len .given .1) (c6 .part .ensures) (c4 .serve-field .ensures)
 
 same-length-3 : tie.Need-same-length-3
 same-length-3 c = search needs
@@ -95,7 +105,7 @@ returns-3 c =
     let c7 = c5 .before .before in
     let c11 = c7 .before .before .before .before in
     let a = c11 .args in
-    reply-turns (a .config) (a .b .now) (a .s .now) (a .out .now) (a .p) _ _ _ _ (sym (c7 .field-of .ensures) ∙ c5 .len2 .given .1)
+    reply-turns (a .config) (a .b .now) (a .s .now) (a .out .now) (a .p) _ _ _ _ (sym (c7 .field-at .ensures) ∙ c5 .len2 .given .1)
     (c .before .before .before .part2 .ensures) (c .before .part3 .ensures) (c .compare-reply .ensures)
 
 same-length-4 : tie.Need-same-length-4
@@ -107,19 +117,24 @@ returns-4 c =
     let c8 = c6 .before .before in
     let c12 = c8 .before .before .before .before in
     let a = c12 .args in
-    purge-turns (a .config) (a .b .now) (a .s .now) (a .out .now) (a .p) _ _ _ (sym (c8 .field-of .ensures) ∙ c6 .bound .given .1)
+    purge-turns (a .config) (a .b .now) (a .s .now) (a .out .now) (a .p) _ _ _ (sym (c8 .field-at .ensures) ∙ c6 .bound .given .1)
     (c .before .before .before .purge .ensures .1) (c .passed .ensures)
 
 returns-5 : tie.Need-returns-5
 returns-5 c =
+    let a = c .before .before .before .before .before .before .before .args in
+    rule-turns (a .config) (a .b .now) (a .s .now) (a .out .now) (a .p) _ _ (sym (c .before .before .before .field-at .ensures) ∙ c .before .enum-told .given .1) (c .passed2 .ensures)
+
+returns-6 : tie.Need-returns-6
+returns-6 c =
     let a = c .before .before .before .before .before .before .args in
-    broken-turns (a .config) (a .b .now) (a .s .now) (a .out .now) (a .p) (sym (c .before .before .field-of .ensures) ∙ c .enum-told .given .1)
+    broken-turns (a .config) (a .b .now) (a .s .now) (a .out .now) (a .p) (sym (c .before .before .field-at .ensures) ∙ c .enum-told2 .given .1)
 
 pub turn-spec : {M : Type 1} → statement M
 turn-spec =
     tie.close
     (tie.spec
-    field-of-requires
+    field-at-requires
     enum-known-clock
     add-t12
     add-t13
@@ -134,6 +149,8 @@ turn-spec =
     purge-requires
     passed-requires
     enum-told
+    passed-requires-2
+    enum-told-2
     returns
     same-length
     same-length-2
@@ -142,4 +159,5 @@ turn-spec =
     returns-3
     same-length-4
     returns-4
-    returns-5)
+    returns-5
+    returns-6)

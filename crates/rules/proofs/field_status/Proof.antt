@@ -1,6 +1,6 @@
 use mathlib.Core.Path.{_≡_, sym, _∙_}
 use borrow.Author.Tests.{le-ltb, lt-ltb, not-true, not-false}
-use Rattle.rules.proofs.RuleLaws.{field-count, field-meta, field-plain}
+use Rattle.rules.proofs.RuleLaws.{rules-count, field-broken, field-meta, field-plain}
 use Rattle.rules.proofs.field_status.Statement.{statement}
 use Rattle.rules.proofs.field_status.Tie as tie
 
@@ -8,7 +8,7 @@ count-ok-requires : tie.Need-count-ok-requires
 count-ok-requires c κs = tt
 
 returns : tie.Need-returns
-returns c = sym (field-count _ _ _ (sym (c .before .count-ok .ensures) ∙ not-true _ (c .if1 .taken)))
+returns c = sym (field-broken _ _ _ (rules-count _ _ _ (sym (c .before .count-ok .ensures) ∙ not-true _ (c .if1 .taken))))
 
 meta-status-requires : tie.Need-meta-status-requires
 meta-status-requires c κs = tt

@@ -5,9 +5,8 @@ use denote.Ref.{now}
 use borrow.Author.Needs.{needs}
 use Rattle.shape.specs.declared.Shape.{Shape}
 use Rattle.rules.specs.Rules.{formStatus}
-use Rattle.serving.specs.Serve.{reachesDecision}
 use Rattle.serve.proofs.Joint.{refused-by}
-use Rattle.serve.proofs.Parts.{within, extras-cut, key-cut, value-cut, broken-status, whole-goes, whole-ask, whole-value}
+use Rattle.serve.proofs.Parts.{within, extras-cut, key-cut, value-cut, broken-status, broken-stops, whole-goes, whole-ask, whole-value}
 use Rattle.serve.proofs.serve_parts.Statement.{statement}
 use Rattle.serve.proofs.serve_parts.Tie as tie
 
@@ -94,10 +93,10 @@ serve-formed-requires c κs =
     let ask = c .before .before .before .ask .given .1 in (
       p .pre .0,
       (
-        whole-goes s h whole form _ _ _ _ (p .pre .1 .0) extras value decoded _ ask,
+        whole-goes s h whole form _ _ _ _ _ (p .pre .1 .0) extras value decoded _ ask,
         (
-          whole-ask s h whole form _ _ _ _ (p .pre .1 .0) extras value decoded _ ask,
-          (key-cut s h (l .result) (l .ensures), (whole-value s h whole form _ _ _ _ (p .pre .1 .0) extras value decoded _ ask, whole)),
+          whole-ask s h whole form _ _ _ _ _ (p .pre .1 .0) extras value decoded _ ask,
+          (key-cut s h (l .result) (l .ensures), (whole-value s h whole form _ _ _ _ _ (p .pre .1 .0) extras value decoded _ ask, whole)),
         ),
       ),
     )
@@ -119,11 +118,13 @@ returns c =
     let extras = extras-cut s h (l .result) (l .ensures) in
     let value = value-cut s h (l .result) (l .ensures) in
     let decoded = c .before .before .before .before .before .before .before .before .before .decoded-by .ensures in
-    let e = broken-status s h whole form _ _ _ _ (p .pre .1 .0) extras value decoded (c .before .before .before .before .before .before .before .enum-told .given .1) in
+    let told = c .before .before .before .before .before .before .before .enum-told .given .1 in
+    let e = broken-status s h whole form _ _ _ _ _ (p .pre .1 .0) extras value decoded told in
+    let stops = broken-stops s h whole form _ _ _ _ _ (p .pre .1 .0) extras value decoded told in
     let r = c .before .before .before .before .refused .ensures in
     let at8 = c .before .before .before .before .before .before .before .before in
     let y : Bytes (now (p .args .b)) = λ i. at8 .before .before .before .before .before .before .before .before .slice-known .given i .fits in
-    refused-by (p .args .config) (now (p .args .b)) s (p .args .clock) h (ap reachesDecision (sym e)) 0x04 (p .args .head) _ _ _ _ y (p .pre .0 .0) e (p .pre .0 .1 .0) (r .0) (r .1 .0) (r .1 .1)
+    refused-by (p .args .config) (now (p .args .b)) s (p .args .clock) h stops 0x04 (p .args .head) _ _ _ _ y (p .pre .0 .0) e (p .pre .0 .1 .0) (r .0) (r .1 .0) (r .1 .1)
 
 same-length-3 : tie.Need-same-length-3
 same-length-3 c = search needs

@@ -27,11 +27,25 @@ returns-4 c =
     let p = c .before .before in
     simp (p .before .before .if1 .left, ne-eqb _ _ (p .before .if2 .left), ne-eqb _ _ (p .if3 .left), c .before .if4 .taken, ← c .be64 .ensures)
 
+byte-requires : tie.Need-byte-requires
+byte-requires c κs = tt
+
+rule-by-requires : tie.Need-rule-by-requires
+rule-by-requires c κs = tt
+
 returns-5 : tie.Need-returns-5
 unfolding fieldBy
 returns-5 c =
+    let p = c .before .before .before in
+    let q = p .before .before in
+    simp (q .before .if1 .left, ne-eqb _ _ (q .if2 .left), ne-eqb _ _ (p .before .if3 .left), p .if4 .left, c .before .before .if5 .taken, ← c .before .byte .ensures, c .rule-by .ensures)
+
+returns-6 : tie.Need-returns-6
+unfolding fieldBy
+returns-6 c =
     let p = c .before in
-    simp (p .before .before .if1 .left, ne-eqb _ _ (p .before .if2 .left), ne-eqb _ _ (p .if3 .left), c .if4 .left)
+    let q = p .before .before in
+    simp (q .before .if1 .left, ne-eqb _ _ (q .if2 .left), ne-eqb _ _ (p .before .if3 .left), p .if4 .left, c .if5 .left)
 
 pub field-by-spec : {M : Type 1} → statement M
-field-by-spec = tie.close (tie.spec be32-requires returns returns-2 returns-3 be64-requires returns-4 returns-5)
+field-by-spec = tie.close (tie.spec be32-requires returns returns-2 returns-3 be64-requires returns-4 byte-requires rule-by-requires returns-5 returns-6)

@@ -2,7 +2,7 @@
 
 use crate::answers::Engine;
 use crate::rendering::numbers::{Mode, Numbers};
-use crate::rendering::request::{is_with_meta, view, MetaExtras, FORCE, SKIP_CONFLICTS};
+use crate::rendering::request::{is_with_meta, view, MetaExtras, SKIP_CONFLICTS};
 use crate::rendering::shape::Command;
 use crate::rendering::status::Status;
 use crate::rendering::table::Table;
@@ -41,7 +41,7 @@ pub fn of_frame(before: &[u8], clock: u32, frame: &[u8], status: u8) -> Option<C
     }
     let request = view(frame).ok().filter(|request| is_with_meta(request.shape.command) && request.cas == 0)?;
     let given = MetaExtras::read(request.extras);
-    if given.has(FORCE) || given.has(SKIP_CONFLICTS) {
+    if given.has(SKIP_CONFLICTS) {
         return None;
     }
     let table = Table::read(Engine::Plain, before).ok()?;

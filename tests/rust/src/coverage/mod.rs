@@ -2,6 +2,7 @@
 
 mod clocks;
 mod contests;
+mod forces;
 mod forms;
 mod joins;
 mod layouts;
@@ -12,7 +13,7 @@ mod searches;
 mod situations;
 pub mod voyages;
 
-use crate::answers::Engine;
+use crate::answers::{Activated, Engine};
 use crate::generate::faults::Fault;
 use crate::generate::tables::Damage;
 use crate::generate::{Generator, Start, BUILT};
@@ -20,6 +21,7 @@ use crate::rendering::shape::{shape, Command};
 use crate::rendering::status::Status;
 use crate::session::{Answer, Call};
 use contests::Contest;
+use forces::Passage;
 use layouts::Carriers;
 use situations::Situation;
 use std::collections::BTreeMap;
@@ -46,6 +48,7 @@ pub struct Coverage {
     /// The append or prepend that the call before was, with its key.
     joined: Option<(u8, Vec<u8>)>,
     carriers: Carriers,
+    passage: Passage,
 }
 
 impl Coverage {
@@ -60,6 +63,7 @@ impl Coverage {
         self.in_order = start.in_order;
         self.joined = None;
         self.carriers.forget();
+        self.passage = Passage::default();
         *self.sizes.entry(situations::rows(table)).or_default() += 1;
         self.meet(situations::of_start(table, start.damage));
         self.meet([Situation::Clock(clocks::of_start(table))]);
@@ -84,6 +88,9 @@ impl Coverage {
         self.meet(lifetimes::of_call(before, call, answer).into_iter().map(Situation::Lifetime));
         self.meet(joins::of_form(call, answer).map(Situation::Join));
         self.meet(layouts::of_form(call, answer).map(Situation::Layout));
+        self.meet(forces::of_form(call, answer).map(Situation::Force));
+        let passed = self.passage.of_call(before, call, answer);
+        self.meet(passed.map(Situation::Force));
         let joined = self.joined.take();
         if matches!(call, Call::Run { .. } | Call::Make { .. }) {
             self.carriers.forget();
@@ -190,6 +197,7 @@ fn name(answer: &Answer) -> String {
         Answer::Ran(ran) => format!("run, outcome {}", ran.outcome),
         Answer::Document(document) => format!("read, outcome {} status {}", document.outcome, document.status),
         Answer::Purged(purged) => format!("purge, outcome {} freed {}", purged.outcome, purged.freed.min(2)),
+        Answer::Activated(Activated { outcome, status }) => format!("activate, outcome {outcome} status {status}"),
         Answer::Sound(sound) => format!("sound, {sound}"),
         Answer::Made(outcome) => format!("make, outcome {outcome}"),
         Answer::Size(size) => format!("size, {}", if *size == 0 { "none" } else { "some" }),
@@ -218,6 +226,9 @@ fn expected_answers() -> impl Iterator<Item = &'static str> {
         "purge, outcome 0 freed 1",
         "purge, outcome 0 freed 2",
         "purge, outcome 5 freed 0",
+        "activate, outcome 0 status 0",
+        "activate, outcome 0 status 7",
+        "activate, outcome 5 status 0",
         "sound, true",
         "sound, false",
         "make, outcome 0",
@@ -256,9 +267,8 @@ fn statuses_of(opcode: u8) -> &'static [u8] {
         Ok(Command::Increment | Command::Decrement) => &[0x00, 0x01, 0x02, 0x04, 0x06, 0x07, 0x82, 0x84],
         Ok(Command::Append | Command::Prepend) => &[0x00, 0x02, 0x03, 0x04, 0x05, 0x07, 0x84],
         Ok(Command::Touch | Command::GetAndTouch) => &[0x00, 0x01, 0x04, 0x07, 0x84],
-        Ok(Command::DeleteWithMeta) => &[0x00, 0x01, 0x02, 0x04, 0x07, 0x82, 0x84],
-        Ok(Command::Set | Command::Add | Command::SetWithMeta | Command::AddWithMeta) => {
-            &[0x00, 0x01, 0x02, 0x03, 0x04, 0x07, 0x82, 0x84]
-        }
+        Ok(Command::DeleteWithMeta) => &[0x00, 0x01, 0x02, 0x04, 0x07, 0x82, 0x83, 0x84],
+        Ok(Command::Set | Command::Add) => &[0x00, 0x01, 0x02, 0x03, 0x04, 0x07, 0x82, 0x84],
+        Ok(Command::SetWithMeta | Command::AddWithMeta) => &[0x00, 0x01, 0x02, 0x03, 0x04, 0x07, 0x82, 0x83, 0x84],
     }
 }

@@ -1,13 +1,13 @@
 //! Situations that a run must come to, told from the table, the frame and the answer, whatever was aimed at.
 
-use super::{clocks, joins, layouts, lifetimes, listings, orders, searches};
+use super::{clocks, forces, joins, layouts, lifetimes, listings, orders, searches};
 use crate::answers::{Engine, Served};
 use crate::generate::keys::{bucket, fingerprint};
 use crate::generate::tables::Damage;
 use crate::generate::GET_KEYS;
 use crate::rendering::bytes::{put, u16_at, u32_at};
 use crate::rendering::request::{
-    is_with_meta, view, MetaExtras, View, FORCE, FORCE_ACCEPT, HEADER as FRAME_HEADER, REGENERATE_CAS, SKIP_CONFLICTS,
+    is_with_meta, view, MetaExtras, View, FORCE_ACCEPT, HEADER as FRAME_HEADER, REGENERATE_CAS, SKIP_CONFLICTS,
 };
 use crate::rendering::shape::Command;
 use crate::rendering::status::Status;
@@ -69,6 +69,7 @@ pub enum Finder {
     Run,
     Read,
     Purge,
+    Activate,
     Sound,
 }
 
@@ -100,14 +101,13 @@ pub enum Situation {
         cause: Cause,
     },
     HighOptionBit(u32),
-    /// A with-meta write with or without option 0x01 on a table in this state.
+    /// A with-meta write on a table in this state.
     State {
         opcode: u8,
         state: u8,
-        forced: bool,
         status: u8,
     },
-    /// An Add without a header CAS; skips: with option 0x01 or 0x08.
+    /// An Add without a header CAS; skips: with option 0x08.
     Add {
         opcode: u8,
         on: On,
@@ -121,6 +121,7 @@ pub enum Situation {
     Lifetime(lifetimes::Met),
     Order(orders::Met),
     Layout(layouts::Met),
+    Force(forces::Met),
 }
 
 impl Situation {
@@ -137,6 +138,7 @@ impl Situation {
             Situation::Clock(met) if met.is_rare() => calls / 250_000,
             Situation::Join(met) if met.is_rare() => calls / 250_000,
             Situation::Layout(met) if met.is_rare() => calls / 250_000,
+            Situation::Force(met) if met.is_rare() => calls / 250_000,
             Situation::Order(met) => calls / met.once_in(),
             _ => calls / 50_000,
         }
@@ -167,11 +169,12 @@ pub fn expected() -> Vec<Situation> {
     expected.extend(lifetimes::expected().into_iter().map(Situation::Lifetime));
     expected.extend(orders::expected().into_iter().map(Situation::Order));
     expected.extend(layouts::expected().into_iter().map(Situation::Layout));
+    expected.extend(forces::expected().into_iter().map(Situation::Force));
     expected
 }
 
 fn expected_of_damage(engine: Engine, damage: Damage) -> Vec<Situation> {
-    let finders = [Finder::Serve, Finder::Run, Finder::Read, Finder::Purge, Finder::Sound];
+    let finders = [Finder::Serve, Finder::Run, Finder::Read, Finder::Purge, Finder::Activate, Finder::Sound];
     let mut expected = finders.map(|finder| Situation::Damaged { engine, damage, finder }).to_vec();
     if !matches!(damage, Damage::NoBytes | Damage::HeaderOnly) {
         expected.push(Situation::DamagedAbove12Rows(engine, damage));
@@ -180,7 +183,7 @@ fn expected_of_damage(engine: Engine, damage: Damage) -> Vec<Situation> {
 }
 
 fn expected_with_meta(opcode: u8) -> Vec<Situation> {
-    let options = [FORCE, FORCE_ACCEPT, REGENERATE_CAS, SKIP_CONFLICTS].map(Carried::Option);
+    let options = [FORCE_ACCEPT, REGENERATE_CAS, SKIP_CONFLICTS].map(Carried::Option);
     let carried = options.into_iter().chain([Carried::MetaVersionAlone, Carried::MetaFields]);
     let causes = [
         Cause::HighOption,
@@ -193,12 +196,11 @@ fn expected_with_meta(opcode: u8) -> Vec<Situation> {
         Cause::MetaFieldCut,
         Cause::MetaContentCut,
     ];
-    let states = (ACTIVE..=DEAD).flat_map(|state| [(state, true), (state, false)]);
     let stored = carried.map(|carried| Situation::Stored { opcode, carried });
     let refused = causes.into_iter().map(|cause| Situation::Refused { opcode, cause });
-    let stated = states.map(|(state, forced)| {
-        let passes = state == ACTIVE || (forced && state != DEAD);
-        Situation::State { opcode, state, forced, status: if passes { 0 } else { NOT_MY_VBUCKET } }
+    let stated = (ACTIVE..=DEAD).map(|state| {
+        let status = if state == ACTIVE { 0 } else { NOT_MY_VBUCKET };
+        Situation::State { opcode, state, status }
     });
     stored.chain(refused).chain(stated).collect()
 }
@@ -270,6 +272,7 @@ pub fn of_damage(engine: Engine, memory: &[u8], damage: Damage, answer: &Answer)
         Answer::Ran(ran) if ran.outcome == 5 => Finder::Run,
         Answer::Document(document) if document.outcome == 5 => Finder::Read,
         Answer::Purged(purged) if purged.outcome == 5 => Finder::Purge,
+        Answer::Activated(activated) if activated.outcome == 5 => Finder::Activate,
         Answer::Sound(false) => Finder::Sound,
         _ => return Vec::new(),
     };
@@ -292,6 +295,7 @@ pub fn of_frame(before: &[u8], clock: u32, frame: &[u8], served: &Served) -> Vec
     }
     met.extend(joins::of_frame(before, clock, frame, served).into_iter().map(Situation::Join));
     met.extend(layouts::of_frame(before, frame, served).into_iter().map(Situation::Layout));
+    met.extend(forces::of_frame(before, clock, frame, served).into_iter().map(Situation::Force));
     match view(frame) {
         Ok(request) => {
             met.extend(add(before, clock, opcode, &request, served.status));
@@ -307,7 +311,6 @@ pub fn of_frame(before: &[u8], clock: u32, frame: &[u8], served: &Served) -> Vec
 
 fn with_meta(before: &[u8], opcode: u8, request: &View, status: u8, met: &mut Vec<Situation>) {
     let given = MetaExtras::read(request.extras);
-    let (state, forced) = (before[0], given.has(FORCE));
     match status {
         0 => met.extend(carried(request, &given).map(|carried| Situation::Stored { opcode, carried })),
         INVALID => {
@@ -318,12 +321,12 @@ fn with_meta(before: &[u8], opcode: u8, request: &View, status: u8, met: &mut Ve
         _ => {}
     }
     if matches!(status, 0 | NOT_MY_VBUCKET) && request.vbucket == u16_at(before, 2) {
-        met.push(Situation::State { opcode, state, forced, status });
+        met.push(Situation::State { opcode, state: before[0], status });
     }
 }
 
 fn carried<'v>(request: &'v View, given: &'v MetaExtras) -> impl Iterator<Item = Carried> + 'v {
-    let options = [FORCE, FORCE_ACCEPT, REGENERATE_CAS, SKIP_CONFLICTS].into_iter();
+    let options = [FORCE_ACCEPT, REGENERATE_CAS, SKIP_CONFLICTS].into_iter();
     let meta = match request.meta.len() {
         0 => None,
         1 => Some(Carried::MetaVersionAlone),
@@ -405,7 +408,7 @@ fn add(before: &[u8], clock: u32, opcode: u8, request: &View, status: u8) -> Opt
         return None;
     }
     let given = is_with_meta(command).then(|| MetaExtras::read(request.extras));
-    let skips = given.is_some_and(|given| given.has(FORCE) || given.has(SKIP_CONFLICTS));
+    let skips = given.is_some_and(|given| given.has(SKIP_CONFLICTS));
     let table = Table::read(Engine::Plain, before).ok()?;
     let on = table.find(request.key).map_or(On::Nothing, |(_, row)| found(&row, clock));
     Some(Situation::Add { opcode, on, skips, status })

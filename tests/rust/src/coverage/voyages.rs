@@ -1,13 +1,14 @@
-//! Order 6: how replays ended and why, and what they met on their way.
+//! Order 6: how replays ended and why, and what they met on their way, by which of order 9's rules.
 
+use super::contests;
 use super::situations::WITH_META;
-use crate::answers::{end, Replayed, Store, Tally};
-use crate::rendering::bytes::{u16_at, u32_at, u64_at};
-use crate::rendering::request::EXTRAS_OF_2012;
+use crate::answers::{end, Engine, Replayed, Store, Tally};
+use crate::rendering::bytes::{put, u16_at, u32_at, u64_at};
+use crate::rendering::request::{view, MetaExtras, View, EXTRAS_OF_2012, FORCE, REGENERATE_CAS, SKIP_CONFLICTS};
 use crate::rendering::serving::ROOM;
-use crate::rendering::table::{ACTIVE, KEPT_AT};
-use crate::rendering::voyage::{BOUND, CLOCK, FIELD_HEADER, FRAME, MOST, OPENING, REPLY, ROWS};
-use std::collections::BTreeMap;
+use crate::rendering::table::{Table, ACTIVE, KEPT_AT};
+use crate::rendering::voyage::{BOUND, CLOCK, FIELD_HEADER, FRAME, MOST, OPENING, REPLY, ROWS, RULE};
+use std::collections::{BTreeMap, BTreeSet};
 
 const FRAME_HEADER: usize = 24;
 const BODY_MOST: usize = 1_400;
@@ -57,6 +58,17 @@ pub enum Difference {
     SomeForSilent,
 }
 
+/// Why a field with tag 5 stops a replay: by its byte, 0, 3 or any other, by its length, or since it isn't the first field.
+#[derive(Clone, Copy, Debug, PartialEq, Eq, PartialOrd, Ord)]
+pub enum NoRule {
+    Byte(u8),
+    NoByte,
+    TwoBytes,
+    MoreBytes,
+    Late { rule: u8 },
+    Again,
+}
+
 #[derive(Clone, Copy, Debug, PartialEq, Eq, PartialOrd, Ord)]
 pub enum Met {
     /// Memory of another size, smaller or larger, with a trace that would be replayed and with any other.
@@ -68,8 +80,24 @@ pub enum Met {
     /// An opening of so many bytes, and one with this mode: 0, 3 or any other.
     Opening(usize),
     Mode(u8),
-    /// A tag that isn't known: 0, 5, 6, 255 or any other.
+    /// A tag that isn't known: 0, 6, 255 or any other.
     Tag(u8),
+    /// A rule that stops the replay, and what a replay that got further was told at first: nothing, 1 or 2.
+    Rule(NoRule),
+    Told(Option<u8>),
+    /// A mode's frame with option 0x01 and this status, by what was told.
+    Forced {
+        told: Option<u8>,
+        mode: u8,
+        status: u8,
+    },
+    /// Such a frame of this opcode stored by the old rule, and one that is smaller than what it replaces.
+    ForcedStored(u8),
+    ForcedOverGreater(u8),
+    /// A write without it compared with what was stored by force.
+    ComparedWithForced {
+        won: bool,
+    },
     Clock(Length),
     Bound(Length),
     Frame(NoFrame),
@@ -109,6 +137,7 @@ pub enum Met {
 }
 
 const OTHER_TAG: u8 = 9;
+const OTHER_RULE: u8 = 4;
 const OTHER_MODE: u8 = 4;
 
 /// Every status but 0x84: no mark and no revision gets to 2^64 - 1 in a trace, since a with-meta write's end at
@@ -142,7 +171,8 @@ fn expected() -> Vec<Met> {
     all.extend((0..OPENING).map(Met::Opening));
     all.extend((0..=2).map(Met::Replayed));
     all.extend([0, 3, OTHER_MODE].map(Met::Mode));
-    all.extend([0, 5, 6, 255, OTHER_TAG].map(Met::Tag));
+    all.extend([0, 6, 255, OTHER_TAG].map(Met::Tag));
+    all.extend(expected_of_rules());
     let lengths = [Length::None, Length::OneLess, Length::OneMore, Length::Other];
     all.extend(lengths.map(Met::Clock));
     all.extend(lengths.map(Met::Bound));
@@ -160,6 +190,7 @@ fn expected() -> Vec<Met> {
     all.extend(causes.map(Met::Frame));
     let cuts = [Cut::One, Cut::Two, Cut::NoValue, Cut::Some, Cut::ButOne];
     all.extend([CLOCK, FRAME, REPLY, BOUND].into_iter().flat_map(|tag| cuts.map(|cut| Met::Cut(tag, cut))));
+    all.extend([Cut::One, Cut::Two, Cut::NoValue].map(|cut| Met::Cut(RULE, cut)));
     all.extend([Cut::One, Cut::Two, Cut::Some].map(|cut| Met::Cut(OTHER_TAG, cut)));
     let differences = [
         Difference::OneByte,
@@ -174,6 +205,25 @@ fn expected() -> Vec<Met> {
     all.extend([1, 2].into_iter().flat_map(|mode| STATUSES.map(|status| Met::Status(mode, status))));
     all.extend([0x00, 0x01, 0x02, 0x03, 0x04, 0x07].map(|status| Met::Of2012(1, status)));
     all.push(Met::Of2012(2, 0x04));
+    all
+}
+
+fn expected_of_rules() -> Vec<Met> {
+    let mut all = Vec::new();
+    let bytes = [0, 3, OTHER_RULE].map(NoRule::Byte).into_iter();
+    let late = [1, 2].map(|rule| NoRule::Late { rule });
+    let others = [NoRule::NoByte, NoRule::TwoBytes, NoRule::MoreBytes, NoRule::Again];
+    all.extend(bytes.chain(late).chain(others).map(Met::Rule));
+    all.extend([None, Some(1), Some(2)].map(Met::Told));
+    for mode in [1, 2] {
+        let forced = |told, status| Met::Forced { told, mode, status };
+        let by_old = [0x00, 0x01, 0x02, 0x03, 0x04, 0x07];
+        all.extend([None, Some(1)].into_iter().flat_map(|told| by_old.map(|status| forced(told, status))));
+        all.extend([0x04, 0x83].map(|status| forced(Some(2), status)));
+    }
+    all.extend(WITH_META.map(Met::ForcedStored));
+    all.extend([0xa2, 0xa3, 0xa8, 0xa9].map(Met::ForcedOverGreater));
+    all.extend([false, true].map(|won| Met::ComparedWithForced { won }));
     all
 }
 
@@ -284,6 +334,9 @@ struct Boat<'s> {
     store: &'s dyn Store,
     table: Vec<u8>,
     mode: u8,
+    told: Option<u8>,
+    /// The keys of rows that were stored by force.
+    forced: BTreeSet<Vec<u8>>,
     clock: Option<u32>,
     reply: Option<Vec<u8>>,
     frames: usize,
@@ -295,8 +348,9 @@ impl<'s> Boat<'s> {
     fn on(store: &'s dyn Store, trace: &[u8]) -> Boat<'s> {
         let mut table = vec![0; store.size(ROWS)];
         store.make(&mut table, ROWS, ACTIVE, trace[0], u16_at(trace, 1));
-        let (clock, reply, before, met) = (None, None, Before::Opening, Vec::new());
-        Boat { store, table, mode: trace[0], clock, reply, frames: 0, before, met }
+        let (told, clock, reply, before, met) = (None, None, None, Before::Opening, Vec::new());
+        let forced = BTreeSet::new();
+        Boat { store, table, mode: trace[0], told, forced, clock, reply, frames: 0, before, met }
     }
 
     fn kept(&self) -> u32 {
@@ -323,6 +377,10 @@ impl<'s> Boat<'s> {
             (BOUND, 8) => {
                 self.purge(u64_at(value, 0));
                 true
+            }
+            (RULE, 1) => {
+                self.told = Some(value[0]);
+                place == OPENING && matches!(value[0], 1 | 2)
             }
             _ => false,
         };
@@ -351,13 +409,37 @@ impl<'s> Boat<'s> {
         self.met.extend((self.now() < self.kept()).then_some(Met::FrameByKeptClock));
         let mut reply = vec![0; ROOM];
         let clock = self.now();
-        let served = self.store.serve(&mut self.table, clock, frame, &mut reply, &mut Tally::default());
+        let asked = if self.told == Some(2) { frame.to_vec() } else { by_the_old_rule(frame) };
+        let before = self.table.clone();
+        let served = self.store.serve(&mut self.table, clock, &asked, &mut reply, &mut Tally::default());
         self.met.push(Met::Status(self.mode, served.status));
+        self.count_forced(&before, clock, frame, served.status);
         self.met.extend(is_of_2012(frame).then_some(Met::Of2012(self.mode, served.status)));
         reply.truncate(served.reply);
         self.reply = Some(reply);
         self.frames += 1;
         served.outcome == 0 && served.used == frame.len()
+    }
+
+    /// What a frame with option 0x01 came to, and one that was compared with what such a frame had stored.
+    fn count_forced(&mut self, before: &[u8], clock: u32, frame: &[u8], status: u8) {
+        let (told, mode) = (self.told, self.mode);
+        let is_forced = options_at(frame).is_some_and(|at| u32_at(frame, at) & FORCE != 0);
+        self.met.extend(is_forced.then_some(Met::Forced { told, mode, status }));
+        let Ok(request) = view(frame) else {
+            return;
+        };
+        if is_forced && status == 0 {
+            self.met.push(Met::ForcedStored(frame[1]));
+            self.met.extend(replaces_a_greater(before, &request).then_some(Met::ForcedOverGreater(frame[1])));
+        } else if self.forced.contains(request.key) && contests::of_frame(before, clock, frame, status).is_some() {
+            self.met.push(Met::ComparedWithForced { won: status == 0 });
+        }
+        if status == 0 && is_forced {
+            self.forced.insert(request.key.to_vec());
+        } else if status == 0 && before != self.table {
+            self.forced.remove(request.key);
+        }
     }
 
     fn compare(&mut self, reply: &[u8]) -> bool {
@@ -397,6 +479,7 @@ impl<'s> Boat<'s> {
             _ => None,
         };
         self.met.extend((trace.len() == MOST).then_some(Met::Longest(answer.end)));
+        self.met.extend((self.before != Before::Opening).then_some(Met::Told(self.told)));
         self.met.push(met.ok_or_else(|| format!("no cause for {answer:?}, after {} frames", self.frames))?);
         Ok(())
     }
@@ -404,7 +487,7 @@ impl<'s> Boat<'s> {
     /// Why a field stops the replay, if it does; `rest` is the trace from its tag on.
     fn stopped(&self, rest: &[u8]) -> Option<Met> {
         let tag = rest[0];
-        let known = if (CLOCK..=BOUND).contains(&tag) { tag } else { OTHER_TAG };
+        let known = if (CLOCK..=RULE).contains(&tag) { tag } else { OTHER_TAG };
         if rest.len() < FIELD_HEADER {
             return Some(Met::Cut(known, if rest.len() == 1 { Cut::One } else { Cut::Two }));
         }
@@ -419,8 +502,23 @@ impl<'s> Boat<'s> {
             BOUND => beside(length, 8).map(Met::Bound),
             FRAME => no_frame(value).map(Met::Frame),
             REPLY => self.reply.is_none().then_some(Met::ReplyFirst { empty: value.is_empty() }),
-            0 | 5 | 6 | 255 => Some(Met::Tag(tag)),
+            RULE => self.no_rule(value).map(Met::Rule),
+            0 | 6 | 255 => Some(Met::Tag(tag)),
             _ => Some(Met::Tag(OTHER_TAG)),
+        }
+    }
+
+    /// Why a field with tag 5 stops the replay, if it does.
+    fn no_rule(&self, value: &[u8]) -> Option<NoRule> {
+        match value {
+            [] => Some(NoRule::NoByte),
+            [1 | 2] if self.before == Before::Opening => None,
+            [1 | 2] if self.told.is_some() => Some(NoRule::Again),
+            &[rule @ (1 | 2)] => Some(NoRule::Late { rule }),
+            &[byte @ (0 | 3)] => Some(NoRule::Byte(byte)),
+            [_] => Some(NoRule::Byte(OTHER_RULE)),
+            [_, _] => Some(NoRule::TwoBytes),
+            _ => Some(NoRule::MoreBytes),
         }
     }
 
@@ -440,6 +538,34 @@ impl<'s> Boat<'s> {
             std::cmp::Ordering::Equal => return None,
         }))
     }
+}
+
+/// Where a with-meta frame has its options, if it has any.
+fn options_at(frame: &[u8]) -> Option<usize> {
+    let (opcode, extras) = (frame.get(1)?, frame.get(4)?);
+    let has_any = WITH_META.contains(opcode) && matches!(extras, 28 | 30) && frame.len() >= FRAME_HEADER + 28;
+    has_any.then_some(FRAME_HEADER + 24)
+}
+
+/// The frame that is served by the new rule as this one by the old: "Without options 0x01 and 0x08" a write is compared, so 0x01
+/// did on an active table what 0x08 does. It stays where option 0x04 comes without 0x08, which is 0x04 by both rules.
+fn by_the_old_rule(frame: &[u8]) -> Vec<u8> {
+    let mut asked = frame.to_vec();
+    if let Some(at) = options_at(frame) {
+        let options = u32_at(frame, at);
+        let alone = options & REGENERATE_CAS != 0 && options & SKIP_CONFLICTS == 0;
+        if options & FORCE != 0 && !alone {
+            put(&mut asked, at, &(options & !FORCE | SKIP_CONFLICTS).to_be_bytes());
+        }
+    }
+    asked
+}
+
+/// Whether a with-meta write stands in the place of one that is greater.
+fn replaces_a_greater(before: &[u8], request: &View) -> bool {
+    let given = MetaExtras::read(request.extras).numbers;
+    Table::read(Engine::Plain, before)
+        .is_ok_and(|table| table.find(request.key).is_some_and(|(_, row)| row.numbers.beats(given, table.head.mode)))
 }
 
 /// Whether it is a with-meta frame in the layout of 2012.

@@ -1,4 +1,4 @@
-//! Tables, calls and traces at random, biased to the limits of document 01 and of orders 1, 2 and 4 to 8.
+//! Tables, calls and traces at random, biased to the limits of document 01 and of orders 1, 2 and 4 to 9.
 
 mod clocks;
 pub mod faults;
@@ -21,7 +21,7 @@ use crate::rendering::numbers::Mode;
 use crate::rendering::owner::sound;
 use crate::rendering::request::{HEADER as FRAME_HEADER, MAX_BODY};
 use crate::rendering::serving::ROOM;
-use crate::rendering::table::{Row, Table, HEADER, ROW};
+use crate::rendering::table::{Row, Table, ACTIVE, HEADER, ROW};
 use crate::session::{Call, Session};
 use faults::Fault;
 use std::collections::BTreeMap;
@@ -38,6 +38,7 @@ pub const GET_KEYS: u8 = 0xb8;
 /// What of a table shapes the next call: its rows, and a stand-in for the header of a damaged one. Rows in any order are seen.
 struct Sight<'t> {
     damaged: bool,
+    state: u8,
     mode: Mode,
     vbucket: u16,
     kept: u32,
@@ -50,15 +51,22 @@ impl<'t> Sight<'t> {
         match Table::read(Engine::Plain, memory) {
             Ok(Table { head, rows, .. }) => Sight {
                 damaged: false,
+                state: head.state,
                 mode: head.mode,
                 vbucket: head.vbucket,
                 kept: head.kept,
                 mark: head.mark.0,
                 rows: rows.into_iter().flatten().collect(),
             },
-            Err(_) => {
-                Sight { damaged: true, mode: Mode::LastWriteWins, vbucket: 0, kept: 0, mark: 0, rows: Vec::new() }
-            }
+            Err(_) => Sight {
+                damaged: true,
+                state: ACTIVE,
+                mode: Mode::LastWriteWins,
+                vbucket: 0,
+                kept: 0,
+                mark: 0,
+                rows: Vec::new(),
+            },
         }
     }
 
@@ -82,6 +90,8 @@ pub struct Generator {
     ends: bool,
     /// Whether it purges more often.
     purges: bool,
+    /// Whether it asks for option 0x01 more often.
+    forces: bool,
     /// The key of the last append or prepend, until the next request.
     joined: Option<Vec<u8>>,
     /// The key of the last with-meta write, until the next request.
@@ -102,20 +112,31 @@ pub struct Start {
 impl Generator {
     pub fn new(seed: u64) -> Generator {
         let (random, keys, faults) = (Random::new(seed), Vec::new(), BTreeMap::new());
-        let (joined, carried) = (None, None);
-        Generator { random, keys, clock: 0, lists: false, ends: false, purges: false, joined, carried, faults }
+        Generator {
+            random,
+            keys,
+            clock: 0,
+            lists: false,
+            ends: false,
+            purges: false,
+            forces: false,
+            joined: None,
+            carried: None,
+            faults,
+        }
     }
 
     pub fn start(&mut self) -> Start {
         self.lists = self.random.percent(6);
         self.ends = self.random.percent(5);
+        self.forces = false;
         self.joined = None;
         self.carried = None;
         let rows = if self.lists { self.listed_row_count() } else { self.row_count() };
         self.clock = self.session_clock();
         self.keys = if self.lists { self.listed_keys(rows) } else { self.session_keys(rows) };
         let table = self.table(rows);
-        if !self.lists && self.random.percent(if rows > 12 { 40 } else { 14 }) {
+        if !self.lists && self.random.percent(if rows > 12 { 40 } else { 16 }) {
             return self.damaged(table);
         }
         let calls = if rows > 12 || self.lists { 8 } else { self.random.between(10, 60) };
@@ -159,6 +180,9 @@ impl Generator {
         if self.purges && self.random.percent(30) {
             return Call::Purge { clock: self.clock_near(&sight), bound: u64::MAX };
         }
+        if self.random.percent(if sight.state == ACTIVE { 1 } else { 5 }) {
+            return Call::Activate;
+        }
         match self.random.below(100) {
             0..=67 => self.serve(&sight),
             68..=74 => self.run(&sight),
@@ -174,12 +198,13 @@ impl Generator {
 
     /// The calls that find damage, and now and then one that makes a table anew.
     fn call_on_damage(&mut self, table: &[u8], sight: &Sight) -> Call {
-        match self.random.below(16) {
+        match self.random.below(18) {
             0..=5 => self.serve(sight),
             6..=8 => self.run(sight),
             9 | 10 => self.read(sight),
             11 | 12 => self.purge(sight),
-            13 | 14 => Call::Sound,
+            13 | 14 => Call::Activate,
+            15 | 16 => Call::Sound,
             _ => self.make(table),
         }
     }

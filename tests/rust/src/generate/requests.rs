@@ -6,6 +6,7 @@ use super::orders::STORING;
 use super::{Generator, Sight, BUILT, GET_KEYS};
 use crate::frame::{counter_extras, meta_extras, plain_extras, Frame};
 use crate::rendering::numbers::{Cas, Mode, Numbers, Revision};
+use crate::rendering::table::MAX_VALUE;
 
 const WITH_META: [u8; 6] = [0xa2, 0xa3, 0xa4, 0xa5, 0xa8, 0xa9];
 
@@ -109,6 +110,10 @@ impl Generator {
             self.of_2012(Frame { value, ..frame }, given, section)
         } else {
             let (options, meta_length) = self.meta_tail(sight, section.len(), value.len() + section.len());
+            if options.is_some_and(|options| options & 1 == 1) && !deletes && self.random.percent(5) {
+                // 0x83 comes before 0x03
+                value.resize(MAX_VALUE + 1, b'v');
+            }
             value.extend(section);
             Frame { extras: meta_extras(given, options, meta_length), value, ..frame }
         };
@@ -134,7 +139,7 @@ impl Generator {
 
     /// Options and meta length as the extras carry them, or leave them out.
     fn meta_tail(&mut self, sight: &Sight, section: usize, rest: usize) -> (Option<u32>, Option<u16>) {
-        let options = self.options(sight.mode);
+        let options = self.options(sight);
         let options = Some(options).filter(|&options| options != 0 || self.random.percent(50));
         let length = match self.random.below(60) {
             0 => self.random.u32() as u16,
@@ -147,13 +152,16 @@ impl Generator {
         (options, Some(length).filter(|&length| length != 0 || self.random.percent(50)))
     }
 
-    fn options(&mut self, mode: Mode) -> u32 {
-        let accepted = if mode == Mode::LastWriteWins { 0x02 } else { 0 };
+    fn options(&mut self, sight: &Sight) -> u32 {
+        let accepted = if sight.mode == Mode::LastWriteWins { 0x02 } else { 0 };
         match self.random.below(30) {
             0 => self.random.below(16) as u32,
             1 => accepted | 1 << self.random.below(32),
-            2 => accepted ^ 0x02,
-            3..=10 => accepted | *self.random.pick(&[0x01, 0x08, 0x09, 0x0c, 0x0d]),
+            2 => accepted ^ *self.random.pick(&[0x02, 0x03]),
+            3..=16 if self.forces => accepted | *self.random.pick(&[0x01, 0x01, 0x09, 0x0d]),
+            // a mark that can't grow
+            3..=8 if sight.mark == u64::MAX => accepted | *self.random.pick(&[0x0c, 0x0d]),
+            3..=10 => accepted | *self.random.pick(&[0x08, 0x08, 0x0c, 0x0c, 0x01, 0x09, 0x0d]),
             _ => accepted,
         }
     }

@@ -1,33 +1,38 @@
-//! Order 6: voyages recorded by serving them, and their traces with one thing changed.
+//! Order 6: voyages recorded by serving them, by order 9's new rule or by the old, and their traces with one thing changed.
 
 use super::{Generator, Sight};
 use crate::answers::{Engine, Tally};
 use crate::frame::{plain_extras, Frame};
 use crate::random::Random;
+use crate::rendering::commands::Rule;
 use crate::rendering::request::first_frame;
-use crate::rendering::serving::ROOM;
+use crate::rendering::serving::{serve_by, ROOM};
 use crate::rendering::table::ACTIVE;
-use crate::rendering::voyage::{BOUND, CLOCK, FRAME, MOST, OPENING, REPLY, ROWS};
-use crate::rendering::{make, purge, serve, size};
+use crate::rendering::voyage::{BOUND, CLOCK, FRAME, MOST, OPENING, REPLY, ROWS, RULE};
+use crate::rendering::{make, purge, size};
 use crate::trace::{Field, Trace};
 
 /// The sizes of clock and bound fields, of which every longer trace can be made up.
 const CLOCK_SIZE: usize = 7;
 const BOUND_SIZE: usize = 11;
 
-/// A voyage under way: its table, its clock, its trace so far and the last frame's reply.
+/// A voyage under way: its table, its rule, its clock, its trace so far and the last frame's reply.
 struct Voyage {
     table: Vec<u8>,
+    rule: Rule,
     clock: u32,
     trace: Trace,
     reply: Option<Vec<u8>>,
 }
 
 impl Voyage {
-    fn fresh(mode: u8, vbucket: u16) -> Voyage {
+    /// By the old rule where none is told.
+    fn fresh(mode: u8, vbucket: u16, told: Option<u8>) -> Voyage {
         let mut table = vec![0; size(ROWS)];
         make(&mut table, ROWS, ACTIVE, mode, vbucket);
-        Voyage { table, clock: 0, trace: Trace::open(mode, vbucket), reply: None }
+        let rule = if told == Some(2) { Rule::New } else { Rule::Old };
+        let trace = Trace::open(mode, vbucket).with(told.map(Field::rule));
+        Voyage { table, rule, clock: 0, trace, reply: None }
     }
 
     fn clock(&mut self, clock: u32) {
@@ -42,7 +47,8 @@ impl Voyage {
 
     fn frame(&mut self, frame: &[u8]) {
         let mut reply = vec![0; ROOM];
-        let served = serve(Engine::Ordered, &mut self.table, self.clock, frame, &mut reply, &mut Tally::default());
+        let (engine, mut tally) = (Engine::Ordered, Tally::default());
+        let served = serve_by(self.rule, engine, &mut self.table, self.clock, frame, &mut reply, &mut tally);
         reply.truncate(served.reply);
         self.reply = Some(reply);
         self.trace.fields.push(Field::frame(frame));
@@ -59,6 +65,7 @@ impl Generator {
     pub fn voyage(&mut self) -> Trace {
         self.lists = self.random.percent(4);
         self.ends = self.random.percent(5);
+        self.forces = self.random.percent(50);
         self.joined = None;
         self.clock = self.session_clock();
         let laden = self.random.percent(2);
@@ -69,7 +76,9 @@ impl Generator {
             1..=8 => self.random.between(8, 20),
             _ => self.random.below(12),
         };
-        let mut voyage = Voyage::fresh(self.random.between(1, 2) as u8, self.vbucket());
+        let (mode, vbucket) = (self.random.between(1, 2) as u8, self.vbucket());
+        let told = *self.random.pick(&[None, Some(1), Some(2)]);
+        let mut voyage = Voyage::fresh(mode, vbucket, told);
         if self.random.percent(70) {
             voyage.clock(self.clock);
         }
@@ -130,7 +139,7 @@ impl Generator {
     pub fn changed(&mut self, trace: &Trace) -> Vec<u8> {
         let random = &mut self.random;
         let mut trace = trace.clone();
-        match random.below(64) {
+        match random.below(72) {
             0..=11 => return cut(&trace, random),
             12..=14 => return flipped(trace.bytes(), random),
             15..=19 => change_tag(&mut trace, random),
@@ -141,7 +150,8 @@ impl Generator {
             46..=53 => change_frame(&mut trace, random),
             54..=58 => change_opening(&mut trace, random),
             59..=61 => insert(&mut trace, random),
-            _ => pad(&mut trace, random),
+            62 | 63 => pad(&mut trace, random),
+            _ => change_rule(&mut trace, random),
         }
         trace.bytes()
     }
@@ -169,7 +179,7 @@ fn pick_field(trace: &Trace, random: &mut Random, wanted: impl Fn(&Field) -> boo
 /// Cut after some bytes of a field, its header's more often than its value's, or anywhere.
 fn cut(trace: &Trace, random: &mut Random) -> Vec<u8> {
     let mut bytes = trace.bytes();
-    let tag = random.between(1, 4) as u8;
+    let tag = random.between(1, 5) as u8;
     let field = pick_field(trace, random, |field| field.tag == tag).or_else(|| pick_field(trace, random, |_| true));
     let length = match field {
         Some(number) if random.percent(85) => {
@@ -298,6 +308,24 @@ fn change_frame(trace: &mut Trace, random: &mut Random) {
     }
 }
 
+/// Another rule, or one of a wrong length; a second one, or one that isn't first; none, or one where there was none.
+fn change_rule(trace: &mut Trace, random: &mut Random) {
+    let any = random.byte();
+    let rule = Field::rule(*random.pick(&[0, 1, 1, 2, 2, 3, any]));
+    let is_told = trace.fields.first().is_some_and(|field| field.tag == RULE);
+    match random.below(6) {
+        0 | 1 if is_told => trace.fields[0] = rule,
+        2 if is_told => trace.fields[0].value = random.pick(&[&[][..], &[1, 1], &[0, 2], &[2, 0], &[2; 4]]).to_vec(),
+        3 if is_told => drop(trace.fields.remove(0)),
+        4 if is_told && trace.fields.len() > 1 => trace.fields.swap(0, 1),
+        5 => {
+            let at = random.below(trace.fields.len() + 1);
+            trace.fields.insert(at, rule);
+        }
+        _ => trace.fields.insert(0, rule),
+    }
+}
+
 /// Another mode or vbucket, or an opening cut, with nothing after it.
 fn change_opening(trace: &mut Trace, random: &mut Random) {
     match random.below(8) {
@@ -314,7 +342,7 @@ fn change_opening(trace: &mut Trace, random: &mut Random) {
     }
 }
 
-/// A reply before any frame, empty or not, an unknown field, or the bytes that begin a field.
+/// A reply before any frame, empty or not, an unknown field, or the bytes that begin a field, the rule's among them.
 fn insert(trace: &mut Trace, random: &mut Random) {
     let first = trace.fields.iter().position(|field| field.tag == FRAME).unwrap_or(trace.fields.len());
     match random.below(6) {
@@ -322,7 +350,7 @@ fn insert(trace: &mut Trace, random: &mut Random) {
         1 | 2 => trace.fields.insert(random.below(first + 1), Field::reply(&[0x81; 24])),
         3 => {
             let at = random.below(trace.fields.len() + 1);
-            trace.fields.insert(at, Field::new(*random.pick(&[0, 5, 6, 0xff]), &[2]));
+            trace.fields.insert(at, Field::new(*random.pick(&[0, 6, 0xff]), &[2]));
         }
         _ => {
             let length = random.between(1, 5);

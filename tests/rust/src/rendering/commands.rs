@@ -3,12 +3,12 @@
 use super::listing::listing;
 use super::numbers::{plain_expiry, Cas, Mode, Numbers, Revision};
 use super::request::{
-    is_with_meta, CounterExtras, KeysExtras, MetaExtras, PlainExtras, TouchExtras, View, FORCE, FORCE_ACCEPT,
-    REGENERATE_CAS, SKIP_CONFLICTS,
+    CounterExtras, KeysExtras, MetaExtras, PlainExtras, TouchExtras, View, FORCE, FORCE_ACCEPT, REGENERATE_CAS,
+    SKIP_CONFLICTS,
 };
 use super::shape::Command;
 use super::status::Status;
-use super::table::{Head, Kind, Row, Table, ACTIVE, DEAD, MAX_VALUE};
+use super::table::{Head, Kind, Row, Table, ACTIVE, MAX_VALUE};
 
 /// What a frame with status 0 does.
 #[derive(Debug)]
@@ -53,9 +53,20 @@ pub enum Content<'f> {
     Prepended(&'f [u8]),
 }
 
+/// Order 9: the new rule, by which option 0x01 is refused, and the old one, which traces alone may still ask for and "which
+/// differs for option 0x01 alone".
+#[derive(Clone, Copy, Debug, PartialEq, Eq, PartialOrd, Ord)]
+pub enum Rule {
+    Old,
+    New,
+}
+
 /// One request on a sound table: its effect, or its status. The clock is the later of the kept one and the call's.
-pub fn decide<'t, 'f>(table: &Table<'t>, clock: u32, request: &View<'f>) -> Result<Effect<'t, 'f>, Status> {
+pub fn decide<'t, 'f>(rule: Rule, table: &Table<'t>, clock: u32, request: &View<'f>) -> Result<Effect<'t, 'f>, Status> {
     mode_and_clock_rules(table.head.mode, clock, request)?;
+    if rule == Rule::New {
+        request.force_rule()?;
+    }
     request.size_rule()?;
     vbucket_rule(&table.head, request)?;
     let key = Key::find(table, clock, request);
@@ -102,16 +113,13 @@ fn mode_and_clock_rules(mode: Mode, clock: u32, request: &View) -> Result<(), St
     }
 }
 
-/// "0x07: other vbucket number, or state not active (with-meta with option 0x01 also passes in states 2 and 3). Noop and
-/// Version skip this."
+/// "0x07: other vbucket number, or state not active [...]. Noop and Version skip this." Order 9: "Replica and pending tables
+/// now take no write".
 fn vbucket_rule(head: &Head, request: &View) -> Result<(), Status> {
-    let command = request.shape.command;
-    if matches!(command, Command::Noop | Command::Version) {
+    if matches!(request.shape.command, Command::Noop | Command::Version) {
         return Ok(());
     }
-    let forced = is_with_meta(command) && MetaExtras::read(request.extras).has(FORCE);
-    let serves = head.state == ACTIVE || (forced && head.state != DEAD);
-    Status::NotMyVbucket.unless(request.vbucket == head.vbucket && serves)
+    Status::NotMyVbucket.unless(request.vbucket == head.vbucket && head.state == ACTIVE)
 }
 
 /// A request with what the table holds for its key: the row, if any, and the live document, if any.
@@ -187,7 +195,8 @@ impl<'a, 't, 'f> Key<'a, 't, 'f> {
     }
 
     /// "Header CAS not 0: not live 0x01, different 0x02. Add on live: 0x02. Without options 0x01 and 0x08, a key with
-    /// any row, expired or tombstone included, is compared; the write must be greater, else 0x02."
+    /// any row, expired or tombstone included, is compared; the write must be greater, else 0x02." Order 9: by the old rule
+    /// alone a request with option 0x01 comes so far.
     fn with_meta(&self) -> Result<Write<'f>, Status> {
         let given = MetaExtras::read(self.request.extras);
         let command = self.request.shape.command;

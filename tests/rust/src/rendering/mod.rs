@@ -1,4 +1,4 @@
-//! Document 01 with orders 1, 2 and 4 to 8 of document 02 in plain Rust, written from the papers alone, to be read with them
+//! Document 01 with orders 1, 2 and 4 to 9 of document 02 in plain Rust, written from the papers alone, to be read with them
 //! beside. What differs by order 7's two engines is told by an [`Engine`].
 //!
 //! | Section of 01 | Module |
@@ -15,6 +15,7 @@
 //! | Order 6 of 02, replay of a voyage | [`voyage`] |
 //! | Order 7 of 02, rows in key order | [`table`]: damage, the place of a key and of a new one; the purge in [`owner`] |
 //! | Order 8 of 02, the layout of 2012 | [`request`], which reads what the extras carry, and their size in [`shape`] |
+//! | Order 9 of 02, force retired | [`request`], [`commands`], the old rule of traces in [`voyage`], and the activation in [`owner`] |
 
 pub mod bytes;
 pub mod commands;
@@ -29,12 +30,14 @@ pub mod table;
 pub mod tally;
 pub mod voyage;
 
-pub use owner::{make, purge, read, size, sound};
+pub use owner::{activate, make, purge, read, size, sound};
 pub use request::{read_request, write_request};
 pub use serving::{serve, serve_run};
 pub use voyage::replay;
 
-use crate::answers::{Document, Engine, Fields, Purged, Ran, Replayed, Request, Served, Store, Tally, Written};
+use crate::answers::{
+    Activated, Document, Engine, Fields, Purged, Ran, Replayed, Request, Served, Store, Tally, Written,
+};
 
 /// The rendering of an engine as a store.
 #[derive(Clone, Copy, Debug)]
@@ -59,6 +62,10 @@ impl Store for Rendering {
 
     fn purge(&self, table: &mut [u8], clock: u32, bound: u64) -> Purged {
         purge(self.0, table, clock, bound)
+    }
+
+    fn activate(&self, table: &mut [u8]) -> Activated {
+        activate(self.0, table)
     }
 
     fn serve(&self, table: &mut [u8], clock: u32, received: &[u8], reply: &mut [u8], tally: &mut Tally) -> Served {

@@ -1,11 +1,12 @@
-//! The owner's calls: size, make, sound, read and purge.
+//! The owner's calls: size, make, sound, read, purge and activate.
 
 use super::numbers::{Cas, Left, Mode};
 use super::status::Status;
 use super::table::{
-    close_gaps, free_row, row_at, write_head, write_kept, Damaged, Row, Table, HEADER, KEY_AT, ROW, ROWS, STATES,
+    close_gaps, free_row, row_at, write_head, write_kept, write_state, Damaged, Row, Table, ACTIVE, DEAD, HEADER,
+    KEY_AT, ROW, ROWS, STATES,
 };
-use crate::answers::{lifetime, Document, Engine, Part, Purged};
+use crate::answers::{lifetime, Activated, Document, Engine, Part, Purged};
 
 pub const DAMAGED: u8 = 5;
 
@@ -107,4 +108,17 @@ pub fn purge(engine: Engine, memory: &mut [u8], clock: u32, bound: u64) -> Purge
 fn purged(table: &Table, clock: u32, bound: Cas) -> Vec<usize> {
     let goes = |row: &Row| !row.live(clock) && row.numbers.cas <= bound;
     (0..table.rows.len()).filter(|&place| table.rows[place].as_ref().is_some_and(goes)).collect()
+}
+
+/// Order 9: "a new owner call makes one active, leaves an active one, and changes nothing but the state. It answers 5 on a
+/// damaged table and 0x07 on a dead one."
+pub fn activate(engine: Engine, memory: &mut [u8]) -> Activated {
+    match Table::read(engine, memory).map(|table| table.head.state) {
+        Err(Damaged) => Activated { outcome: DAMAGED, status: 0 },
+        Ok(DEAD) => Activated { outcome: 0, status: Status::NotMyVbucket as u8 },
+        Ok(_) => {
+            write_state(memory, ACTIVE);
+            Activated::default()
+        }
+    }
 }

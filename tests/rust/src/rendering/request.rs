@@ -1,4 +1,4 @@
-//! The reader and writer of requests: outcomes 1 to 3, then statuses 1 to 3.
+//! The reader and writer of requests: outcomes 1 to 3, then statuses 1 to 3, with order 9's 0x83 before the last.
 
 use super::bytes::{put, u16_at, u32_at, u64_at};
 use super::numbers::{Cas, Numbers, Revision};
@@ -87,6 +87,12 @@ pub fn view(frame: &[u8]) -> Result<View<'_>, Status> {
 }
 
 impl View<'_> {
+    /// Order 9: "A with-meta request with option 0x01 now gets 0x83, tested right after the 0x04 rules, in the reader too."
+    pub fn force_rule(&self) -> Result<(), Status> {
+        let forced = is_with_meta(self.shape.command) && MetaExtras::read(self.extras).has(FORCE);
+        Status::Unbuilt.unless(!forced)
+    }
+
     /// "0x03: value over 1,024, extended meta not counted."
     pub fn size_rule(&self) -> Result<(), Status> {
         Status::TooLarge.unless(self.value.len() <= MAX_VALUE)
@@ -254,7 +260,12 @@ pub fn read_request(received: &[u8]) -> Request {
         Ok(frame) => frame,
         Err(refusal) => return Request { outcome: refusal.outcome, ..Request::default() },
     };
-    match view(frame).and_then(|view| view.size_rule().map(|()| view)) {
+    let judged = view(frame).and_then(|view| {
+        view.force_rule()?;
+        view.size_rule()?;
+        Ok(view)
+    });
+    match judged {
         Ok(view) => shown(frame, &view),
         Err(status) => Request { status: status as u8, ..Request::default() },
     }

@@ -1,7 +1,7 @@
 //! Serving one request, and a run of them.
 
 use super::bytes::{put, u32_at};
-use super::commands::{decide, Content, Effect, Write};
+use super::commands::{decide, Content, Effect, Rule, Write};
 use super::numbers::Cas;
 use super::owner::DAMAGED;
 use super::request::{first_frame, view, Refusal, HEADER};
@@ -29,7 +29,20 @@ pub fn serve(
     reply: &mut [u8],
     tally: &mut Tally,
 ) -> Served {
-    match serve_frame(engine, memory, clock, received, reply) {
+    serve_by(Rule::New, engine, memory, clock, received, reply, tally)
+}
+
+/// One request by the new rule or by the old.
+pub fn serve_by(
+    rule: Rule,
+    engine: Engine,
+    memory: &mut [u8],
+    clock: u32,
+    received: &[u8],
+    reply: &mut [u8],
+    tally: &mut Tally,
+) -> Served {
+    match serve_frame(rule, engine, memory, clock, received, reply) {
         Ok(served) => {
             count(tally, served.status, served.reply);
             served
@@ -41,6 +54,7 @@ pub fn serve(
 /// The "outcomes of serving, in the order tested". Order 2: "serving a frame with any status" raises the kept clock, and
 /// "outcomes 1 to 5" don't.
 fn serve_frame(
+    rule: Rule,
     engine: Engine,
     memory: &mut [u8],
     clock: u32,
@@ -53,7 +67,7 @@ fn serve_frame(
     }
     let frame = first_frame(received)?;
     let later = table.head.later(clock);
-    let decision = view(frame).and_then(|request| decide(&table, later, &request));
+    let decision = view(frame).and_then(|request| decide(rule, &table, later, &request));
     let status = decision.as_ref().map_or_else(|&status| status as u8, |_| 0);
     let sent = if is_silent(frame[1], status) { 0 } else { answer(&decision, frame, reply) };
     if let Ok(Effect::Store(write) | Effect::StoreAndShow { write, .. }) = decision {

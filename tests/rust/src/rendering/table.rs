@@ -198,6 +198,10 @@ pub fn write_head(memory: &mut [u8], state: u8, mode: u8, vbucket: u16, mark: Ca
     write_mark(memory, mark);
 }
 
+pub fn write_state(memory: &mut [u8], state: u8) {
+    put(memory, 0, &[state]);
+}
+
 pub fn write_kept(memory: &mut [u8], clock: u32) {
     put(memory, KEPT_AT, &clock.to_be_bytes());
 }

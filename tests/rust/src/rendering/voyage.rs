@@ -1,9 +1,10 @@
-//! Order 6: a voyage replayed from its trace.
+//! Order 6: a voyage replayed from its trace; order 9 gives traces a rule.
 
 use super::bytes::{u16_at, u32_at, u64_at};
+use super::commands::Rule;
 use super::owner::{make, purge, size, DAMAGED};
 use super::request::first_frame;
-use super::serving::{serve, ROOM};
+use super::serving::{serve_by, ROOM};
 use super::table::ACTIVE;
 use crate::answers::{end, Engine, Replayed, Tally};
 
@@ -23,6 +24,7 @@ pub const CLOCK: u8 = 1;
 pub const FRAME: u8 = 2;
 pub const REPLY: u8 = 3;
 pub const BOUND: u8 = 4;
+pub const RULE: u8 = 5;
 
 /// Where a replay ends before the trace does. A place is the offset of a field's tag, "0 for a bad opening or a trace
 /// over 65,536 bytes".
@@ -63,7 +65,7 @@ fn replay_fields(engine: Engine, memory: &mut [u8], trace: &[u8]) -> Result<usiz
     if make(memory, ROWS, ACTIVE, mode, vbucket) != 0 {
         return Err(Early::Stopped { place: 0 });
     }
-    let mut boat = Boat { engine, memory, clock: 0, frames: 0, reply: None };
+    let mut boat = Boat { engine, memory, rule: Rule::Old, clock: 0, frames: 0, reply: None };
     let mut place = OPENING;
     while place < trace.len() {
         let (tag, value) = field(&trace[place..]).ok_or(Early::Stopped { place })?;
@@ -83,6 +85,8 @@ fn field(rest: &[u8]) -> Option<(u8, &[u8])> {
 struct Boat<'m> {
     engine: Engine,
     memory: &'m mut [u8],
+    /// Order 9: "a trace replays under the new rule exactly if its first field is tag 5 with one byte of 2".
+    rule: Rule,
     /// "The clock is 0 until a tag 1."
     clock: u32,
     frames: usize,
@@ -108,6 +112,9 @@ impl Boat<'_> {
             (BOUND, 8) => {
                 purge(self.engine, self.memory, self.clock, u64_at(value, 0));
             }
+            // Order 9: "its first field is tag 5 with one byte of 2; a 1 there means the old [...]. Any other tag 5 stops it."
+            (RULE, 1) if place == OPENING && value[0] == 1 => self.rule = Rule::Old,
+            (RULE, 1) if place == OPENING && value[0] == 2 => self.rule = Rule::New,
             // "An unknown tag [...], wrong length"
             _ => return Err(Early::Stopped { place }),
         }
@@ -116,7 +123,8 @@ impl Boat<'_> {
 
     fn serve(&mut self, frame: &[u8]) {
         let mut reply = vec![0; ROOM];
-        let served = serve(self.engine, self.memory, self.clock, frame, &mut reply, &mut Tally::default());
+        let mut tally = Tally::default();
+        let served = serve_by(self.rule, self.engine, self.memory, self.clock, frame, &mut reply, &mut tally);
         reply.truncate(served.reply);
         self.reply = Some(reply);
         self.frames += 1;

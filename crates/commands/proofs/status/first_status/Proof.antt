@@ -32,16 +32,20 @@ first-requires-9 c κs = tt
 first-requires-10 : tie.Need-first-requires-10
 first-requires-10 c κs = tt
 
+first-requires-11 : tie.Need-first-requires-11
+first-requires-11 c κs = tt
+
 returns : tie.Need-returns
 unfolding firstStatus firstFailure
 returns c =
-    let a = c .before .before .before .before .before in
+    let a = c .before .before .before .before .before .before in
     simp (
-      c .first10 .ensures,
-      c .before .first9 .ensures,
-      c .before .before .first8 .ensures,
-      c .before .before .before .first7 .ensures,
-      c .before .before .before .before .first6 .ensures,
+      c .first11 .ensures,
+      c .before .first10 .ensures,
+      c .before .before .first9 .ensures,
+      c .before .before .before .first8 .ensures,
+      c .before .before .before .before .first7 .ensures,
+      c .before .before .before .before .before .first6 .ensures,
       a .first5 .ensures,
       a .before .first4 .ensures,
       a .before .before .first3 .ensures,
@@ -63,4 +67,5 @@ first-status-spec =
     first-requires-8
     first-requires-9
     first-requires-10
+    first-requires-11
     returns)

@@ -95,13 +95,14 @@ const WITH_META: [u8; 6] = [
     opcode::DELETE_WITH_META,
     opcode::DELETEQ_WITH_META,
 ];
+/// None, and those that order 9 leaves.
 const OPTIONS: [u32; 6] = [
     0,
-    option::FORCE,
     option::FORCE_ACCEPT,
     option::SKIP_CONFLICT,
+    option::FORCE_ACCEPT | option::SKIP_CONFLICT,
     option::REGENERATE_CAS | option::SKIP_CONFLICT,
-    option::FORCE | option::FORCE_ACCEPT | option::REGENERATE_CAS | option::SKIP_CONFLICT,
+    option::FORCE_ACCEPT | option::REGENERATE_CAS | option::SKIP_CONFLICT,
 ];
 /// None, a version alone, and a field of each id.
 const METAS: [&[u8]; 3] = [b"", b"\x01", b"\x01\x01\0\x02ab\x02\0\x01c"];
@@ -132,7 +133,7 @@ fn count(count: u64) -> Extra {
     extra("count", 4, count)
 }
 
-/// A with-meta command with extras of 24, 26, 28 and 30 bytes, every option and every extended meta.
+/// A with-meta command with extras of 24, 26, 28 and 30 bytes, all options that are left and every extended meta.
 fn with_meta(opcode: u8) -> Vec<Written> {
     let mut requests = vec![];
     let numbers = numbers(opcode);
