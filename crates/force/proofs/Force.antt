@@ -1,10 +1,9 @@
 -- What is claimed of option 0x01, by the new rule and by the old.
 use Prim.Native.Nat.{ℕ, _+_, _%_}
 use mathlib.Core.Path.{_≡_, refl, sym, ap, _∙_}
-use mathlib.Core.Bool.{Bool, true, false, not, cond, _&&_, _||_}
+use mathlib.Core.Bool.{Bool, true, false, not, _&&_, _||_}
 use mathlib.Core.List.{List}
-use native.Mathlib.Omega.{arith}
-use lib.ListN.{length, take}
+use lib.ListN.{length}
 use lib.Dec.{leb, eqb}
 use borrow.Author.Tests.{le-ltb, eqb-true, not-true, not-false}
 use Rattle.octets.specs.Parts.{written}
@@ -20,32 +19,28 @@ use Rattle.rules.specs.Rules.{isForced, forces, judged, status}
 use Rattle.rules.proofs.RuleLaws.{built, formed, field-rules}
 use Rattle.request.specs.declared.Gate.{Gate}
 use Rattle.request.specs.declared.Gate.the-variants.{Stop, Whole}
-use Rattle.request.specs.Reading.{gateOf, reading, wholeReading, frameStatus, bytesIn, extrasSpan, keySpan, valueSpan}
+use Rattle.request.specs.Reading.{reading, wholeReading, frameStatus, bytesIn, extrasSpan, valueSpan}
 use Rattle.commands.specs.declared.Command.{Command}
 use Rattle.commands.specs.declared.Command.the-variants.{Get, Write, Delete, Count, Noop, Version, WithMeta, GetKeys, Join, Touch}
 use Rattle.commands.specs.Rules.{ruleOf, testsOf, firstFailure}
-use Rattle.decision.specs.declared.Decision.{Decision}
-use Rattle.decision.specs.Decision.{decision}
-use Rattle.decision.specs.Decide.{Request, Effect, instructionOf, effectOf}
 use Rattle.decode.specs.Decode.{plainOf, counterOf, touchOf, metaCommand, commandOf, requestOf}
 use Rattle.engine.specs.declared.Config.{Config}
 use Rattle.engine.specs.declared.EngineKind.{EngineKind}
 use Rattle.engines.specs.Damage.{soundBy}
-use Rattle.rows.specs.Table.{Table, tableOf, tableAt, clockAt, tableBytes}
-use Rattle.rows.specs.Find.{findRow}
-use Rattle.serving.specs.Reply.{replyShows, replyBytes}
+use Rattle.rows.specs.Table.{tableOf, tableAt, clockAt}
 use Rattle.serving.specs.declared.Served.the-variants.{Done}
-use Rattle.serving.specs.Serve.{gateAll, contextOn, refusal, reachesDecision, decisionOn}
-use Rattle.serving.specs.Serve.{frameEffect, tableChanged, frameTable, frameReply, answerBy, tableBy, replyBy, served, servedTable, servedReply}
+use Rattle.serving.specs.Serve.{gateAll, reachesDecision}
+use Rattle.serving.specs.Serve.{frameEffect, frameReply, answerBy, tableBy, replyBy, served, servedTable, servedReply}
 use Rattle.serving.proofs.Formed.{no}
 use Rattle.serving.proofs.Gated.{was-open}
+use Rattle.serving.proofs.SameAsk.{SameAsk, same-effect, same-table, same-reply}
 use Rattle.promises.specs.Expiry.{opcode, extrasIn, withMetas, Passes}
 use Rattle.promises.specs.Replies.{writers}
 use Rattle.promises.proofs.Asks.{tested, ask, IsPlain, plain-asked}
 use Rattle.promises.proofs.Liveness.{later, listed, all-pass, answered}
 use Rattle.promises.proofs.Dead.{seen, rule, tests, list}
 use Rattle.promises.proofs.Keeps.{status-keeps}
-use Rattle.force.specs.Force.{asksForce, Comes, ForceRefused, ForceStoresNothing, ForceUnread, StandbyTakesNone, ruled, ServedSame, RulesAlike}
+use Rattle.force.specs.Force.{asksForce, ForceRefused, ForceStoresNothing, ForceUnread, StandbyTakesNone, ruled, ServedSame, RulesAlike}
 
 -- ---- which frames are forced
 -- a shape has a meta exactly if its opcode is a with-meta one
@@ -168,39 +163,12 @@ standby-takes-none config b clock s room st used len y inactive w e =
     (other, status-keeps config b clock s room st used len y e other)
 
 -- ---- both rules, without option 0x01
-module _ (engine : EngineKind) (s : List ℕ) (h : Header) (f : forces (shapeOf (h .opcode)) (bytesIn s (extrasSpan h)) ≡ false) where
-  abbrev old : Config
-  old = ruled engine true
+same-request : (s : List ℕ) (h : Header) → forces (shapeOf (h .opcode)) (bytesIn s (extrasSpan h)) ≡ false → requestOf true s h ≡ requestOf false s h
+unfolding requestOf
+same-request s h f = rw f
 
-  abbrev new : Config
-  new = ruled engine false
-
-  same-request : requestOf true s h ≡ requestOf false s h
-  unfolding requestOf
-  same-request = rw f
-
-  same-decision : (t : Table) (clock : ℕ) → decisionOn old t clock s h ≡ decisionOn new t clock s h
-  unfolding decisionOn
-  same-decision t clock =
-      ap (λ (q : Request). cond (reachesDecision s h) (decision (contextOn t clock (findRow (t .rows) (bytesIn s (keySpan h)))) (instructionOf q)) (refusal (t .head) (frameStatus s h))) same-request
-
-  same-effect : (t : Table) (clock : ℕ) → frameEffect old t clock s h ≡ frameEffect new t clock s h
-  unfolding frameEffect
-  same-effect t clock = λ i. effectOf (same-request i) (findRow (t .rows) (bytesIn s (keySpan h))) (same-decision t clock i)
-
-  module _ (b : List ℕ) (clock : ℕ) where
-    abbrev now : ℕ
-    now = clockAt (tableOf b) clock
-
-    same-table : frameTable old b clock s h ≡ frameTable new b clock s h
-    unfolding frameTable
-    same-table = ap (λ (x : Effect). tableBytes (tableChanged new (tableAt (tableOf b) clock) (bytesIn s (keySpan h)) x)) (same-effect (tableAt (tableOf b) clock) now)
-
-    same-reply : frameReply old b clock s h ≡ frameReply new b clock s h
-    unfolding frameReply
-    same-reply =
-        let key = bytesIn s (keySpan h) in
-        ap (λ (x : Decision). replyBytes (h .opcode) (h .opaque) x key (replyShows (x .done .reply) (tableOf b .rows) now key)) (same-decision (tableAt (tableOf b) clock) now)
+same-ask : (engine : EngineKind) (s : List ℕ) (h : Header) → forces (shapeOf (h .opcode)) (bytesIn s (extrasSpan h)) ≡ false → SameAsk (ruled engine true) (ruled engine false) s s h h
+same-ask engine s h f = record { engine = refl; opcode = refl; opaque = refl; key = refl; reaches = refl; status = refl; request = same-request s h f }
 
 module _ (engine : EngineKind) (b : List ℕ) (clock : ℕ) (s out : List ℕ) (f : asksForce s ≡ false) where
   abbrev gate : Gate
@@ -220,10 +188,12 @@ module _ (engine : EngineKind) (b : List ℕ) (clock : ℕ) (s out : List ℕ) (
   unfolding frameEffect
   by-gate (Stop n need) o = (refl, (refl, refl))
   by-gate (Whole h) o =
-      let u = unforced h o in
-      let t = tableAt (tableOf b) clock in (
-        λ i. Done (same-effect engine s h u t (clockAt (tableOf b) clock) i .status) (24 + h .body) (length (same-reply engine s h u b clock i)),
-        (same-table engine s h u b clock, ap (written out 0) (same-reply engine s h u b clock)),
+      let old = ruled engine true in
+      let new = ruled engine false in
+      let a = same-ask engine s h (unforced h o) in
+      let reply = same-reply old new s s h h a b clock in (
+        λ i. Done (same-effect old new s s h h a (tableAt (tableOf b) clock) (clockAt (tableOf b) clock) i .status) (24 + h .body) (length (reply i)),
+        (same-table old new s s h h a b clock, ap (written out 0) reply),
       )
 
   alike : ServedSame (ruled engine true) (ruled engine false) b clock s out

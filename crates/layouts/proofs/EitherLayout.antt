@@ -1,7 +1,7 @@
 -- Serving goes by the write that the extras carry, and not by their layout.
 use Prim.Native.Nat.{ℕ, _+_, _-_, _≤_}
 use mathlib.Core.Path.{_≡_, refl, sym, ap, _∙_}
-use mathlib.Core.Bool.{Bool, true, false, not, cond, _&&_}
+use mathlib.Core.Bool.{Bool, true, not, cond, _&&_}
 use mathlib.Core.List.{List}
 use native.Mathlib.Omega.{arith}
 use lib.ListN.{length, take}
@@ -21,20 +21,17 @@ use Rattle.rules.specs.Rules.{formOk, metaSize, fieldRulesOk, keepsRules, isFor
 use Rattle.request.proofs.Gated.{whole-frame}
 use Rattle.request.specs.declared.Gate.{Gate}
 use Rattle.request.specs.declared.Gate.the-variants.{Stop, Whole}
-use Rattle.request.specs.Reading.{gateOf, frameStatus, extrasSpan, keySpan, valueSpan, bytesIn}
+use Rattle.request.specs.Reading.{frameStatus, extrasSpan, valueSpan, bytesIn}
 use Rattle.commands.specs.declared.MetaKind.the-variants.{Set, Add, Delete}
-use Rattle.decision.specs.Decision.{decision}
-use Rattle.decision.specs.Decide.{Request, Effect, instructionOf, effectOf}
-use Rattle.decision.specs.declared.Decision.{Decision}
+use Rattle.decision.specs.Decide.{Effect}
 use Rattle.decode.specs.Decode.{metaCommand, commandOf, bareValue, requestOf}
 use Rattle.engine.specs.declared.Config.{Config}
 use Rattle.engines.specs.Damage.{soundBy}
-use Rattle.rows.specs.Table.{Table, tableOf, tableAt, clockAt, tableBytes}
-use Rattle.rows.specs.Find.{findRow}
-use Rattle.serving.specs.Reply.{replyShows, replyBytes}
+use Rattle.rows.specs.Table.{tableOf, tableAt, clockAt}
 use Rattle.serving.specs.Serve.{servedOutcome, servedStatus, servedLength, servedNeeded, gateAll}
-use Rattle.serving.specs.Serve.{contextOn, refusal, reachesDecision, decisionOn, frameEffect, tableChanged, frameTable, frameReply, answerBy, tableBy, replyBy, served, servedTable, servedReply}
-use Rattle.promises.specs.Expiry.{opcode, extrasIn, keyIn, valueIn, withMetas}
+use Rattle.serving.specs.Serve.{reachesDecision, answerBy, tableBy, replyBy, served, servedTable, servedReply}
+use Rattle.serving.proofs.SameAsk.{SameAsk, same-effect, same-table, same-reply}
+use Rattle.promises.specs.Expiry.{opcode, extrasIn, valueIn, withMetas}
 use Rattle.promises.proofs.Asks.{at-opcode}
 use Rattle.layouts.specs.Layouts.{RightForm, OneWrite, ServedAlike, EitherLayout}
 
@@ -153,29 +150,10 @@ module _ (config : Config) (s s′ : List ℕ) (formed : RightForm s) (formed′
         command = command i;
       }
 
-  same-decision : (t : Table) (clock : ℕ) → decisionOn config t clock s h ≡ decisionOn config t clock s′ h′
-  unfolding decisionOn
-  same-decision t clock =
-      λ i. cond (same-reaches i) (decision (contextOn t clock (findRow (t .rows) (o .key i))) (instructionOf (same-request i))) (refusal (t .head) (same-status i))
-
-  same-effect : (t : Table) (clock : ℕ) → frameEffect config t clock s h ≡ frameEffect config t clock s′ h′
-  unfolding frameEffect
-  same-effect t clock = λ i. effectOf (same-request i) (findRow (t .rows) (o .key i)) (same-decision t clock i)
+  same : SameAsk config config s s′ h h′
+  same = record { engine = refl; opcode = o .opcode; opaque = o .opaque; key = o .key; reaches = same-reaches; status = same-status; request = same-request }
 
   module _ (b : List ℕ) (clock : ℕ) where
-    abbrev now : ℕ
-    now = clockAt (tableOf b) clock
-
-    same-table : frameTable config b clock s h ≡ frameTable config b clock s′ h′
-    unfolding frameTable
-    same-table = λ i. tableBytes (tableChanged config (tableAt (tableOf b) clock) (o .key i) (same-effect (tableAt (tableOf b) clock) now i))
-
-    same-reply : frameReply config b clock s h ≡ frameReply config b clock s′ h′
-    unfolding frameReply
-    same-reply = λ i.
-        let x : Decision = same-decision (tableAt (tableOf b) clock) now i in
-        replyBytes (o .opcode i) (o .opaque i) x (o .key i) (replyShows (x .done .reply) (tableOf b .rows) now (o .key i))
-
     module _ (out : List ℕ) where
       -- what is alike by the gate is alike
       meet : {A : Type 0} (f f′ : Gate → A) → ((n need : ℕ) → f (Stop n need) ≡ f′ (Stop n need)) → f (Whole h) ≡ f′ (Whole h′)
@@ -189,16 +167,17 @@ module _ (config : Config) (s s′ : List ℕ) (formed : RightForm s) (formed′
       alike : ServedAlike config b clock s s′ out
       unfolding served servedTable servedReply
       alike =
-          let status = ap (λ (x : Effect). x .status) (same-effect (tableAt (tableOf b) clock) now) in
+          let status = ap (λ (x : Effect). x .status) (same-effect config config s s′ h h′ same (tableAt (tableOf b) clock) (clockAt (tableOf b) clock)) in
+          let reply = same-reply config config s s′ h h′ same b clock in
           record {
             answer = record {
               outcome = meet (λ g. servedOutcome (answerBy config b clock s g)) (λ g. servedOutcome (answerBy config b clock s′ g)) (λ n need. refl) refl;
               status = meet (λ g. servedStatus (answerBy config b clock s g)) (λ g. servedStatus (answerBy config b clock s′ g)) (λ n need. refl) status;
-              reply = meet (λ g. servedLength (answerBy config b clock s g)) (λ g. servedLength (answerBy config b clock s′ g)) (λ n need. refl) (ap length same-reply);
+              reply = meet (λ g. servedLength (answerBy config b clock s g)) (λ g. servedLength (answerBy config b clock s′ g)) (λ n need. refl) (ap length reply);
               needed = meet (λ g. servedNeeded (answerBy config b clock s g)) (λ g. servedNeeded (answerBy config b clock s′ g)) (λ n need. refl) refl;
             };
-            table = meet (tableBy config b clock s) (tableBy config b clock s′) (λ n need. refl) same-table;
-            reply = meet (replyBy config b clock s out) (replyBy config b clock s′ out) (λ n need. refl) (ap (written out 0) same-reply);
+            table = meet (tableBy config b clock s) (tableBy config b clock s′) (λ n need. refl) (same-table config config s s′ h h′ same b clock);
+            reply = meet (replyBy config b clock s out) (replyBy config b clock s′ out) (λ n need. refl) (ap (written out 0) reply);
           }
 
 pub either-layout : (config : Config) → EitherLayout config

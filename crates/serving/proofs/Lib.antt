@@ -4,3 +4,4 @@ pub mod Kept
 pub mod Statuses
 pub mod Change
 pub mod Clock
+pub mod SameAsk
