@@ -4,6 +4,8 @@ ghost use Rattle.run.specs.Run.{seen, movedBy, begun, runEnd, ranOf};
 ghost use Rattle.serving.specs.Serve.{servedUsed};
 ghost use Rattle.serving.specs.Serves.{Serves};
 ghost use Rattle.tally.specs.Serves.{ServesCounted};
+use document::Head;
+use engine::Checked;
 use engine::Config;
 use serving::Served;
 use tally::Tally;
@@ -35,17 +37,27 @@ pub fn used_of(r: Served) -> usize
 }
 
 impl Cursor {
-    // Serves the frame at the cursor, uncounted. The cursor is handed back past it.
-    pub fn step(self, config: Config, b: &mut [u8], clock: u32, run: &[u8], out: &mut [u8]) -> Moved
-        ensures { λ r. ⌜ (r ≡ movedBy (self .at) (r .served))
-            × Serves config (now (b .entry)) clock (seen (self .at) (now (run .entry))) (now (out .entry)) (r .served) (now (b .exit)) (now (out .exit)) ⌝ }
+    // Serves the frame at the cursor on a table that is not damaged, whose head this is. The cursor is handed back past it.
+    fn serve_sound(self, config: Config, b: &mut [u8], head: Head, clock: u32, run: &[u8], out: &mut [u8]) -> Moved
     {
         let at = self.at;
-        let r = serve::serve_one(config, b, clock, octets::rest(run, at), out);
+        let r = serve::step(config, b, head, clock, octets::rest(run, at), out);
         let used = used_of(r);
         Moved {
             cursor: Cursor { at: at + used },
             served: r,
+        }
+    }
+
+    // Serves the frame at the cursor, uncounted. The cursor is handed back past it.
+    pub fn step(self, config: Config, b: &mut [u8], clock: u32, run: &[u8], out: &mut [u8]) -> Moved
+    {
+        match table::checked(config, b) {
+            Checked::Damaged => Moved {
+                cursor: self,
+                served: Served::Refused(5, 0),
+            },
+            Checked::Sound(head) => self.serve_sound(config, b, head, clock, run, out),
         }
     }
 
@@ -84,8 +96,17 @@ pub fn serve_run(
     let mut cursor = Cursor { at: 0 };
     let mut filled: usize = 0;
     let mut tally = t;
+    if !table::is_sound(config, b) {
+        return Ran {
+            cursor,
+            filled,
+            tally,
+            stop: Served::Refused(5, 0),
+        };
+    }
     loop {
-        let moved = cursor.step(config, b, clock, run, &mut out[filled..]);
+        let head = rows::head_of(b);
+        let moved = cursor.serve_sound(config, b, head, clock, run, &mut out[filled..]);
         cursor = moved.cursor;
         let r = moved.served;
         match r {

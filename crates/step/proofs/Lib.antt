@@ -1,0 +1,4 @@
+pub mod Framed
+pub mod Parts
+pub mod Answers
+pub mod Storing
