@@ -1,14 +1,17 @@
 -- Serving a run: a call that is not refused takes a header at least and leaves its reply inside the room, so the calls come to an end.
 use native.Mathlib.Omega.{arith}
-use Prim.Native.Nat.{ℕ, zero, suc, _+_, _-_, _≤_}
+use Prim.Native.Nat.{ℕ, zero, suc, _+_, _-_, _^_, _≤_, _<_}
 use mathlib.Core.Path.{_≡_, refl, sym, ap, _∙_}
+use mathlib.Core.Bool.{true, false}
 use mathlib.Core.List.{List, _++_, append-nil}
 use lib.ListN.{length, take, drop, length-drop, drop-of-length-le, take-append-drop}
 use lib.Seq.{take-all}
 use borrow.Rule.Slice.PartMut.{midOf, putMid}
 use Rattle.engine.specs.declared.Config.{Config}
+use Rattle.engines.specs.Damage.{soundBy}
 use Rattle.engines.proofs.Tables.{sound-plain}
 use Rattle.octets.specs.Parts.{Bytes}
+use Rattle.octets.proofs.Lists.{bytes-drop}
 use Rattle.request.specs.declared.Gate.{Gate}
 use Rattle.request.specs.declared.Gate.the-variants.{Stop, Whole}
 use Rattle.tally.specs.declared.Tally.{Tally}
@@ -19,7 +22,9 @@ use Rattle.serving.specs.Serves.{Serves}
 use Rattle.serving.specs.Serve.{servedUsed, gateAll, frameReply, answerBy, served, servedTable, servedReply}
 use Rattle.reply.proofs.Frames.{reply-most}
 use Rattle.serving.proofs.Gated.{was-open, refused-keeps}
-use Rattle.run.specs.Run.{movedBy, Stand, calledOn, further, onDone, standAfter, runEnd, ranOf}
+use Rattle.serving.proofs.Sound.{stays-sound}
+use Rattle.serve.proofs.Gates.{gate-damaged}
+use Rattle.run.specs.Run.{movedBy, Stand, begun, calledOn, further, onDone, standAfter, runEnd, ranOf}
 use Rattle.run.specs.declared.Cursor.{Cursor}
 use Rattle.run.specs.declared.Moved.{Moved}
 use Rattle.run.specs.declared.Ran.{Ran}
@@ -89,6 +94,22 @@ module _ (config : Config) (clock : ℕ) (run : List ℕ) where
   unfolding runEnd
   run-ends x k need e = stops (length run) k need x e
 
+-- a run on a damaged table ends before its first frame
+damaged : (config : Config) (b : List ℕ) (clock : ℕ) (s : List ℕ) (room : ℕ) → soundBy config b ≡ false → served config b clock s room ≡ Refused 5 0
+unfolding served
+damaged config b clock s room d = ap (answerBy config b clock s) (gate-damaged config b s room d)
+
+pub run-damaged : (config : Config) (clock : ℕ) (run b out : List ℕ) (t : Tally) → soundBy config b ≡ false
+    → (_≡_ {A = Ran} (record { cursor = record { at = 0 }; filled = 0; tally = t; stop = Refused 5 0 }) (ranOf config clock run (runEnd config clock run (begun b out t))))
+    × ((b ≡ runEnd config clock run (begun b out t) .table) × (out ≡ runEnd config clock run (begun b out t) .reply))
+unfolding ranOf
+run-damaged config clock run b out t d =
+    let e = damaged config b clock (drop 0 run) (length out - 0) d in
+    let x = sym (run-ends config clock run (begun b out t) 5 0 e) in
+    let a : _≡_ {A = Ran} (record { cursor = record { at = 0 }; filled = 0; tally = t; stop = Refused 5 0 }) (ranOf config clock run (begun b out t)) =
+    λ i. record { cursor = record { at = 0 }; filled = 0; tally = t; stop = sym e i } in
+    (a ∙ ap (ranOf config clock run) x, (ap (λ (z : Stand). z .table) x, ap (λ (z : Stand). z .reply) x))
+
 -- ---- one turn of the loop: the part of the reply area past the replies is lent to the step
 module _ (config : Config) (clock : ℕ) (run b out : List ℕ) (t : Tally) (at filled : ℕ) (f : filled ≤ length out) (m : Moved) (b′ ys : List ℕ)
     (moves : m ≡ movedBy at (m .served)) (q : Serves config b clock (drop at run) (midOf filled (length out - filled) out) (m .served) b′ ys) where
@@ -123,6 +144,10 @@ module _ (config : Config) (clock : ℕ) (run b out : List ℕ) (t : Tally) (at 
 
   pub turn-told : (st used len : ℕ) → m .served ≡ Done st used len → Told b (drop at run) (length out - filled) used len
   turn-told st used len e = told config clock run now st used len (sym called ∙ e)
+
+  -- it leaves the table undamaged
+  pub turn-sound : Bytes b → Bytes run → clock < 2 ^ 32 → soundBy config b ≡ true → soundBy config b′ ≡ true
+  turn-sound y z c e = rw (q .table) (stays-sound config b clock (drop at run) y (bytes-drop at run z) c e (length (midOf filled (length out - filled) out)))
 
   pub turn-at : (st used len : ℕ) → m .served ≡ Done st used len → m .cursor .at ≡ at + used
   turn-at st used len e = ap (λ (x : Cursor). x .at) (moved-to (Done st used len) e)

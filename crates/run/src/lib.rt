@@ -1,6 +1,9 @@
 // A cursor over a run of received frames, and a call that serves a whole run by it.
 ghost use mathlib.Core.Path.{_≡_};
+ghost use mathlib.Core.Bool.{true};
 ghost use Rattle.run.specs.Run.{seen, movedBy, begun, runEnd, ranOf};
+ghost use Rattle.rows.specs.Table.{headOf};
+ghost use Rattle.engines.specs.Damage.{soundBy};
 ghost use Rattle.serving.specs.Serve.{servedUsed};
 ghost use Rattle.serving.specs.Serves.{Serves};
 ghost use Rattle.tally.specs.Serves.{ServesCounted};
@@ -37,11 +40,22 @@ pub fn used_of(r: Served) -> usize
 }
 
 impl Cursor {
-    // Serves the frame at the cursor on a table that is not damaged, whose head this is. The cursor is handed back past it.
-    fn serve_sound(self, config: Config, b: &mut [u8], head: Head, clock: u32, run: &[u8], out: &mut [u8]) -> Moved
+    // Serves the frame at the cursor on a table that is not damaged, with this head.
+    fn serve_sound(
+        self,
+        config: Config,
+        b: &mut [u8],
+        head: Head,
+        clock: u32,
+        run: &[u8],
+        out: &mut [u8],
+    ) -> Moved
+        requires { ⌜ (soundBy config (now b) ≡ true) × (head ≡ headOf (now b)) ⌝ }
+        ensures { λ r. ⌜ (r ≡ movedBy (self .at) (r .served))
+            × Serves config (now (b .entry)) clock (seen (self .at) (now (run .entry))) (now (out .entry)) (r .served) (now (b .exit)) (now (out .exit)) ⌝ }
     {
         let at = self.at;
-        let r = serve::step(config, b, head, clock, octets::rest(run, at), out);
+        let r = step::step(config, b, head, clock, octets::rest(run, at), out);
         let used = used_of(r);
         Moved {
             cursor: Cursor { at: at + used },
@@ -51,6 +65,8 @@ impl Cursor {
 
     // Serves the frame at the cursor, uncounted. The cursor is handed back past it.
     pub fn step(self, config: Config, b: &mut [u8], clock: u32, run: &[u8], out: &mut [u8]) -> Moved
+        ensures { λ r. ⌜ (r ≡ movedBy (self .at) (r .served))
+            × Serves config (now (b .entry)) clock (seen (self .at) (now (run .entry))) (now (out .entry)) (r .served) (now (b .exit)) (now (out .exit)) ⌝ }
     {
         match table::checked(config, b) {
             Checked::Damaged => Moved {
@@ -80,7 +96,8 @@ impl Cursor {
     }
 }
 
-// Serves the frames of a run one after another, each reply after those before it, until a call is refused.
+// Serves the frames of a run one after another, each reply after those before it, until a call is refused. The table is tested for
+// damage once: a frame served on a table that is not damaged leaves it so.
 pub fn serve_run(
     config: Config,
     b: &mut [u8],
