@@ -122,7 +122,7 @@ pub fn serve_run(
         };
     }
     loop {
-        let head = rows::head_of(b);
+        let head = table::head(b);
         let moved = cursor.serve_sound(config, b, head, clock, run, &mut out[filled..]);
         cursor = moved.cursor;
         let r = moved.served;

@@ -1,8 +1,9 @@
 -- For the code alone: what a lookup gives and a store leaves, by places, on any memory. What they mean on a table that is not damaged is in Claims.antt.
 use Prim.Native.Nat.{ℕ, _+_, _*_}
-use mathlib.Core.Bool.{Bool, true, false}
+use mathlib.Core.Bool.{Bool, true, false, cond, not, _&&_}
 use mathlib.Core.List.{List}
 use lib.ListN.{length}
+use lib.Dec.{eqb}
 use Rattle.document.specs.declared.Metadata.{Metadata}
 use Rattle.document.specs.declared.Side.{Side}
 use Rattle.document.specs.Documents.{Key, Doc, Entry}
@@ -47,8 +48,9 @@ abbrev pub placeWith : EngineKind → Bool → Key → List Row → Place
 placeWith Plain new key ws = placeBy new key ws
 placeWith Ordered new key ws = placeOrdered new key ws
 
+-- a key of no bytes has no row: none is looked for unless a new one is
 unfoldable pub placeFor : Config → Bool → Key → List Row → Place
-placeFor config new key ws = placeWith (config .engine) new key ws
+placeFor config new key ws = cond (eqb (length key) 0 && not new) Full (placeWith (config .engine) new key ws)
 
 -- what a lookup gives
 unfoldable pub lookupOf : Config → Bool → List ℕ → Key → Lookup

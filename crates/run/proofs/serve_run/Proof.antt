@@ -37,8 +37,8 @@ loop-holds c =
     let sound = sym (c .before .is-sound .ensures) ∙ not-false _ (c .if1 .left) in
     (refl, (refl, (omega arith, (omega arith, (λ k. c .before .before .before .before .before .slice-known .given k .fits, (sound, refl))))))
 
-head-of-requires : tie.Need-head-of-requires Inv-loop μ-loop
-head-of-requires c κs = search needs
+head-requires : tie.Need-head-requires Inv-loop μ-loop
+head-requires c κs = search needs
 
 sub-serve-sound : tie.Need-sub-serve-sound Inv-loop μ-loop
 sub-serve-sound c = c .before .before .before .loop .inv .1 .1 .1 .0
@@ -50,7 +50,7 @@ part-serve-sound-end : tie.Need-part-serve-sound-end Inv-loop μ-loop
 part-serve-sound-end c = search needs
 
 serve-sound-requires : tie.Need-serve-sound-requires Inv-loop μ-loop
-serve-sound-requires c κs = (c .before .before .before .before .loop .inv .1 .1 .1 .1 .1 .0, c .before .before .head-of .ensures)
+serve-sound-requires c κs = (c .before .before .before .before .loop .inv .1 .1 .1 .1 .1 .0, c .before .before .head .ensures)
 
 enum-known-r : tie.Need-enum-known-r Inv-loop μ-loop
 enum-known-r c = search needs
@@ -129,7 +129,7 @@ serve-run-spec =
     same-length
     returns
     loop-holds
-    head-of-requires
+    head-requires
     sub-serve-sound
     part-serve-sound-start
     part-serve-sound-end
