@@ -170,7 +170,7 @@ pub fn store(config: Config, b: &mut [u8], l: Lookup, key: &[u8], m: Metadata, v
     let old = l.len;
     let place = l.place;
     match place {
-        Place::Over(i) => plain_writer::store(b, i, key, m, value, old),
+        Place::Over(i) => plain_writer::update(b, i, key.len(), m, value, old),
         Place::Into(i) => store_new(config, b, i, key, m, value),
         Place::Full => {}
     }
@@ -192,7 +192,7 @@ pub fn join(
     let old = l.len;
     let place = l.place;
     match place {
-        Place::Over(i) => plain_writer::join(b, i, key, m, side, value, old),
+        Place::Over(i) => plain_writer::join(b, i, key.len(), m, side, value, old),
         Place::Into(i) => store_new(config, b, i, key, m, value),
         Place::Full => {}
     }
