@@ -91,11 +91,11 @@ pub fn read(config: Config, s: &[u8], clock: u32, key: &[u8]) -> Document
     }
 }
 
-// Purges memory that its caller knows to be a table that is not damaged, with this head, and says how many rows were freed.
-pub fn purge_step(config: Config, s: &mut [u8], head: Head, clock: u32, bound: Cas) -> usize
-    ensures { λ r. ⌜ (r ≡ purgeStep config (now (s .entry)) head clock (bound .0) .freed) × (now (s .exit) ≡ purgeStep config (now (s .entry)) head clock (bound .0) .table) ⌝ }
+// Purges memory that its caller knows to be a table that is not damaged, and says how many rows were freed.
+pub fn purge_step(config: Config, s: &mut [u8], clock: u32, bound: Cas) -> usize
+    ensures { λ r. ⌜ (r ≡ purgeStep config (now (s .entry)) clock (bound .0) .freed) × (now (s .exit) ≡ purgeStep config (now (s .entry)) clock (bound .0) .table) ⌝ }
 {
-    let now = numbers::later(head.clock, clock);
+    let now = numbers::later(octets::be32(s, 4), clock);
     row_writer::put_clock(s, now);
     table::purge(config, s, now, bound)
 }
@@ -107,7 +107,7 @@ pub fn purge(config: Config, s: &mut [u8], clock: u32, bound: Cas) -> Purged
 {
     match table::checked(config, s) {
         Checked::Damaged => Purged::Damaged,
-        Checked::Sound(head) => Purged::Freed(purge_step(config, s, head, clock, bound)),
+        Checked::Sound(_) => Purged::Freed(purge_step(config, s, clock, bound)),
     }
 }
 

@@ -13,8 +13,6 @@ use Rattle.octets.specs.Parts.{Bytes, part, pasted, written}
 use Rattle.octets.proofs.Lists.{written-fits}
 use Rattle.engines.specs.Damage.{soundBy}
 use Rattle.engines.proofs.Tables.{sound-plain}
-use Rattle.document.specs.declared.Head.{Head}
-use Rattle.rows.specs.Table.{headOf}
 use Rattle.header.specs.declared.Header.{Header}
 use Rattle.header.specs.Header.{headerOf}
 use Rattle.request.specs.declared.Gate.{Gate}
@@ -26,8 +24,11 @@ use Rattle.serving.specs.Serves.{Serves}
 use Rattle.serving.proofs.Gated.{was-open, refused-keeps}
 use Rattle.serving.proofs.Sound.{stays-sound}
 use Rattle.reply.proofs.Frames.{reply-most}
-use Rattle.step.specs.Step.{Steps, stepOf}
-use Rattle.serve.proofs.Stepping.{stepped}
+use Rattle.tally.specs.declared.Tally.{Tally}
+use Rattle.run.specs.Run.{begun}
+use Rattle.run.specs.Frames.{framesFrom, serveAt, Leaves}
+use Rattle.run.specs.declared.Ran.{Ran}
+use Rattle.run.proofs.Framing.{one-left}
 use Rattle.trace.specs.declared.Field.the-variants.{Frame}
 use Rattle.replay.specs.declared.Ending.the-variants.{Stopped}
 use Rattle.replay.specs.declared.Progress.{Progress}
@@ -90,16 +91,16 @@ module _ (config : Config) (b : List ℕ) (frame out : List ℕ) (p : Progress) 
   pub frame-cut : eqb (24 + headerOf frame .body) (length frame) ≡ false → FrameTurns config b frame out p (Ends (Stopped (p .at))) b out
   frame-cut f = stays (not-one asked refl f)
 
-  -- a step on the table, by its head
-  module _ (z : Bytes frame) (small : p .clock < 2 ^ 32) (head : Head) (hd : head ≡ headOf b) (r : Served) (b′ out′ : List ℕ)
-      (x : Steps (stepOf config b head (p .clock) frame out) r b′ out′) where
-    call : Serves config b (p .clock) frame out r b′ out′
-    call = stepped config b head (p .clock) frame out r b′ out′ y z small sb hd x
+  -- a frame by itself, on the table
+  module _ (z : Bytes frame) (small : p .clock < 2 ^ 32) (t : Tally) (r : Ran) (b′ out′ : List ℕ)
+      (x : soundBy config b ≡ true → Leaves (framesFrom (serveAt config (p .clock) frame) 0 (begun b out t)) r b′ out′) where
+    call : Serves config b (p .clock) frame out (r .stop) b′ out′
+    call = one-left config (p .clock) frame b out t r b′ out′ (x sb) .serves
 
     still-sound : soundBy config b′ ≡ true
     still-sound = ap (soundBy config) (call .table) ∙ stays-sound config b (p .clock) frame y z small sb (length out)
 
-    pub frame-refused : (k need : ℕ) → r ≡ Refused k need → FrameTurns config b frame out p (Ends (Stopped (p .at))) b′ out′
+    pub frame-refused : (k need : ℕ) → r .stop ≡ Refused k need → FrameTurns config b frame out p (Ends (Stopped (p .at))) b′ out′
     frame-refused k need e =
         let a : asked ≡ Refused k need = sym at-size ∙ (sym (call .answer) ∙ e) in
         record {
@@ -108,11 +109,11 @@ module _ (config : Config) (b : List ℕ) (frame out : List ℕ) (p : Progress) 
           sound = still-sound;
         }
 
-    pub frame-used : (st used len : ℕ) → eqb (24 + headerOf frame .body) (length frame) ≡ true → r ≡ Done st used len → used ≡ length frame
+    pub frame-used : (st used len : ℕ) → eqb (24 + headerOf frame .body) (length frame) ≡ true → r .stop ≡ Done st used len → used ≡ length frame
     frame-used st used len f e =
         was-sent config b (p .clock) frame out st used len n y (sym (call .answer) ∙ e) .consumed ∙ eqb-true (24 + headerOf frame .body) (length frame) f
 
-    pub frame-served : (st used len : ℕ) → eqb (24 + headerOf frame .body) (length frame) ≡ true → r ≡ Done st used len
+    pub frame-served : (st used len : ℕ) → eqb (24 + headerOf frame .body) (length frame) ≡ true → r .stop ≡ Done st used len
         → FrameTurns config b frame out p (Goes (record { at = p .at + 3 + used; clock = p .clock; frames = p .frames + 1; filled = len })) b′ out′
     frame-served st used len f e =
         let a : asked ≡ Done st used len = sym at-size ∙ (sym (call .answer) ∙ e) in

@@ -12,8 +12,6 @@ use Rattle.octets.specs.Compare.{same}
 use Rattle.octets.proofs.Choices.{cases}
 use Rattle.octets.proofs.Lists.{part-length}
 use Rattle.numbers.specs.declared.Cas.{Cas}
-use Rattle.document.specs.declared.Head.{Head}
-use Rattle.rows.specs.Table.{headOf}
 use Rattle.engines.specs.Damage.{soundBy}
 use Rattle.owner.specs.Purging.{purgeStep}
 use Rattle.owner.proofs.Reading.{purge-stepped}
@@ -91,11 +89,11 @@ module _ (config : Config) (b s out : List ℕ) (p : Progress) (sb : soundBy con
         sound = sb;
       }
 
-  pub purge-turns : (bound : Cas) (head : Head) (b′ : List ℕ) (q : Progress) → Bytes b → p .clock < 2 ^ 32 → fieldAt (p .at) s ≡ Purge bound → head ≡ headOf b
-      → b′ ≡ purgeStep config b head (p .clock) (bound .0) .table → q ≡ passed p 8 → Turns config b s out p (Goes q) b′ out
-  purge-turns bound head b′ q y small e h w g =
+  pub purge-turns : (bound : Cas) (b′ : List ℕ) (q : Progress) → Bytes b → p .clock < 2 ^ 32 → fieldAt (p .at) s ≡ Purge bound
+      → b′ ≡ purgeStep config b (p .clock) (bound .0) .table → q ≡ passed p 8 → Turns config b s out p (Goes q) b′ out
+  purge-turns bound b′ q y small e w g =
       let l = says (p .at) s (Purge bound) e in
-      let x = purge-stepped config b (p .clock) (bound .0) head _ b′ y small sb h refl w .1 in
+      let x = purge-stepped config b (p .clock) (bound .0) _ b′ y small sb refl w .1 in
       subst (λ (z : Progress). Turns config b s out p (Goes z) b′ out) (sym g) (record {
         turn = (λ i. On (voyageOf (x i) out (passed p 8))) ∙ (λ i. onField config (p .at) (voyageOf b out p) (sym e i) (bytesHeld s));
         leads = (omega (arith, l), omega arith);

@@ -77,8 +77,9 @@ fn serve_field(config: Config, b: &mut [u8], frame: &[u8], out: &mut [u8], p: Pr
     if !is_one(frame) {
         return Step::Ends(Ending::Stopped(p.at));
     }
-    let head = table::head(b);
-    match step::step(config, b, head, p.clock, frame, out) {
+    let ran = run::serve_frames(config, b, p.clock, frame, out, tally::none(), 0);
+    let stop = ran.stop;
+    match stop {
         Served::Refused(_, _) => Step::Ends(Ending::Stopped(p.at)),
         Served::Done(_, used, len) => Step::Goes(Progress {
             at: p.at + FRONT + used,
@@ -123,8 +124,7 @@ fn turn(config: Config, b: &mut [u8], s: &[u8], out: &mut [u8], p: Progress) -> 
             p,
         ),
         Field::Purge(bound) => {
-            let head = table::head(b);
-            owner::purge_step(config, b, head, p.clock, bound);
+            owner::purge_step(config, b, p.clock, bound);
             Step::Goes(passed(p, 8))
         }
         Field::Rule(_) => Step::Goes(passed(p, 1)),

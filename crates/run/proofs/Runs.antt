@@ -52,7 +52,7 @@ unfolding served
 done-told config b s clock room st used len e = done-by config b s clock room st used len (gateAll config b room s) refl e
 
 -- ---- the calls of a run
-by-served {ℓ} : {X : Type ℓ} (r : Served) → ((n need : ℕ) → r ≡ Refused n need → X) → ((st used len : ℕ) → r ≡ Done st used len → X) → X
+pub by-served {ℓ} : {X : Type ℓ} (r : Served) → ((n need : ℕ) → r ≡ Refused n need → X) → ((st used len : ℕ) → r ≡ Done st used len → X) → X
 by-served (Refused n need) f g = f n need refl
 by-served (Done st used len) f g = g st used len refl
 
@@ -60,17 +60,17 @@ module _ (config : Config) (clock : ℕ) (run : List ℕ) where
   abbrev on : ℕ → Stand → Served → Stand
   on n x r = onDone r x (λ st used len. standAfter config n clock run (further config clock run x st used len))
 
-  stops : (n k need : ℕ) (x : Stand) → calledOn config clock run x ≡ Refused k need → standAfter config n clock run x ≡ x
+  pub stops : (n k need : ℕ) (x : Stand) → calledOn config clock run x ≡ Refused k need → standAfter config n clock run x ≡ x
   unfolding standAfter
   stops zero k need x e = refl
   stops (suc n) k need x e = ap (on n x) e
 
-  goes : (n st used len : ℕ) (x : Stand) → calledOn config clock run x ≡ Done st used len
+  pub goes : (n st used len : ℕ) (x : Stand) → calledOn config clock run x ≡ Done st used len
       → standAfter config (suc n) clock run x ≡ standAfter config n clock run (further config clock run x st used len)
   unfolding standAfter
   goes n st used len x e = ap (on n x) e
 
-  told : (x : Stand) (st used len : ℕ) → calledOn config clock run x ≡ Done st used len → Told (x .table) (drop (x .at) run) (length (x .reply) - x .filled) used len
+  pub told : (x : Stand) (st used len : ℕ) → calledOn config clock run x ≡ Done st used len → Told (x .table) (drop (x .at) run) (length (x .reply) - x .filled) used len
   told x st used len e = done-told config (x .table) (drop (x .at) run) clock (length (x .reply) - x .filled) st used len e
 
   -- no more calls than bytes are left
@@ -109,71 +109,3 @@ run-damaged config clock run b out t d =
     let a : _≡_ {A = Ran} (record { cursor = record { at = 0 }; filled = 0; tally = t; stop = Refused 5 0 }) (ranOf config clock run (begun b out t)) =
     λ i. record { cursor = record { at = 0 }; filled = 0; tally = t; stop = sym e i } in
     (a ∙ ap (ranOf config clock run) x, (ap (λ (z : Stand). z .table) x, ap (λ (z : Stand). z .reply) x))
-
--- ---- one turn of the loop: the part of the reply area past the replies is lent to the step
-module _ (config : Config) (clock : ℕ) (run b out : List ℕ) (t : Tally) (at filled : ℕ) (f : filled ≤ length out) (m : Moved) (b′ ys : List ℕ)
-    (moves : m ≡ movedBy at (m .served)) (q : Serves config b clock (drop at run) (midOf filled (length out - filled) out) (m .served) b′ ys) where
-  abbrev now : Stand
-  now = record { table = b; reply = out; tally = t; at = at; filled = filled }
-
-  room : length (drop filled out) ≡ length out - filled
-  room = length-drop filled out
-
-  mid : midOf filled (length out - filled) out ≡ drop filled out
-  mid = take-all (length out - filled) (drop filled out) (omega (arith, room))
-
-  put : putMid filled (length out - filled) out ys ≡ take filled out ++ ys
-  put = ap (λ (zs : List ℕ). take filled out ++ zs) (ap (λ (zs : List ℕ). ys ++ zs) (drop-of-length-le (drop filled out) {i = length out - filled} (omega (arith, room))) ∙ append-nil ys)
-
-  answer : m .served ≡ served config b clock (drop at run) (length (drop filled out))
-  answer = q .answer ∙ (λ i. served config b clock (drop at run) (length (mid i)))
-
-  left : b′ ≡ servedTable config b clock (drop at run) (length (drop filled out))
-  left = q .table ∙ (λ i. servedTable config b clock (drop at run) (length (mid i)))
-
-  reply : ys ≡ servedReply config b clock (drop at run) (drop filled out)
-  reply = q .reply ∙ ap (servedReply config b clock (drop at run)) mid
-
-  called : m .served ≡ calledOn config clock run now
-  called = answer ∙ ap (served config b clock (drop at run)) room
-
-  -- where the cursor is handed back
-  moved-to : (r : Served) → m .served ≡ r → m .cursor ≡ record { at = at + servedUsed r }
-  unfolding movedBy
-  moved-to r e = ap (λ (x : Moved). x .cursor) moves ∙ (λ i. record { at = at + servedUsed (e i) })
-
-  pub turn-told : (st used len : ℕ) → m .served ≡ Done st used len → Told b (drop at run) (length out - filled) used len
-  turn-told st used len e = told config clock run now st used len (sym called ∙ e)
-
-  -- it leaves the table undamaged
-  pub turn-sound : Bytes b → Bytes run → clock < 2 ^ 32 → soundBy config b ≡ true → soundBy config b′ ≡ true
-  turn-sound y z c e = rw (q .table) (stays-sound config b clock (drop at run) y (bytes-drop at run z) c e (length (midOf filled (length out - filled) out)))
-
-  pub turn-at : (st used len : ℕ) → m .served ≡ Done st used len → m .cursor .at ≡ at + used
-  turn-at st used len e = ap (λ (x : Cursor). x .at) (moved-to (Done st used len) e)
-
-  pub turn-on : (st used len : ℕ) → m .served ≡ Done st used len → (t′ : Tally) → t′ ≡ countedOf t (Done st used len)
-      → runEnd config clock run now ≡ runEnd config clock run (record { table = b′; reply = putMid filled (length out - filled) out ys; tally = t′; at = m .cursor .at; filled = filled + len })
-  turn-on st used len e t′ et =
-      let y = left ∙ ap (servedTable config b clock (drop at run)) room in
-      let z = put ∙ ap (λ (zs : List ℕ). take filled out ++ zs) reply in
-      let c = turn-at st used len e in
-      run-on config clock run now st used len (sym called ∙ e)
-      ∙ sym (λ i. runEnd config clock run (record { table = y i; reply = z i; tally = et i; at = c i; filled = filled + len }))
-
-  pub turn-ends : (n need : ℕ) → m .served ≡ Refused n need → (y : Stand) → runEnd config clock run now ≡ runEnd config clock run y
-      → (_≡_ {A = Ran} (record { cursor = m .cursor; filled = filled; tally = t; stop = m .served }) (ranOf config clock run (runEnd config clock run y)))
-      × ((b′ ≡ runEnd config clock run y .table) × (putMid filled (length out - filled) out ys ≡ runEnd config clock run y .reply))
-  unfolding ranOf
-  turn-ends n need e y p =
-      let x : now ≡ runEnd config clock run y = sym (run-ends config clock run now n need (sym called ∙ e)) ∙ p in
-      let k = refused-keeps config b clock (drop at run) (drop filled out) n need (sym answer ∙ e) in
-      let stays : _≡_ {A = ℕ} (at + 0) at = omega arith in
-      let a : _≡_ {A = Ran} (record { cursor = m .cursor; filled = filled; tally = t; stop = m .served }) (ranOf config clock run now) =
-      λ i. record { cursor = (moved-to (Refused n need) e ∙ (λ j. record { at = stays j })) i; filled = filled; tally = t; stop = called i } in (
-        a ∙ ap (ranOf config clock run) x,
-        (
-          (left ∙ k .0) ∙ ap (λ (z : Stand). z .table) x,
-          (put ∙ (ap (λ (zs : List ℕ). take filled out ++ zs) (reply ∙ k .1) ∙ take-append-drop filled out)) ∙ ap (λ (z : Stand). z .reply) x,
-        ),
-      )

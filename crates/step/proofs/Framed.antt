@@ -76,7 +76,7 @@ module _ (config : Config) (b : List ℕ) (head : Head) (clock : ℕ) (s : List 
 -- ---- the gate
 module _ (s out : List ℕ) where
   -- "4 reply room under 1,302 bytes", then the frame's own
-  abbrev gate : Gate
+  abbrev pub gate : Gate
   gate = cond (ltb (length out) 1302) (Stop 4 0) (gateOf s)
 
   pub gate-room : length out < 1302 → gate ≡ Stop 4 0

@@ -12,8 +12,8 @@ checked-requires c κs = search needs
 enum-told : tie.Need-enum-told
 enum-told c = search needs
 
-enum-known-head : tie.Need-enum-known-head
-enum-known-head c = search needs
+enum-told-2 : tie.Need-enum-told-2
+enum-told-2 c = search needs
 
 purge-step-requires : tie.Need-purge-step-requires
 purge-step-requires c κs = tt
@@ -30,14 +30,12 @@ same-length-2 c = search needs
 
 returns-2 : tie.Need-returns-2
 returns-2 c =
-    let at2 = c .before .before in
-    let at7 = at2 .before .before .before .before .before in
-    let start = at7 .before .before .before in
+    let step = c .before .before .purge-step in
+    let start = c .before .before .before .before .before .before .before .before .before in
     let a = start .args in
-    let y : Bytes (a .s .now) = λ k. at7 .before .before .slice-known .given k .fits in
-    let whole = sound-by _ _ _ (sym (at7 .checked .ensures) ∙ at2 .before .before .before .head .given .1) in
-    purge-stepped (a .config) (a .s .now) (a .clock) (a .bound .0) _ _ _ y (start .fits .clock .fits) (whole .0) (whole .1)
-    (at2 .purge-step .ensures .0) (at2 .purge-step .ensures .1)
+    let y : Bytes (a .s .now) = λ k. c .before .before .before .before .before .before .before .before .slice-known .given k .fits in
+    let whole = sound-by _ _ _ (sym (c .before .before .before .before .before .before .checked .ensures) ∙ c .before .before .before .before .enum-told2 .given .1) in
+    purge-stepped (a .config) (a .s .now) (a .clock) (a .bound .0) _ _ y (start .fits .clock .fits) (whole .0) (step .ensures .0) (step .ensures .1)
 
 pub purge-spec : {M : Type 1} → statement M
 purge-spec =
@@ -45,7 +43,7 @@ purge-spec =
     (tie.spec
     checked-requires
     enum-told
-    enum-known-head
+    enum-told-2
     purge-step-requires
     same-length
     returns

@@ -11,11 +11,11 @@ field-at-requires c κs = tt
 enum-known-clock : tie.Need-enum-known-clock
 enum-known-clock c = search needs
 
+add-t12 : tie.Need-add-t12
+add-t12 c = search needs
+
 add-t13 : tie.Need-add-t13
 add-t13 c = search needs
-
-add-t14 : tie.Need-add-t14
-add-t14 c = search needs
 
 enum-known-len : tie.Need-enum-known-len
 enum-known-len c = search needs
@@ -52,19 +52,15 @@ compare-reply-requires c κs =
 enum-known-bound : tie.Need-enum-known-bound
 enum-known-bound c = search needs
 
-head-requires : tie.Need-head-requires
-head-requires c κs = tt
-
 purge-step-requires : tie.Need-purge-step-requires
 purge-step-requires c κs = tt
 
 passed-requires : tie.Need-passed-requires
 passed-requires c κs =
-    let c7 = c .before .before .before .before .before .before .before in
-    let c13 = c7 .before .before .before .before .before .before in
-    let a = c13 .args in
-    let e = sym (c7 .before .before .field-at .ensures) ∙ c7 .bound .given .1 in
-    omega (arith, says (a .p .at) (a .s .now) _ e, inside (a .p .at) (a .s .now) _ e refl, c13 .pre .1 .1 .1)
+    let start = c .before .before .before .before .before .before .before .before .before .before .before in
+    let a = start .args in
+    let e = sym (c .before .before .before .before .before .before .before .field-at .ensures) ∙ c .before .before .before .before .before .bound .given .1 in
+    omega (arith, says (a .p .at) (a .s .now) _ e, inside (a .p .at) (a .s .now) _ e refl, start .pre .1 .1 .1)
 
 enum-told : tie.Need-enum-told
 enum-told c = search needs
@@ -119,13 +115,10 @@ same-length-4 c = search needs
 
 returns-4 : tie.Need-returns-4
 returns-4 c =
-    let c5 = c .before .before .before .before .before in
-    let c8 = c5 .before .before .before in
-    let c13 = c8 .before .before .before .before .before in
-    let c14 = c13 .before in
-    let a = c14 .args in
-    purge-turns (a .config) (a .b .now) (a .s .now) (a .out .now) (a .p) (c14 .pre .0) _ _ _ _ (λ k. c13 .slice-known .given k .fits) (c14 .good .1 .1 .1 .1 .0 .1 .1 .1 .0 .1)
-    (sym (c8 .before .before .field-at .ensures) ∙ c8 .bound .given .1) (c5 .head .ensures) (c .before .before .before .purge-step .ensures .1) (c .passed .ensures)
+    let start = c .before .before .before .before .before .before .before .before .before .before .before .before in
+    let a = start .args in
+    purge-turns (a .config) (a .b .now) (a .s .now) (a .out .now) (a .p) (start .pre .0) _ _ _ (λ k. c .before .before .before .before .before .before .before .before .before .before .before .slice-known .given k .fits) (start .good .1 .1 .1 .1 .0 .1 .1 .1 .0 .1)
+    (sym (c .before .before .before .before .before .before .before .before .field-at .ensures) ∙ c .before .before .before .before .before .before .bound .given .1) (c .before .before .before .purge-step .ensures .1) (c .passed .ensures)
 
 returns-5 : tie.Need-returns-5
 returns-5 c =
@@ -145,8 +138,8 @@ turn-spec =
     (tie.spec
     field-at-requires
     enum-known-clock
+    add-t12
     add-t13
-    add-t14
     enum-known-len
     part-requires
     serve-field-requires
@@ -155,7 +148,6 @@ turn-spec =
     part-requires-3
     compare-reply-requires
     enum-known-bound
-    head-requires
     purge-step-requires
     passed-requires
     enum-told
