@@ -49,14 +49,14 @@ struct Sight<'t> {
 impl<'t> Sight<'t> {
     fn of(memory: &'t [u8]) -> Sight<'t> {
         match Table::read(Engine::Plain, memory) {
-            Ok(Table { head, rows, .. }) => Sight {
+            Ok(table @ Table { head, .. }) => Sight {
                 damaged: false,
                 state: head.state,
                 mode: head.mode,
                 vbucket: head.vbucket,
                 kept: head.kept,
                 mark: head.mark.0,
-                rows: rows.into_iter().flatten().collect(),
+                rows: table.rows().flatten().collect(),
             },
             Err(_) => Sight {
                 damaged: true,
