@@ -127,8 +127,10 @@ impl<'a> Table<'a> {
         self.memory[HEADER..].chunks_exact(ROW).map(sound_row)
     }
 
+    /// The key of the row at a place; none where it is free.
     fn key(&self, place: usize) -> Option<&'a [u8]> {
-        self.row(place).map(|row| row.key)
+        let row = &self.memory[row_at(place)..][..ROW];
+        (u16_at(row, 0) != 0).then(|| &row[KEY_AT..][..usize::from(u16_at(row, 2))])
     }
 
     /// The used row of a key, with its place. Order 7: "keys are found by halving".
