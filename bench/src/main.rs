@@ -7,6 +7,7 @@ mod floor;
 mod goal;
 mod growth;
 mod orders;
+mod page;
 mod plot;
 mod race;
 mod report;
@@ -20,23 +21,16 @@ use std::error::Error;
 use std::{env, fs};
 use voyages::Voyage;
 
-const PAGE: &str = concat!(env!("CARGO_MANIFEST_DIR"), "/../docs/BENCHMARK.md");
 const PLOT: &str = concat!(env!("CARGO_MANIFEST_DIR"), "/../docs/benchmark.svg");
 const RUNS: &str = concat!(env!("CARGO_MANIFEST_DIR"), "/../docs/benchmark-runs.svg");
 const GROWTH: &str = concat!(env!("CARGO_MANIFEST_DIR"), "/../docs/benchmark-rows.svg");
-
-/// The lines of the page between which its figures stand.
-const FROM: &str = "<!-- figures of bench/run -->\n";
-const TO: &str = "<!-- end of figures -->\n";
 
 fn main() -> Result<(), Box<dyn Error>> {
     let mut arguments = env::args().skip(1);
     let (machine, rounds) = arguments.next().zip(arguments.next()).ok_or("usage: contact-bench MACHINE ROUNDS")?;
     let figures = measure(rounds.parse()?);
-    let page = fs::read_to_string(PAGE)?;
     let made = format!("{machine} Best of {rounds} rounds.");
-    let part = format!("{made}\n\n{}", figures.markdown());
-    fs::write(PAGE, with_figures(&page, &part).ok_or("docs/BENCHMARK.md has no place for the figures")?)?;
+    page::put_figures("bench/run", &format!("{made}\n\n{}", figures.markdown()))?;
     fs::write(PLOT, plot::serving(&figures.serving, &made))?;
     fs::write(RUNS, plot::runs(&figures.runs.cases, &made))?;
     fs::write(GROWTH, growth::plot(&figures.orders.growth, &made))?;
@@ -62,11 +56,4 @@ fn measure(rounds: usize) -> Figures {
         runs: runs::Figures::measure(rounds),
         orders: orders::Figures::measure(rounds),
     }
-}
-
-/// The page with its figures replaced.
-fn with_figures(page: &str, figures: &str) -> Option<String> {
-    let (before, rest) = page.split_once(FROM)?;
-    let (_, after) = rest.split_once(TO)?;
-    Some(format!("{before}{FROM}\n{figures}\n{TO}{after}"))
 }
