@@ -3,7 +3,7 @@ use native.Mathlib.Omega.{arith}
 use Prim.Native.Nat.{ℕ, _+_, _^_, _≤_, _<_}
 use mathlib.Core.Path.{_≡_, refl, sym, ap, _∙_}
 use mathlib.Core.Bool.{true, false, cond}
-use mathlib.Core.List.{List, _++_}
+use mathlib.Core.List.{List}
 use lib.ListN.{length, take, drop}
 use lib.Dec.{eqb}
 use lib.Seq.{take-append-seam}
@@ -29,12 +29,11 @@ use Rattle.run.specs.Run.{begun}
 use Rattle.run.specs.Frames.{framesFrom, serveAt, Leaves}
 use Rattle.run.specs.declared.Ran.{Ran}
 use Rattle.run.proofs.Framing.{one-left}
-use Rattle.trace.specs.declared.Field.the-variants.{Frame}
 use Rattle.replay.specs.declared.Ending.the-variants.{Stopped}
 use Rattle.replay.specs.declared.Progress.{Progress}
 use Rattle.replay.specs.declared.Step.the-variants.{Goes, Ends}
 use Rattle.replay.specs.Replay.{Turn, On, End, isOneFrame, replyFor, sentReply, withFrame}
-use Rattle.replay.specs.Turns.{voyageOf, turnOf, TurnsBy, FrameTurns}
+use Rattle.replay.specs.Turns.{voyageOf, FrameTurns}
 
 -- ---- what stands at the start of an area where it was written
 start-of : (out xs : List ℕ) → length xs ≤ length out → part (written out 0 xs) 0 (length xs) ≡ xs

@@ -24,8 +24,8 @@ use Rattle.replay.specs.declared.Ending.the-variants.{Stopped}
 use Rattle.replay.specs.declared.Progress.{Progress}
 use Rattle.replay.specs.declared.Step.{Step}
 use Rattle.replay.specs.declared.Step.the-variants.{Goes, Ends}
-use Rattle.replay.specs.Replay.{Turn, On, onField}
-use Rattle.replay.specs.Turns.{voyageOf, turnOf, passed, Leads, TurnsBy, FrameTurns, Turns, replyStep}
+use Rattle.replay.specs.Replay.{On, onField}
+use Rattle.replay.specs.Turns.{voyageOf, turnOf, passed, Leads, FrameTurns, Turns, replyStep}
 
 module _ (at : ℕ) (s : List ℕ) where
   -- a field's length, and that it is all there

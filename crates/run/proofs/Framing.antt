@@ -25,7 +25,7 @@ use Rattle.serving.proofs.Sound.{stays-sound}
 use Rattle.step.specs.Step.{Stepped, Steps, stepOf}
 use Rattle.step.proofs.Told.{Told, step-told, step-left}
 use Rattle.serve.proofs.Stepping.{stepped}
-use Rattle.run.specs.Run.{Stand, begun, seen, calledOn, further, standAfter, runEnd, ranOf}
+use Rattle.run.specs.Run.{Stand, begun, calledOn, further, standAfter, runEnd, ranOf}
 use Rattle.run.specs.Frames.{Framed, past, onAnswer, framesFrom, stepAt, serveAt, Leaves}
 use Rattle.run.specs.declared.Ran.{Ran}
 use Rattle.run.proofs.Runs.{by-served, told, stops, goes}

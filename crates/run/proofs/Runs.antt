@@ -1,32 +1,24 @@
 -- Serving a run: a call that is not refused takes a header at least and leaves its reply inside the room, so the calls come to an end.
 use native.Mathlib.Omega.{arith}
-use Prim.Native.Nat.{ℕ, zero, suc, _+_, _-_, _^_, _≤_, _<_}
+use Prim.Native.Nat.{ℕ, zero, suc, _+_, _-_, _≤_}
 use mathlib.Core.Path.{_≡_, refl, sym, ap, _∙_}
-use mathlib.Core.Bool.{true, false}
-use mathlib.Core.List.{List, _++_, append-nil}
-use lib.ListN.{length, take, drop, length-drop, drop-of-length-le, take-append-drop}
-use lib.Seq.{take-all}
-use borrow.Rule.Slice.PartMut.{midOf, putMid}
+use mathlib.Core.Bool.{false}
+use mathlib.Core.List.{List}
+use lib.ListN.{length, drop}
 use Rattle.engine.specs.declared.Config.{Config}
 use Rattle.engines.specs.Damage.{soundBy}
 use Rattle.engines.proofs.Tables.{sound-plain}
 use Rattle.octets.specs.Parts.{Bytes}
-use Rattle.octets.proofs.Lists.{bytes-drop}
 use Rattle.request.specs.declared.Gate.{Gate}
 use Rattle.request.specs.declared.Gate.the-variants.{Stop, Whole}
 use Rattle.tally.specs.declared.Tally.{Tally}
-use Rattle.tally.specs.Counts.{countedOf}
 use Rattle.serving.specs.declared.Served.{Served}
 use Rattle.serving.specs.declared.Served.the-variants.{Refused, Done}
-use Rattle.serving.specs.Serves.{Serves}
-use Rattle.serving.specs.Serve.{servedUsed, gateAll, frameReply, answerBy, served, servedTable, servedReply}
+use Rattle.serving.specs.Serve.{gateAll, frameReply, answerBy, served}
 use Rattle.reply.proofs.Frames.{reply-most}
-use Rattle.serving.proofs.Gated.{was-open, refused-keeps}
-use Rattle.serving.proofs.Sound.{stays-sound}
+use Rattle.serving.proofs.Gated.{was-open}
 use Rattle.serve.proofs.Gates.{gate-damaged}
-use Rattle.run.specs.Run.{movedBy, Stand, begun, calledOn, further, onDone, standAfter, runEnd, ranOf}
-use Rattle.run.specs.declared.Cursor.{Cursor}
-use Rattle.run.specs.declared.Moved.{Moved}
+use Rattle.run.specs.Run.{Stand, begun, calledOn, further, onDone, standAfter, runEnd, ranOf}
 use Rattle.run.specs.declared.Ran.{Ran}
 
 -- ---- what a call that was not refused did
@@ -72,23 +64,6 @@ module _ (config : Config) (clock : ℕ) (run : List ℕ) where
 
   pub told : (x : Stand) (st used len : ℕ) → calledOn config clock run x ≡ Done st used len → Told (x .table) (drop (x .at) run) (length (x .reply) - x .filled) used len
   told x st used len e = done-told config (x .table) (drop (x .at) run) clock (length (x .reply) - x .filled) st used len e
-
-  -- no more calls than bytes are left
-  enough : (n : ℕ) (x : Stand) → length run - x .at ≤ n → standAfter config (suc n) clock run x ≡ standAfter config n clock run x
-  enough zero x h =
-      by-served (calledOn config clock run x)
-      (λ k need e. stops 1 k need x e ∙ sym (stops 0 k need x e))
-      (λ st used len e. let t = told x st used len e in absurd (omega (arith, t .least, t .inside, length-drop (x .at) run)))
-  enough (suc n) x h =
-      by-served (calledOn config clock run x)
-      (λ k need e. stops (suc (suc n)) k need x e ∙ sym (stops (suc n) k need x e))
-      (λ st used len e.
-      let t = told x st used len e in
-      goes (suc n) st used len x e ∙ (enough n (further config clock run x st used len) (omega (arith, t .least, t .inside, length-drop (x .at) run)) ∙ sym (goes n st used len x e)))
-
-  run-on : (x : Stand) (st used len : ℕ) → calledOn config clock run x ≡ Done st used len → runEnd config clock run x ≡ runEnd config clock run (further config clock run x st used len)
-  unfolding runEnd
-  run-on x st used len e = sym (enough (length run) x (omega arith)) ∙ goes (length run) st used len x e
 
   run-ends : (x : Stand) (k need : ℕ) → calledOn config clock run x ≡ Refused k need → runEnd config clock run x ≡ x
   unfolding runEnd

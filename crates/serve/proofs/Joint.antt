@@ -6,10 +6,9 @@ use mathlib.Core.List.{List, [], append-nil}
 use mathlib.Core.Option.{Option, none}
 use native.Mathlib.Omega.{arith}
 use lib.Dec.{ltb}
-use lib.ListN.{length, drop}
-use lib.Seq.{take-at}
+use lib.ListN.{length}
 use Rattle.engine.specs.declared.Config.{Config}
-use Rattle.octets.specs.Parts.{Bytes, part, pasted, written}
+use Rattle.octets.specs.Parts.{Bytes, part, written}
 use Rattle.octets.specs.BigEndian.{bytesOf}
 use Rattle.octets.proofs.Choices.{cases}
 use Rattle.octets.proofs.Options.{none-some}
@@ -48,7 +47,7 @@ use Rattle.engines.specs.Damage.{soundBy}
 use Rattle.engines.specs.Claims.{GoodBy}
 use Rattle.engines.proofs.Tables.{sound-good-by, head-put, clock-put, clock-good-by}
 use Rattle.table.specs.declared.Lookup.{Lookup}
-use Rattle.table.specs.Calls.{hasPlace, lookupOf, storedBy, joinedBy}
+use Rattle.table.specs.Calls.{hasPlace, lookupOf, joinedBy}
 use Rattle.table.specs.Claims.{Finds}
 use Rattle.table.proofs.Looking.{finds-sound, lookup-head}
 use Rattle.table.proofs.Keeping.{stores-good, joins-good}

@@ -8,7 +8,7 @@ use Rattle.octets.specs.Parts.{Bytes}
 use Rattle.rows.specs.Table.{headOf}
 use Rattle.engines.specs.Damage.{soundBy}
 use Rattle.serving.specs.Serves.{Serves}
-use Rattle.step.specs.Step.{Stepped, stepOf}
+use Rattle.step.specs.Step.{stepOf}
 
 abbrev pub StepServes : Config → Type 0
 StepServes config =

@@ -12,7 +12,6 @@ use Rattle.header.specs.declared.Header.{Header}
 use Rattle.request.specs.declared.Gate.{Gate}
 use Rattle.request.specs.declared.Gate.the-variants.{Stop}
 use Rattle.request.specs.Reading.{gateOf, bytesIn, keySpan, frameStatus}
-use Rattle.document.specs.Documents.{Key}
 use Rattle.document.specs.declared.Head.{Head}
 use Rattle.document.specs.Head.{atClock}
 use Rattle.commands.specs.declared.Instruction.{Instruction}
