@@ -26,17 +26,17 @@ use Rattle.step.specs.Step.{Stepped, Steps, stepOf}
 use Rattle.step.proofs.Told.{Told, step-told, step-left}
 use Rattle.serve.proofs.Stepping.{stepped}
 use Rattle.run.specs.Run.{Stand, begun, calledOn, further, standAfter, runEnd, ranOf}
-use Rattle.run.specs.Frames.{Framed, past, onAnswer, framesFrom, stepAt, serveAt, Leaves}
+use Rattle.run.specs.Frames.{Framed, afterFrame, onAnswer, framesFrom, stepAt, serveAt, Leaves}
 use Rattle.run.specs.declared.Ran.{Ran}
 use Rattle.run.proofs.Runs.{by-served, told, stops, goes}
 
 -- ---- one call
 module _ (call : Stand → Stepped) (x : Stand) (y : Stepped) (e : call x ≡ y) where
-  pub frame-goes : (n st used len : ℕ) → y .answer ≡ Done st used len → framesFrom call (suc n) x ≡ framesFrom call n (past x y st used len)
+  pub frame-goes : (n st used len : ℕ) → y .answer ≡ Done st used len → framesFrom call (suc n) x ≡ framesFrom call n (afterFrame x y st used len)
   unfolding framesFrom
   frame-goes n st used len d = (λ i. onAnswer x (e i) (e i .answer) (framesFrom call n)) ∙ ap (λ (a : Served). onAnswer x y a (framesFrom call n)) d
 
-  pub frame-lasts : (st used len : ℕ) → y .answer ≡ Done st used len → framesFrom call 0 x ≡ record { stand = past x y st used len; stop = Done st used len }
+  pub frame-lasts : (st used len : ℕ) → y .answer ≡ Done st used len → framesFrom call 0 x ≡ record { stand = afterFrame x y st used len; stop = Done st used len }
   unfolding framesFrom
   frame-lasts st used len d =
       (λ i. onAnswer x (e i) (e i .answer) (λ z. record { stand = z; stop = e i .answer })) ∙ ap (λ (a : Served). onAnswer x y a (λ z. record { stand = z; stop = a })) d
@@ -126,7 +126,7 @@ module _ (config : Config) (clock : ℕ) (run : List ℕ) where
   abbrev call : Stand → Stepped
   call = serveAt config clock run
 
-  further-is : (x : Stand) (st used len : ℕ) → past x (call x) st used len ≡ further config clock run x st used len
+  further-is : (x : Stand) (st used len : ℕ) → afterFrame x (call x) st used len ≡ further config clock run x st used len
   further-is x st used len = refl
 
   -- enough of them are the run

@@ -19,8 +19,8 @@ pub record Framed : Type 0 where
   pub stop : Served
 
 -- after a frame that was served
-abbrev pub past : Stand → Stepped → ℕ → ℕ → ℕ → Stand
-past x y status used len = record {
+abbrev pub afterFrame : Stand → Stepped → ℕ → ℕ → ℕ → Stand
+afterFrame x y status used len = record {
   table = y .table;
   reply = take (x .filled) (x .reply) ++ y .reply;
   tally = countedOf (x .tally) (Done status used len);
@@ -30,7 +30,7 @@ past x y status used len = record {
 
 abbrev pub onAnswer : Stand → Stepped → Served → (Stand → Framed) → Framed
 onAnswer x y (Refused n need) go = record { stand = x; stop = Refused n need }
-onAnswer x y (Done status used len) go = go (past x y status used len)
+onAnswer x y (Done status used len) go = go (afterFrame x y status used len)
 
 -- at most so many frames more than one, each by this call
 unfoldable pub framesFrom : (Stand → Stepped) → ℕ → Stand → Framed

@@ -32,14 +32,15 @@ use Rattle.table.specs.Calls.{keysWith, keysFor}
 use Rattle.serving.specs.Reply.{bodyOf, headerWith, replyHeader}
 use Rattle.reply.specs.Fitting.{fittingReply}
 use Rattle.reply.proofs.Replies.{Bodied, no-reply, replied}
-use Rattle.step.specs.Answer.{listingReply, replyAs, replyTo, ReplyWritten}
+use Rattle.step.specs.Answer.{keysReply, replyAs, replyTo, ReplyWritten}
 
 -- the keys listed of any memory fit
 short-in : (k : EngineKind) (room : ℕ) (b : List ℕ) (clock : ℕ) (start : Key) (count : ℕ) → length (keysWith k room b clock start count) ≤ 1278
 unfolding fittingKeys keysWalked
 short-in Plain room b clock start count =
     cases (ltb room 1302 || ltb 256 (rowCount b)) (λ t. rw t (omega arith)) (λ f. rw f (listing-short (plain .docs (tableOf b .rows)) clock start count))
-short-in Ordered room b clock start count = cases (ltb room 1302) (λ t. rw t (omega arith)) (λ f. rw f (taken-short count 1278 (keysLive clock (drop (firstFrom start (tableOf b .rows)) (tableOf b .rows)))))
+short-in Ordered room b clock start count =
+    cases (ltb room 1302) (λ t. rw t (omega arith)) (λ f. rw f (taken-short count 1278 (keysLive clock (drop (firstFrom start (tableOf b .rows)) (tableOf b .rows)))))
 
 pub keys-short : (config : Config) (room : ℕ) (b : List ℕ) (clock : ℕ) (start : Key) (count : ℕ) → length (keysFor config room b clock start count) ≤ 1278
 unfolding keysFor
@@ -49,7 +50,7 @@ module _ (config : Config) (b : List ℕ) (clock : ℕ) (h : Header) (d : Decisi
   abbrev keys : List ℕ
   keys = keysFor config (length out) b clock start count
 
-  pub silent-listing : d .silent ≡ true → ReplyWritten (listingReply config (length out) b clock h d start count) out 0 out
+  pub silent-listing : d .silent ≡ true → ReplyWritten (keysReply config (length out) b clock h d start count) out 0 out
   silent-listing t = let p = no-reply (h .opcode) (h .opaque) d start keys out t in record { size = p .0; bytes = p .1 }
 
   module _ (lists : d .done .reply ≡ Keys count) where
@@ -64,7 +65,7 @@ module _ (config : Config) (b : List ℕ) (clock : ℕ) (h : Header) (d : Decisi
 
     pub listing-written : (n : ℕ) (out₁ out₂ : List ℕ) → d .silent ≡ false → 1302 ≤ length out → n ≡ length keys → out₁ ≡ written out 24 keys
         → out₂ ≡ written out₁ 0 (headerBytes (headerWith (h .opcode) (h .opaque) (d .status) 0 0 n (d .done .cas)))
-        → ReplyWritten (listingReply config (length out) b clock h d start count) out (24 + n) out₂
+        → ReplyWritten (keysReply config (length out) b clock h d start count) out (24 + n) out₂
     listing-written n out₁ out₂ f roomy en e₁ e₂ =
         let body : Bodied (d .done .reply) start keys n out out₁ = (en ∙ ap length body-is, e₁ ∙ ap (written out 24) body-is) in
         let fits = keys-short config (length out) b clock start count in
@@ -76,7 +77,7 @@ module _ (config : Config) (b : List ℕ) (clock : ℕ) (h : Header) (d : Decisi
   abbrev wrote : Reply → ℕ → List ℕ → Type 0
   wrote r n out′ = ReplyWritten (replyAs r config (length out) b clock h d key old) out n out′
 
-  pub listed : (count n : ℕ) (out′ : List ℕ) → d .done .reply ≡ Keys count → ReplyWritten (listingReply config (length out) b clock h d key count) out n out′
+  pub listed : (count n : ℕ) (out′ : List ℕ) → d .done .reply ≡ Keys count → ReplyWritten (keysReply config (length out) b clock h d key count) out n out′
       → ReplyWritten (replyTo config (length out) b clock h d key old) out n out′
   listed count n out′ e w = subst (λ (r : Reply). wrote r n out′) (sym e) w
 

@@ -15,8 +15,8 @@ use Rattle.serving.specs.Reply.{replyBytes}
 use Rattle.reply.specs.Fitting.{fittingReply}
 
 -- the reply that lists keys of a table's memory
-abbrev pub listingReply : Config → ℕ → List ℕ → ℕ → Header → Decision → Key → ℕ → List ℕ
-listingReply config room b clock h d start count = replyBytes (h .opcode) (h .opaque) d start (keysFor config room b clock start count)
+abbrev pub keysReply : Config → ℕ → List ℕ → ℕ → Header → Decision → Key → ℕ → List ℕ
+keysReply config room b clock h d start count = replyBytes (h .opcode) (h .opaque) d start (keysFor config room b clock start count)
 
 -- the reply to a request for a key; old: the value found for it
 abbrev pub replyAs : Reply → Config → ℕ → List ℕ → ℕ → Header → Decision → Key → List ℕ → List ℕ
@@ -24,7 +24,7 @@ replyAs Bare config room b clock h d key old = fittingReply room (h .opcode) (h 
 replyAs (Found flags keyed) config room b clock h d key old = fittingReply room (h .opcode) (h .opaque) d key old
 replyAs (Counted n) config room b clock h d key old = fittingReply room (h .opcode) (h .opaque) d key old
 replyAs VersionReply config room b clock h d key old = fittingReply room (h .opcode) (h .opaque) d key old
-replyAs (Keys count) config room b clock h d key old = listingReply config room b clock h d key count
+replyAs (Keys count) config room b clock h d key old = keysReply config room b clock h d key count
 
 abbrev pub replyTo : Config → ℕ → List ℕ → ℕ → Header → Decision → Key → List ℕ → List ℕ
 replyTo config room b clock h d key old = replyAs (d .done .reply) config room b clock h d key old

@@ -13,7 +13,7 @@ ghost use Rattle.request.specs.Reading.{bytesIn, keySpan};
 ghost use Rattle.decision.specs.Decide.{instructionOf};
 ghost use Rattle.decode.specs.Decode.{bareValue};
 ghost use Rattle.serving.specs.Serve.{reachesDecision, askedOf};
-ghost use Rattle.step.specs.Answer.{listingReply, replyTo, ReplyWritten};
+ghost use Rattle.step.specs.Answer.{keysReply, replyTo, ReplyWritten};
 ghost use Rattle.step.specs.Step.{decidedBy, refusedStep, askedStep, frameStep, stepOf, Steps};
 use commands::Context;
 use commands::Instruction;
@@ -62,7 +62,7 @@ fn put_listing(
     out: &mut [u8],
 ) -> usize
     requires { ⌜ (1302 ≤ length (now out)) × (d .done .reply ≡ Reply.Keys count) ⌝ }
-    ensures { λ r. ⌜ ReplyWritten (listingReply config (length (now (out .entry))) (now (b .entry)) clock h d (now (start .entry)) count) (now (out .entry)) r (now (out .exit)) ⌝ }
+    ensures { λ r. ⌜ ReplyWritten (keysReply config (length (now (out .entry))) (now (b .entry)) clock h d (now (start .entry)) count) (now (out .entry)) r (now (out .exit)) ⌝ }
 {
     if d.silent {
         return 0;

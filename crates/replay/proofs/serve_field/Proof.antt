@@ -34,12 +34,14 @@ add-t20 c = omega (arith, c .before .before .before .before .before .before .bef
 
 add-t21 : tie.Need-add-t21
 add-t21 c =
-    let start = c .before .before .before .before .before .before .before .before .before .before .before .before .before .before .before .before .before in
+    let c8 = c .before .before .before .before .before .before .before .before in
+    let c16 = c8 .before .before .before .before .before .before .before .before in
+    let start = c16 .before in
     let a = start .args in
-    let frames = c .before .before .before .before .before .before .before .before .serve-frames .ensures .1 in
-    let u = frame-used (a .config) (a .b .now) (a .frame .now) (a .out .now) (a .p) (start .pre .1 .0) (λ k. c .before .before .before .before .before .before .before .before .before .before .before .before .before .before .before .before .slice-known .given k .fits) (start .pre .0)
-    (λ k. c .before .before .before .before .before .before .before .before .before .before .before .before .before .before .before .shared-slice-known .given k .fits) (start .good .1 .1 .1 .1 .0 .1 .1 .1 .0 .1) _ _ _ _ frames
-    _ _ _ (sym (c .before .before .before .before .before .before .before .before .before .before .before .before .before .is-one .ensures) ∙ not-false _ (c .before .before .before .before .before .before .before .before .before .before .before .before .if1 .left)) (c .before .before .stop .given .1) in
+    let frames = c8 .serve-frames .ensures .1 in
+    let u = frame-used (a .config) (a .b .now) (a .frame .now) (a .out .now) (a .p) (start .pre .1 .0) (λ k. c16 .slice-known .given k .fits) (start .pre .0)
+    (λ k. c8 .before .before .before .before .before .before .before .shared-slice-known .given k .fits) (start .good .1 .1 .1 .1 .0 .1 .1 .1 .0 .1) _ _ _ _ frames
+    _ _ _ (sym (c8 .before .before .before .before .before .is-one .ensures) ∙ not-false _ (c8 .before .before .before .before .if1 .left)) (c .before .before .stop .given .1) in
     omega (arith, u, start .pre .1 .1 .1)
 
 add-t22 : tie.Need-add-t22
@@ -55,11 +57,12 @@ same-length-2 c = search needs
 
 returns-2 : tie.Need-returns-2
 returns-2 c =
-    let start = c .before .before .before .before .before .before .before .before .before .before .before .before .before .before .before in
+    let c8 = c .before .before .before .before .before .before .before .before in
+    let start = c8 .before .before .before .before .before .before .before in
     let a = start .args in
     let frames = c .before .before .before .before .before .before .serve-frames .ensures .1 in
-    frame-refused (a .config) (a .b .now) (a .frame .now) (a .out .now) (a .p) (start .pre .1 .0) (λ k. c .before .before .before .before .before .before .before .before .before .before .before .before .before .before .slice-known .given k .fits) (start .pre .0)
-    (λ k. c .before .before .before .before .before .before .before .before .before .before .before .before .before .shared-slice-known .given k .fits) (start .good .1 .1 .1 .1 .0 .1 .1 .1 .0 .1) _ _ _ _ frames _ _ (c .enum-told .given .1)
+    frame-refused (a .config) (a .b .now) (a .frame .now) (a .out .now) (a .p) (start .pre .1 .0) (λ k. c8 .before .before .before .before .before .before .slice-known .given k .fits) (start .pre .0)
+    (λ k. c8 .before .before .before .before .before .shared-slice-known .given k .fits) (start .good .1 .1 .1 .1 .0 .1 .1 .1 .0 .1) _ _ _ _ frames _ _ (c .enum-told .given .1)
 
 same-length-3 : tie.Need-same-length-3
 same-length-3 c = search needs
@@ -69,12 +72,14 @@ same-length-4 c = search needs
 
 returns-3 : tie.Need-returns-3
 returns-3 c =
-    let start = c .before .before .before .before .before .before .before .before .before .before .before .before .before .before .before .before .before .before in
+    let c8 = c .before .before .before .before .before .before .before .before in
+    let c16 = c8 .before .before .before .before .before .before .before .before in
+    let start = c16 .before .before in
     let a = start .args in
-    let frames = c .before .before .before .before .before .before .before .before .before .serve-frames .ensures .1 in
-    frame-served (a .config) (a .b .now) (a .frame .now) (a .out .now) (a .p) (start .pre .1 .0) (λ k. c .before .before .before .before .before .before .before .before .before .before .before .before .before .before .before .before .before .slice-known .given k .fits) (start .pre .0)
-    (λ k. c .before .before .before .before .before .before .before .before .before .before .before .before .before .before .before .before .shared-slice-known .given k .fits) (start .good .1 .1 .1 .1 .0 .1 .1 .1 .0 .1) _ _ _ _ frames
-    _ _ _ (sym (c .before .before .before .before .before .before .before .before .before .before .before .before .before .before .is-one .ensures) ∙ not-false _ (c .before .before .before .before .before .before .before .before .before .before .before .before .before .if1 .left)) (c .before .before .before .stop .given .1)
+    let frames = c8 .before .serve-frames .ensures .1 in
+    frame-served (a .config) (a .b .now) (a .frame .now) (a .out .now) (a .p) (start .pre .1 .0) (λ k. c16 .before .slice-known .given k .fits) (start .pre .0)
+    (λ k. c16 .shared-slice-known .given k .fits) (start .good .1 .1 .1 .1 .0 .1 .1 .1 .0 .1) _ _ _ _ frames
+    _ _ _ (sym (c8 .before .before .before .before .before .before .is-one .ensures) ∙ not-false _ (c8 .before .before .before .before .before .if1 .left)) (c .before .before .before .stop .given .1)
 
 pub serve-field-spec : {M : Type 1} → statement M
 serve-field-spec =

@@ -115,10 +115,11 @@ same-length-4 c = search needs
 
 returns-4 : tie.Need-returns-4
 returns-4 c =
-    let start = c .before .before .before .before .before .before .before .before .before .before .before .before in
+    let c8 = c .before .before .before .before .before .before .before .before in
+    let start = c8 .before .before .before .before in
     let a = start .args in
-    purge-turns (a .config) (a .b .now) (a .s .now) (a .out .now) (a .p) (start .pre .0) _ _ _ (λ k. c .before .before .before .before .before .before .before .before .before .before .before .slice-known .given k .fits) (start .good .1 .1 .1 .1 .0 .1 .1 .1 .0 .1)
-    (sym (c .before .before .before .before .before .before .before .before .field-at .ensures) ∙ c .before .before .before .before .before .before .bound .given .1) (c .before .before .before .purge-step .ensures .1) (c .passed .ensures)
+    purge-turns (a .config) (a .b .now) (a .s .now) (a .out .now) (a .p) (start .pre .0) _ _ _ (λ k. c8 .before .before .before .slice-known .given k .fits) (start .good .1 .1 .1 .1 .0 .1 .1 .1 .0 .1)
+    (sym (c8 .field-at .ensures) ∙ c .before .before .before .before .before .before .bound .given .1) (c .before .before .before .purge-step .ensures .1) (c .passed .ensures)
 
 returns-5 : tie.Need-returns-5
 returns-5 c =

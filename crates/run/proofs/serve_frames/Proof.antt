@@ -74,26 +74,39 @@ counted-requires : tie.Need-counted-requires Inv-loop μ-loop
 counted-requires c κs = search needs
 
 same-length : tie.Need-same-length Inv-loop μ-loop
-same-length c = c .before .before .before .before .before .before .before .before .b .given ∙ c .before .before .before .before .before .before .before .before .before .before .before .before .before .before .before .loop .inv .0
+same-length c =
+    let c8 = c .before .before .before .before .before .before .before .before in
+    c8 .b .given ∙ c8 .before .before .before .before .before .before .before .loop .inv .0
 
 same-length-2 : tie.Need-same-length-2 Inv-loop μ-loop
-same-length-2 c = c .before .before .before .before .before .before .out .given .1 ∙ c .before .before .before .before .before .before .before .before .before .before .before .before .before .before .before .loop .inv .1 .0
+same-length-2 c =
+    let c8 = c .before .before .before .before .before .before .before .before in
+    c .before .before .before .before .before .before .out .given .1 ∙ c8 .before .before .before .before .before .before .before .loop .inv .1 .0
 
 returns : tie.Need-returns Inv-loop μ-loop
 returns c =
-    let start = c .before .before .before .before .before .before .before .before .before .before .before .before .before .before .before .before .before .before .before in
+    let c8 = c .before .before .before .before .before .before .before .before in
+    let c16 = c8 .before .before .before .before .before .before .before .before in
+    let start = c16 .before .before .before in
     let a = start .args in
-    let l = c .before .before .before .before .before .before .before .before .before .before .before .before .before .before .before .loop in
-    let eh = c .before .before .before .before .before .before .before .before .before .before .before .before .before .head .ensures in
-    let es = c .before .before .before .before .before .before .before .before .before .before .before .rest .ensures in
-    let q = c .before .before .before .before .before .before .before .before .before .step .ensures in
+    let l = c8 .before .before .before .before .before .before .before .loop in
+    let eh = c8 .before .before .before .before .before .head .ensures in
+    let es = c8 .before .before .before .rest .ensures in
+    let q = c8 .before .step .ensures in
+    let step = stepAt (a .config) (a .clock) (a .run .now) in
+    let serve = serveAt (a .config) (a .clock) (a .run .now) in
+    let steps = turn-steps (a .config) (a .clock) (a .run .now) (l .b) (l .out) (l .tally) (l .cursor .at) (l .filled) _ _ _ _ _ eh es q in
     let d = c .before .before .before .r .given .1 in
     let counted = c .before .counted .ensures in
-    let z : Bytes (a .run .now) = λ k. c .before .before .before .before .before .before .before .before .before .before .before .before .before .before .before .before .before .shared-slice-known .given k .fits in (
-      turn-lasts (a .config) (a .clock) (a .run .now) (l .b) (l .out) (l .tally) (l .cursor .at) (l .filled) _ _ _ _ _ eh es q (stepAt (a .config) (a .clock) (a .run .now)) (turn-steps (a .config) (a .clock) (a .run .now) (l .b) (l .out) (l .tally) (l .cursor .at) (l .filled) _ _ _ _ _ eh es q) _ _ _ _ (c .if1 .taken) d _ counted _ (l .inv .1 .1 .1 .1 .1 .0),
+    let z : Bytes (a .run .now) = λ k. c16 .before .shared-slice-known .given k .fits in (
+      turn-lasts (a .config) (a .clock) (a .run .now) (l .b) (l .out) (l .tally) (l .cursor .at) (l .filled) _ _ _ _ _ eh es q
+          step steps _ _ _ _ (c .if1 .taken) d _ counted _ (l .inv .1 .1 .1 .1 .1 .0),
       λ sound.
           let s = l .inv .1 .1 .1 .1 .1 .1 sound in
-          turn-lasts (a .config) (a .clock) (a .run .now) (l .b) (l .out) (l .tally) (l .cursor .at) (l .filled) _ _ _ _ _ eh es q (serveAt (a .config) (a .clock) (a .run .now)) (turn-serves (a .config) (a .clock) (a .run .now) (l .b) (l .out) (l .tally) (l .cursor .at) (l .filled) _ _ _ _ _ eh es q (l .inv .1 .1 .1 .1 .0) z (start .fits .clock .fits) (s .0))
+          let served = turn-serves (a .config) (a .clock) (a .run .now) (l .b) (l .out) (l .tally) (l .cursor .at) (l .filled) _ _ _ _ _ eh es q
+          (l .inv .1 .1 .1 .1 .0) z (start .fits .clock .fits) (s .0) in
+          turn-lasts (a .config) (a .clock) (a .run .now) (l .b) (l .out) (l .tally) (l .cursor .at) (l .filled) _ _ _ _ _ eh es q
+          serve served
           _ _ _ _ (c .if1 .taken) d _ counted _ (s .1),
     )
 
@@ -105,20 +118,23 @@ loop-less c = omega (arith, c .if1 .left)
 
 loop-again : tie.Need-loop-again Inv-loop μ-loop
 loop-again c =
-    let start = c .before .before .before .before .before .before .before .before .before .before .before .before .before .before .before .before .before .before .before in
+    let c8 = c .before .before .before .before .before .before .before .before in
+    let c16 = c8 .before .before .before .before .before .before .before .before in
+    let start = c16 .before .before .before in
     let a = start .args in
-    let l = c .before .before .before .before .before .before .before .before .before .before .before .before .before .before .before .loop in
-    let eh = c .before .before .before .before .before .before .before .before .before .before .before .before .before .head .ensures in
-    let es = c .before .before .before .before .before .before .before .before .before .before .before .rest .ensures in
-    let q = c .before .before .before .before .before .before .before .before .before .step .ensures in
+    let l = c8 .before .before .before .before .before .before .before .loop in
+    let eh = c8 .before .before .before .before .before .head .ensures in
+    let es = c8 .before .before .before .rest .ensures in
+    let q = c8 .before .step .ensures in
+    let step = stepAt (a .config) (a .clock) (a .run .now) in
+    let serve = serveAt (a .config) (a .clock) (a .run .now) in
+    let steps = turn-steps (a .config) (a .clock) (a .run .now) (l .b) (l .out) (l .tally) (l .cursor .at) (l .filled) _ _ _ _ _ eh es q in
     let d = c .before .before .before .r .given .1 in
     let counted = c .before .counted .ensures in
     let w = turn-told (a .config) (a .clock) (a .run .now) (l .b) (l .out) (l .tally) (l .cursor .at) (l .filled) _ _ _ _ _ eh es q _ _ _ d in
     let more : l .left ≡ suc (l .left - 1) = omega (arith, c .if1 .left) in
-    let z : Bytes (a .run .now) = λ k. c .before .before .before .before .before .before .before .before .before .before .before .before .before .before .before .before .before .shared-slice-known .given k .fits in
-    let step = stepAt (a .config) (a .clock) (a .run .now) in
-    let serve = serveAt (a .config) (a .clock) (a .run .now) in (
-      c .before .before .before .before .before .before .before .before .b .given ∙ l .inv .0,
+    let z : Bytes (a .run .now) = λ k. c16 .before .shared-slice-known .given k .fits in (
+      c8 .b .given ∙ l .inv .0,
       (
         c .before .before .before .before .before .before .out .given .1 ∙ l .inv .1 .0,
         (
@@ -128,12 +144,16 @@ loop-again c =
             (
               λ k. c .before .before .before .before .before .before .before .slice-known3 .given k .fits,
               (
-                sym (turn-on (a .config) (a .clock) (a .run .now) (l .b) (l .out) (l .tally) (l .cursor .at) (l .filled) _ _ _ _ _ eh es q step (turn-steps (a .config) (a .clock) (a .run .now) (l .b) (l .out) (l .tally) (l .cursor .at) (l .filled) _ _ _ _ _ eh es q) (l .left) (l .left - 1) _ _ _ more d _ counted) ∙ l .inv .1 .1 .1 .1 .1 .0,
+                sym (turn-on (a .config) (a .clock) (a .run .now) (l .b) (l .out) (l .tally) (l .cursor .at) (l .filled) _ _ _ _ _ eh es q
+                    step steps (l .left) (l .left - 1) _ _ _ more d _ counted) ∙ l .inv .1 .1 .1 .1 .1 .0,
                 λ sound.
                     let s = l .inv .1 .1 .1 .1 .1 .1 sound in
-                    let served = turn-serves (a .config) (a .clock) (a .run .now) (l .b) (l .out) (l .tally) (l .cursor .at) (l .filled) _ _ _ _ _ eh es q (l .inv .1 .1 .1 .1 .0) z (start .fits .clock .fits) (s .0) in (
-                      turn-sound (a .config) (a .clock) (a .run .now) (l .b) (l .out) (l .tally) (l .cursor .at) (l .filled) _ _ _ _ _ eh es q (l .inv .1 .1 .1 .1 .0) z (start .fits .clock .fits) (s .0),
-                      sym (turn-on (a .config) (a .clock) (a .run .now) (l .b) (l .out) (l .tally) (l .cursor .at) (l .filled) _ _ _ _ _ eh es q serve served (l .left) (l .left - 1) _ _ _ more d _ counted) ∙ s .1,
+                    let served = turn-serves (a .config) (a .clock) (a .run .now) (l .b) (l .out) (l .tally) (l .cursor .at) (l .filled) _ _ _ _ _ eh es q
+                    (l .inv .1 .1 .1 .1 .0) z (start .fits .clock .fits) (s .0) in (
+                      turn-sound (a .config) (a .clock) (a .run .now) (l .b) (l .out) (l .tally) (l .cursor .at) (l .filled) _ _ _ _ _ eh es q
+                          (l .inv .1 .1 .1 .1 .0) z (start .fits .clock .fits) (s .0),
+                      sym (turn-on (a .config) (a .clock) (a .run .now) (l .b) (l .out) (l .tally) (l .cursor .at) (l .filled) _ _ _ _ _ eh es q
+                          serve served (l .left) (l .left - 1) _ _ _ more d _ counted) ∙ s .1,
                     ),
               ),
             ),
@@ -153,18 +173,27 @@ same-length-4 c = c .before .before .before .out .given .1 ∙ c .before .before
 
 returns-2 : tie.Need-returns-2 Inv-loop μ-loop
 returns-2 c =
-    let start = c .before .before .before .before .before .before .before .before .before .before .before .before .before .before .before .before in
+    let c8 = c .before .before .before .before .before .before .before .before in
+    let c16 = c8 .before .before .before .before .before .before .before .before in
+    let start = c16 in
     let a = start .args in
-    let l = c .before .before .before .before .before .before .before .before .before .before .before .before .loop in
-    let eh = c .before .before .before .before .before .before .before .before .before .before .head .ensures in
-    let es = c .before .before .before .before .before .before .before .before .rest .ensures in
+    let l = c8 .before .before .before .before .loop in
+    let eh = c8 .before .before .head .ensures in
+    let es = c8 .rest .ensures in
     let q = c .before .before .before .before .before .before .step .ensures in
+    let step = stepAt (a .config) (a .clock) (a .run .now) in
+    let serve = serveAt (a .config) (a .clock) (a .run .now) in
+    let steps = turn-steps (a .config) (a .clock) (a .run .now) (l .b) (l .out) (l .tally) (l .cursor .at) (l .filled) _ _ _ _ _ eh es q in
     let d = c .enum-told .given .1 in
-    let z : Bytes (a .run .now) = λ k. c .before .before .before .before .before .before .before .before .before .before .before .before .before .before .shared-slice-known .given k .fits in (
-      turn-ends (a .config) (a .clock) (a .run .now) (l .b) (l .out) (l .tally) (l .cursor .at) (l .filled) _ _ _ _ _ eh es q (stepAt (a .config) (a .clock) (a .run .now)) (turn-steps (a .config) (a .clock) (a .run .now) (l .b) (l .out) (l .tally) (l .cursor .at) (l .filled) _ _ _ _ _ eh es q) _ _ _ d _ (l .inv .1 .1 .1 .1 .1 .0),
+    let z : Bytes (a .run .now) = λ k. c8 .before .before .before .before .before .before .shared-slice-known .given k .fits in (
+      turn-ends (a .config) (a .clock) (a .run .now) (l .b) (l .out) (l .tally) (l .cursor .at) (l .filled) _ _ _ _ _ eh es q
+          step steps _ _ _ d _ (l .inv .1 .1 .1 .1 .1 .0),
       λ sound.
           let s = l .inv .1 .1 .1 .1 .1 .1 sound in
-          turn-ends (a .config) (a .clock) (a .run .now) (l .b) (l .out) (l .tally) (l .cursor .at) (l .filled) _ _ _ _ _ eh es q (serveAt (a .config) (a .clock) (a .run .now)) (turn-serves (a .config) (a .clock) (a .run .now) (l .b) (l .out) (l .tally) (l .cursor .at) (l .filled) _ _ _ _ _ eh es q (l .inv .1 .1 .1 .1 .0) z (start .fits .clock .fits) (s .0)) _ _ _ d _ (s .1),
+          let served = turn-serves (a .config) (a .clock) (a .run .now) (l .b) (l .out) (l .tally) (l .cursor .at) (l .filled) _ _ _ _ _ eh es q
+          (l .inv .1 .1 .1 .1 .0) z (start .fits .clock .fits) (s .0) in
+          turn-ends (a .config) (a .clock) (a .run .now) (l .b) (l .out) (l .tally) (l .cursor .at) (l .filled) _ _ _ _ _ eh es q
+          serve served _ _ _ d _ (s .1),
     )
 
 pub serve-frames-spec : {M : Type 1} → statement M

@@ -18,8 +18,10 @@ same-length c = search needs
 
 returns : tie.Need-returns
 returns c =
-    let a = c .before .before .before .before .before .before .before .before .before .before .before .before .args in
-    listed (a .config) (now (a .b)) (a .clock) (a .h) (a .d) (now (a .key)) (now (a .old)) (now (a .out)) _ _ _ (c .before .before .before .before .before .reply .given .1) (c .before .before .put-listing .ensures)
+    let c8 = c .before .before .before .before .before .before .before .before in
+    let a = c8 .before .before .before .before .args in
+    listed (a .config) (now (a .b)) (a .clock) (a .h) (a .d) (now (a .key)) (now (a .old)) (now (a .out)) _ _ _
+    (c .before .before .before .before .before .reply .given .1) (c .before .before .put-listing .ensures)
 
 same-length-2 : tie.Need-same-length-2
 same-length-2 c = search needs

@@ -35,7 +35,7 @@ add-t22 c =
     let start = c .before .before .before .before .before .before .before .before .before .before .before .before .before .before .before .before .before in
     let a = start .args in
     let rest = c .before .before .before .before .before .before .before .before .before .rest in
-    let sound = sym (c .before .before .before .before .before .before .before .before .before .before .before .before .is-sound .ensures) ∙ not-false _ (c .before .before .before .before .before .before .before .before .before .before .before .if1 .left) in
+    let sound = sym (m .before .before .before .before .before .before .is-sound .ensures) ∙ not-false _ (m .before .before .before .before .before .if1 .left) in
     let one = one-left (a .config) (a .clock) (rest .result .now) (a .b .now) (a .out .now) _ _ _ _ (m .serve-frames .ensures .1 sound) in
     let l = ap length (rest .ensures) in
     let v : m .serve-frames .result .cursor .at ≤ length (rest .result .now) = rw (one .at, one .serves .answer) (used-fits _ _ _ _ _) in
@@ -49,10 +49,12 @@ same-length-3 c = search needs
 
 returns-2 : tie.Need-returns-2
 returns-2 c =
+    let c8 = c .before .before .before .before .before .before .before .before in
+    let c16 = c8 .before .before .before .before .before .before .before .before in
     let m = c .before .before .before .before .before .before in
-    let a = c .before .before .before .before .before .before .before .before .before .before .before .before .before .before .before .before .before .args in
-    let rest = c .before .before .before .before .before .before .before .before .before .rest in
-    let sound = sym (c .before .before .before .before .before .before .before .before .before .before .before .before .is-sound .ensures) ∙ not-false _ (c .before .before .before .before .before .before .before .before .before .before .before .if1 .left) in
+    let a = c16 .before .args in
+    let rest = c8 .before .rest in
+    let sound = sym (c8 .before .before .before .before .is-sound .ensures) ∙ not-false _ (c8 .before .before .before .if1 .left) in
     let one = one-left (a .config) (a .clock) (rest .result .now) (a .b .now) (a .out .now) _ _ _ _ (m .serve-frames .ensures .1 sound) in
     moved-eq _ _ _ _ _ _ _ _ _ _ _ (rest .ensures) (one .at) (one .serves)
 
