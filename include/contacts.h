@@ -491,6 +491,9 @@ typedef struct contacts_ran {
  * refused. The replies stand one after another in the reply area; its bytes past them are unchanged. The kept clock is
  * raised where a frame is served, and left where none is.
  *
+ * The table is tested for damage once, before the first frame, where contacts_serve tests it in every call: on 256 rows a
+ * frame in a run of 256 takes a fortieth of a call of its own. So serve all that has been received as one run.
+ *
  * Answers what the served frames used and were replied, with the outcome, 1 to 5, and needed of the refusal:
  *   outcome 5               the table is damaged; nothing is changed, used and reply are 0
  *   outcome 4               under 1,302 bytes of the reply area are left, also where no frame is left: send the replies

@@ -204,7 +204,8 @@ impl Request {
             Request::ReadHit | Request::ReadMiss => false,
             Request::GetHit | Request::SetWithMetaRefused | Request::SetWithMetaOf2012Refused => !table.is_free(),
             Request::Append | Request::Prepend | Request::Touch | Request::GetAndTouch => !table.is_free(),
-            Request::Noop | Request::GetKeys => !table.is_free() || table.key == SHORT,
+            Request::Noop => table.key == SHORT,
+            Request::GetKeys => !table.is_free() || table.key == SHORT,
             Request::GetMiss | Request::Set | Request::SetWithMeta | Request::SetWithMetaOf2012 => true,
             Request::GetHitEarlier | Request::SetEarlier => table.rows == 32 && !table.is_free() && table.key == SHORT,
         }
@@ -252,6 +253,14 @@ impl Case {
         match self.request {
             Request::GetHitEarlier | Request::SetEarlier => CLOCK - DAY,
             _ => CLOCK,
+        }
+    }
+
+    /// The length of the table's keys, as figures have it; a Noop has no key, and one table will do.
+    pub fn key_told(&self) -> String {
+        match self.request {
+            Request::Noop => "none".into(),
+            _ => self.table.key.to_string(),
         }
     }
 

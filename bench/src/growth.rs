@@ -1,10 +1,10 @@
 //! The growth of a call with the rows as a line plot in SVG, a panel for each length of keys.
 
 use crate::orders::{Growth, Times, MOST};
-use crate::plot::{stroke, text, END, MIDDLE, TITLE};
+use crate::plot::{stroke, text, END, MIDDLE, SMALL, TITLE};
 
 const WIDTH: f64 = 960.0;
-const HEIGHT: f64 = 420.0;
+const HEIGHT: f64 = 444.0;
 const TOP: f64 = 92.0;
 const BOTTOM: f64 = 372.0;
 const PANEL: f64 = 400.0;
@@ -19,7 +19,7 @@ const LINES: [Line; 3] = [
     ("rows in key order", "#1f5fa8", |times| times.ordered),
 ];
 
-pub fn plot(growth: &[Growth]) -> String {
+pub fn plot(growth: &[Growth], made: &str) -> String {
     let panels: String = growth.iter().zip(LEFTS).map(|(growth, left)| panel(growth, left)).collect();
     let title = text(16.0, 24.0, TITLE, "A Get on a full table: time of a call by the number of rows");
     let legend: String = LINES
@@ -29,10 +29,11 @@ pub fn plot(growth: &[Growth]) -> String {
             stroke((x, 50.0), (x + 22.0, 50.0), colour, 2.5) + &text(x + 28.0, 50.0, "", name)
         })
         .collect();
+    let made = text(16.0, HEIGHT - 14.0, SMALL, made);
     format!(
         r##"<svg xmlns="http://www.w3.org/2000/svg" viewBox="0 0 {WIDTH} {HEIGHT}" width="{WIDTH}" height="{HEIGHT}" font-family="sans-serif" font-size="12" fill="#222222">
 <rect width="{WIDTH}" height="{HEIGHT}" fill="#ffffff"/>
-{title}{legend}{panels}</svg>
+{title}{legend}{panels}{made}</svg>
 "##
     )
 }

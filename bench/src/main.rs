@@ -1,13 +1,17 @@
 //! The proved library timed beside the Rust rendering and a plain pass over the table: `contact-bench MACHINE ROUNDS`
-//! writes the figures into docs/BENCHMARK.md and plots them in docs/benchmark.svg and docs/benchmark-rows.svg.
+//! writes the figures into docs/BENCHMARK.md and plots them in docs/benchmark.svg, docs/benchmark-runs.svg and
+//! docs/benchmark-rows.svg.
 
 mod cases;
 mod floor;
+mod goal;
 mod growth;
 mod orders;
+mod page;
 mod plot;
 mod race;
 mod report;
+mod runs;
 mod sides;
 mod voyages;
 
@@ -17,25 +21,22 @@ use std::error::Error;
 use std::{env, fs};
 use voyages::Voyage;
 
-const PAGE: &str = concat!(env!("CARGO_MANIFEST_DIR"), "/../docs/BENCHMARK.md");
 const PLOT: &str = concat!(env!("CARGO_MANIFEST_DIR"), "/../docs/benchmark.svg");
+const RUNS: &str = concat!(env!("CARGO_MANIFEST_DIR"), "/../docs/benchmark-runs.svg");
 const GROWTH: &str = concat!(env!("CARGO_MANIFEST_DIR"), "/../docs/benchmark-rows.svg");
-
-/// The lines of the page between which its figures stand.
-const FROM: &str = "<!-- figures of bench/run -->\n";
-const TO: &str = "<!-- end of figures -->\n";
 
 fn main() -> Result<(), Box<dyn Error>> {
     let mut arguments = env::args().skip(1);
     let (machine, rounds) = arguments.next().zip(arguments.next()).ok_or("usage: contact-bench MACHINE ROUNDS")?;
     let figures = measure(rounds.parse()?);
-    let page = fs::read_to_string(PAGE)?;
-    let part = format!("{machine} Best of {rounds} rounds.\n\n{}", figures.markdown());
-    fs::write(PAGE, with_figures(&page, &part).ok_or("docs/BENCHMARK.md has no place for the figures")?)?;
-    fs::write(PLOT, plot::plot(&figures.serving))?;
-    fs::write(GROWTH, growth::plot(&figures.orders.growth))?;
+    let made = format!("{machine} Best of {rounds} rounds.");
+    page::put_figures("bench/run", &format!("{made}\n\n{}", figures.markdown()))?;
+    fs::write(PLOT, plot::serving(&figures.serving, &made))?;
+    fs::write(RUNS, plot::runs(&figures.runs.cases, &made))?;
+    fs::write(GROWTH, growth::plot(&figures.orders.growth, &made))?;
     println!("{}\n{}\n{}", figures.on_serving(), figures.on_damage(), figures.on_replays());
-    for goal in figures.orders.goals() {
+    println!("{}", figures.on_runs());
+    for goal in figures.goals() {
         println!("{}: {}, {}.", goal.words, goal.measured, if goal.holds { "holds" } else { "doesn't hold" });
     }
     figures.within_limit().then_some(()).ok_or("the damage test takes too long".into())
@@ -52,13 +53,7 @@ fn measure(rounds: usize) -> Figures {
         serving: serving.collect(),
         damage: damage.collect(),
         replays: replays.collect(),
+        runs: runs::Figures::measure(rounds),
         orders: orders::Figures::measure(rounds),
     }
-}
-
-/// The page with its figures replaced.
-fn with_figures(page: &str, figures: &str) -> Option<String> {
-    let (before, rest) = page.split_once(FROM)?;
-    let (_, after) = rest.split_once(TO)?;
-    Some(format!("{before}{FROM}\n{figures}\n{TO}{after}"))
 }

@@ -1,5 +1,6 @@
 //! Order 7: rows in key order beside the plain engine, the rendering and a plain pass, and their growth with the rows.
 
+use crate::goal::Goal;
 use crate::race::{best, Side};
 use contact_tests::answers::{self, Engine};
 use contact_tests::frame::{meta_extras, plain_extras, Frame};
@@ -288,13 +289,6 @@ pub struct Figures {
     pub growth: Vec<Growth>,
 }
 
-/// A goal of order 7, what was measured, and whether it holds.
-pub struct Goal {
-    pub words: String,
-    pub measured: String,
-    pub holds: bool,
-}
-
 impl Figures {
     pub fn measure(rounds: usize) -> Figures {
         Figures {
@@ -311,10 +305,7 @@ impl Figures {
 
     pub fn goals(&self) -> Vec<Goal> {
         let mut goals = Vec::new();
-        let mut at_most = |words: String, measured: f64, limit: f64| {
-            let holds = measured <= limit;
-            goals.push(Goal { words, measured: format!("{measured:.2}"), holds });
-        };
+        let mut at_most = |words: String, measured: f64, limit: f64| goals.push(Goal::at_most(words, measured, limit));
         // keys that differ in their last two bytes, so not those that share a fingerprint
         let apart = |case: &Case, length| case.length == length && case.keys != Keys::Sharing;
         for (length, walk, got) in [(8, 1.8, 2.0), (250, 2.2, 2.4)] {

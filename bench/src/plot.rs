@@ -1,7 +1,8 @@
-//! Serving as a dot plot in SVG: a line for each case, time on a logarithmic axis.
+//! Times as dot plots in SVG: a line for each case, time on a logarithmic axis.
 
 use crate::cases::{Case, Fill, Table};
 use crate::race::Times;
+use crate::runs;
 
 const WIDTH: f64 = 960.0;
 const MARGIN: f64 = 16.0;
@@ -12,44 +13,123 @@ const TOP: f64 = 96.0;
 const LINE: f64 = 18.0;
 const HEADING: f64 = 30.0;
 
-pub fn plot(serving: &[(Case, Times)]) -> String {
-    let axis = Axis::of(serving);
-    let mut drawn = String::new();
-    let mut y = TOP;
-    for group in serving.chunk_by(|(a, _), (b, _)| heading(&a.table) == heading(&b.table)) {
-        y += HEADING;
-        drawn += &text(MARGIN, y - 12.0, BOLD, &heading(&group[0].0.table));
-        for (case, times) in group {
-            y += LINE;
-            drawn += &line(&axis, y - 6.0, case, times);
+/// A line of a plot: its case in words, its marks, the last two of which are joined, and the ratio at its end.
+struct Line {
+    heading: String,
+    name: &'static str,
+    note: String,
+    marks: Vec<(Mark, f64)>,
+    ratio: f64,
+}
+
+#[derive(Clone, Copy)]
+enum Mark {
+    Floor,
+    OneByOne,
+    Rendering,
+    Library,
+}
+
+impl Mark {
+    fn draw(self, x: f64, y: f64) -> String {
+        match self {
+            Mark::Floor => stroke((x, y - 5.0), (x, y + 5.0), "#8a8a8a", 3.0),
+            Mark::OneByOne => diamond(x, y),
+            Mark::Rendering => circle(x, y, r##"fill="#ffffff" stroke="#d9730d" stroke-width="2""##),
+            Mark::Library => circle(x, y, r##"fill="#1f5fa8""##),
         }
     }
-    let height = y + 40.0;
-    let (title, legend, grid) =
-        (text(MARGIN, 24.0, TITLE, "Serving one request: time of a call, logarithmic"), legend(), axis.grid(y + 8.0));
+}
+
+/// A mark's name, where the legend has it.
+type Named = (f64, Mark, &'static str);
+
+/// Serving one request.
+pub fn serving(cases: &[(Case, Times)], made: &str) -> String {
+    let line = |(case, times): &(Case, Times)| Line {
+        heading: heading(&case.table),
+        name: case.request.name(),
+        note: format!("key {}", case.key_told()),
+        marks: vec![(Mark::Floor, times.floor), (Mark::Rendering, times.rendering), (Mark::Library, times.library)],
+        ratio: times.over_rendering(),
+    };
+    let legend = [
+        (24.0, Mark::Floor, "plain pass over the table"),
+        (206.0, Mark::Rendering, "Rust rendering"),
+        (318.0, Mark::Library, "library"),
+    ];
+    let lines: Vec<Line> = cases.iter().map(line).collect();
+    plot("Serving one request: time of a call, logarithmic", "library / rendering", &legend, &lines, made)
+}
+
+/// Serving a run.
+pub fn runs(cases: &[(runs::Case, runs::Times)], made: &str) -> String {
+    let line = |(case, times): &(runs::Case, runs::Times)| Line {
+        heading: match case.key() {
+            Some(key) => format!("{}, {} rows, keys of {key}", case.what.name(), case.rows),
+            None => format!("{}, {} rows", case.what.name(), case.rows),
+        },
+        name: match case.frames {
+            1 => "by itself",
+            _ => "in a run",
+        },
+        note: format!("of {}", case.frames),
+        marks: vec![
+            (Mark::Floor, times.floor),
+            (Mark::OneByOne, times.one_by_one),
+            (Mark::Rendering, times.rendering),
+            (Mark::Library, times.run),
+        ],
+        ratio: times.over_rendering(),
+    };
+    let legend = [
+        (24.0, Mark::Floor, "share of a plain pass"),
+        (190.0, Mark::OneByOne, "library, a call for each frame"),
+        (400.0, Mark::Rendering, "Rust rendering, as a run"),
+        (580.0, Mark::Library, "library, as a run"),
+    ];
+    let lines: Vec<Line> = cases.iter().map(line).collect();
+    plot("Serving a run: time of a frame, logarithmic", "run / rendering", &legend, &lines, made)
+}
+
+fn plot(title: &str, ratio: &str, named: &[Named], lines: &[Line], made: &str) -> String {
+    let axis = Axis::of(lines);
+    let mut drawn = String::new();
+    let mut y = TOP;
+    for group in lines.chunk_by(|a, b| a.heading == b.heading) {
+        y += HEADING;
+        drawn += &text(MARGIN, y - 12.0, BOLD, &group[0].heading);
+        for line in group {
+            y += LINE;
+            drawn += &draw(&axis, y - 6.0, line);
+        }
+    }
+    let height = y + 64.0;
+    let (title, legend, grid) = (text(MARGIN, 24.0, TITLE, title), legend(named, ratio), axis.grid(y + 8.0));
+    let made = text(MARGIN, height - 16.0, SMALL, made);
     format!(
         r##"<svg xmlns="http://www.w3.org/2000/svg" viewBox="0 0 {WIDTH} {height}" width="{WIDTH}" height="{height}" font-family="sans-serif" font-size="12" fill="#222222">
 <rect width="{WIDTH}" height="{height}" fill="#ffffff"/>
-{title}{legend}{grid}{drawn}</svg>
+{title}{legend}{grid}{drawn}{made}</svg>
 "##
     )
 }
 
-/// Decades of nanoseconds: the first is 10, the last is above every time.
+/// Decades of nanoseconds: the first is at most every time but a floor's, the last is above all.
 struct Axis {
+    first: i32,
     last: i32,
 }
 
 impl Axis {
-    const FIRST: i32 = 1;
-
-    fn of(serving: &[(Case, Times)]) -> Axis {
-        let longest = serving.iter().map(|(_, times)| times.library.max(times.rendering)).fold(100.0, f64::max);
-        Axis { last: longest.log10().ceil() as i32 }
+    fn of(lines: &[Line]) -> Axis {
+        let times = || lines.iter().flat_map(|line| line.marks.iter().map(|(_, time)| *time));
+        let (least, most) = (times().fold(f64::INFINITY, f64::min), times().fold(0.0, f64::max));
+        Axis { first: (least.log10().floor() as i32).max(0), last: most.log10().ceil() as i32 }
     }
 
     fn x(&self, ns: f64) -> f64 {
-        let first = f64::from(Axis::FIRST);
+        let first = f64::from(self.first);
         LEFT + (RIGHT - LEFT) * (ns.log10() - first).max(0.0) / (f64::from(self.last) - first)
     }
 
@@ -60,7 +140,7 @@ impl Axis {
             let [above, below] = [TOP - 12.0, bottom + 14.0].map(|y| text(x, y, MIDDLE, &name));
             stroke((x, TOP), (x, bottom), "#dddddd", 1.0) + &above + &below
         };
-        (Axis::FIRST..=self.last).map(decade).collect()
+        (self.first..=self.last).map(decade).collect()
     }
 }
 
@@ -82,39 +162,35 @@ fn heading(table: &Table) -> String {
     format!("{rows}, {fill}")
 }
 
-fn legend() -> String {
+fn legend(named: &[Named], ratio: &str) -> String {
     let y = 52.0;
-    let marks = floor_mark(24.0, y) + &rendering_mark(206.0, y) + &library_mark(318.0, y);
-    let names = [(34.0, "plain pass over the table"), (216.0, "Rust rendering"), (328.0, "library")];
-    let names = names.map(|(x, name)| text(x, y, "", name)).concat();
-    marks + &names + &text(WIDTH - MARGIN, y, END, "library / rendering")
+    let names = named.iter().map(|(x, mark, name)| mark.draw(*x, y) + &text(x + 10.0, y, "", name));
+    names.collect::<String>() + &text(WIDTH - MARGIN, y, END, ratio)
 }
 
-fn line(axis: &Axis, y: f64, Case { table, request }: &Case, times: &Times) -> String {
-    let [floor, rendering, library] = [times.floor, times.rendering, times.library].map(|ns| axis.x(ns));
-    let style = if times.is_slower() { SLOWER } else { END };
+fn draw(axis: &Axis, y: f64, line: &Line) -> String {
+    let joined = line.marks.len() - 2;
+    let [from, to] = [joined, joined + 1].map(|at| axis.x(line.marks[at].1));
+    let style = if line.ratio > 1.0 { SLOWER } else { END };
+    let marks = line.marks.iter().map(|(mark, time)| mark.draw(axis.x(*time), y));
     [
-        text(MARGIN + 12.0, y, "", request.name()),
-        text(LEFT - 12.0, y, END, &format!("key {}", table.key)),
-        stroke((rendering, y), (library, y), "#999999", 1.5),
-        floor_mark(floor, y),
-        rendering_mark(rendering, y),
-        library_mark(library, y),
-        text(WIDTH - MARGIN, y, style, &format!("{:.2}", times.over_rendering())),
+        text(MARGIN + 12.0, y, "", line.name),
+        text(LEFT - 12.0, y, END, &line.note),
+        stroke((from, y), (to, y), "#999999", 1.5),
+        marks.collect(),
+        text(WIDTH - MARGIN, y, style, &format!("{:.2}", line.ratio)),
     ]
     .concat()
 }
 
-fn floor_mark(x: f64, y: f64) -> String {
-    stroke((x, y - 5.0), (x, y + 5.0), "#8a8a8a", 3.0)
+fn circle(x: f64, y: f64, style: &str) -> String {
+    format!("<circle cx=\"{x:.1}\" cy=\"{y}\" r=\"4.5\" {style}/>\n")
 }
 
-fn rendering_mark(x: f64, y: f64) -> String {
-    format!("<circle cx=\"{x:.1}\" cy=\"{y}\" r=\"4.5\" fill=\"#ffffff\" stroke=\"#d9730d\" stroke-width=\"2\"/>\n")
-}
-
-fn library_mark(x: f64, y: f64) -> String {
-    format!("<circle cx=\"{x:.1}\" cy=\"{y}\" r=\"4.5\" fill=\"#1f5fa8\"/>\n")
+fn diamond(x: f64, y: f64) -> String {
+    let corners = [(x - 5.0, y), (x, y - 5.0), (x + 5.0, y), (x, y + 5.0)];
+    let points = corners.map(|(x, y)| format!("{x:.1},{y:.1}")).join(" ");
+    format!("<polygon points=\"{points}\" fill=\"#8fb4dc\"/>\n")
 }
 
 pub fn stroke((x1, y1): (f64, f64), (x2, y2): (f64, f64), colour: &str, width: f64) -> String {
@@ -125,6 +201,7 @@ pub fn stroke((x1, y1): (f64, f64), (x2, y2): (f64, f64), colour: &str, width: f
 
 pub const TITLE: &str = r#"font-size="17" font-weight="bold""#;
 const BOLD: &str = r#"font-weight="bold""#;
+pub const SMALL: &str = r##"font-size="11" fill="#666666""##;
 pub const MIDDLE: &str = r#"text-anchor="middle""#;
 pub const END: &str = r#"text-anchor="end""#;
 const SLOWER: &str = r##"text-anchor="end" font-weight="bold" fill="#b00020""##;

@@ -1,6 +1,6 @@
 //! A store of sonar contacts in lent memory that speaks Couchbase's binary protocol.
 //!
-//! A table is plain bytes of yours. [`make`] makes one, [`serve`] and [`serve_run`] serve requests on it, [`read`],
+//! A table is plain bytes of yours. [`make`] makes one, [`serve_run`] serves the requests that have been received and [`serve`] one of them, [`read`],
 //! [`purge`] and [`activate`] are its owner's; [`read_request`] and [`write_request`] are for frames. The code behind these calls is
 //! proved: whatever the bytes, each call answers and changes exactly what it says, and a refused one changes nothing.
 //!

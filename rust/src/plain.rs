@@ -73,7 +73,7 @@ pub fn serve<'r>(
     Engine::Plain.serve(table, clock, received, reply, tally)
 }
 
-/// Serves the received frames one after another as [`serve_run`](crate::serve_run) does.
+/// Serves the received frames one after another as [`serve_run`](crate::serve_run) does, with one test of the table.
 pub fn serve_run<'r>(table: &mut [u8], clock: u32, received: &[u8], reply: &'r mut [u8], tally: &mut Tally) -> Ran<'r> {
     Engine::Plain.serve_run(table, clock, received, reply, tally)
 }

@@ -33,6 +33,9 @@ pub struct Ran<'r> {
 /// The clock is in seconds since 1970; the later of the kept clock and this one decides, and the kept clock is raised to
 /// it, whatever the status. Bytes after the frame are left for the next call.
 ///
+/// Every call tests the whole table for damage, which is most of its time on a large one. What has been received is best served by
+/// [`serve_run`], which tests it once for all of its frames.
+///
 /// The reply area has [`REPLY_ROOM`](crate::REPLY_ROOM) bytes or more; those past the reply are unchanged. A status other
 /// than [`Status::Success`] changes no byte of the table but the kept clock's.
 ///
@@ -56,8 +59,44 @@ pub fn serve<'r>(
     Engine::Ordered.serve(table, clock, received, reply, tally)
 }
 
-/// Serves the received frames one after another, each as [`serve`] does, until a call is refused. Each frame needs
+/// Serves the received frames one after another, each as [`serve`] does, until one is refused. Each frame needs
 /// [`REPLY_ROOM`](crate::REPLY_ROOM) bytes of the reply area after the replies before it.
+///
+/// It is the way to serve what has been received: the table is tested for damage once, and no frame damages it, so that the more
+/// frames there are, the less each of them takes. On a damaged table no frame is served. Receive into a buffer that holds many frames,
+/// serve all that came as one run, and move what there is of the next frame to the front once:
+///
+/// ```
+/// use contacts::{serve_run, Outcome, Stop, Tally};
+/// use std::io::{self, Read, Write};
+///
+/// fn serve_all(table: &mut [u8], clock: u32, line: &mut (impl Read + Write), tally: &mut Tally) -> io::Result<Option<Stop>> {
+///     let (mut received, mut replies) = (vec![0; 65_536], vec![0; 65_536]);
+///     let mut held = 0;
+///     loop {
+///         let came = line.read(&mut received[held..])?;
+///         if came == 0 {
+///             return Ok(None);
+///         }
+///         held += came;
+///         let mut used = 0;
+///         loop {
+///             let ran = serve_run(table, clock, &received[used..held], &mut replies, tally);
+///             line.write_all(ran.replies)?;
+///             used += ran.used;
+///             match ran.stop.outcome {
+///                 Outcome::Room => {}                // the reply area is free again
+///                 Outcome::Short => break,           // read on
+///                 _ => return Ok(Some(ran.stop)),    // close
+///             }
+///         }
+///         received.copy_within(used..held, 0);
+///         held -= used;
+///     }
+/// }
+/// ```
+///
+/// `examples/serve.rs` is this loop with a clock for every run.
 pub fn serve_run<'r>(table: &mut [u8], clock: u32, received: &[u8], reply: &'r mut [u8], tally: &mut Tally) -> Ran<'r> {
     Engine::Ordered.serve_run(table, clock, received, reply, tally)
 }

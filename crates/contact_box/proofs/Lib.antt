@@ -1,4 +1,5 @@
 pub mod First
+pub mod Holding
 pub mod Recording
 pub mod Tables
 pub mod Waiting

@@ -2,10 +2,9 @@
 use native.Mathlib.Omega.{arith}
 use Prim.Native.Nat.{ℕ, _+_, _-_, _≤_, _<_}
 use mathlib.Core.Path.{_≡_, refl, sym, ap, subst, _∙_}
-use mathlib.Core.Bool.{Bool, false, cond}
+use mathlib.Core.Bool.{Bool, false}
 use mathlib.Core.List.{List}
 use borrow.Author.Tests.{le-leb, lt-ltb, le-ltb}
-use lib.Dec.{leb, ltb}
 use lib.ListN.{length}
 use Rattle.octets.specs.Parts.{Bytes, part}
 use Rattle.octets.proofs.Lists.{part-most}
@@ -40,11 +39,12 @@ unfolding served
 bounded config b clock s room r e y = subst Bounded (sym e) (bounded-by config b s clock room (gateAll config b room s) refl y)
 
 pub short : (config : Config) (b : List ℕ) (clock : ℕ) (run out frame reply : List ℕ) (room len : ℕ) (r : Served)
-    → r ≡ served config b clock (firstFrame run) room → Bytes b → frame ≡ firstFrame run → len ≡ servedLength r → reply ≡ part out 0 len → Short r frame reply
+    → r ≡ served config b clock frame room → Bytes b → frame ≡ firstFrame run → len ≡ servedLength r → reply ≡ part out 0 len → Short r frame reply
 short config b clock run out frame reply room len (Refused n need) e y f l q = tt
 short config b clock run out frame reply room len (Done st used k) e y f l q =
-    let m = bounded config b clock (firstFrame run) room (Done st used k) e y in
-    (omega (arith, ap length f, first-whole run config b clock room st used k (sym e), m .0), omega (arith, ap length q, part-most out 0 len, l, m .1))
+    let m = bounded config b clock frame room (Done st used k) e y in
+    let g = ap (λ (ys : List ℕ). served config b clock ys room) (sym f) ∙ sym e in
+    (omega (arith, ap length f, first-whole run config b clock room st used k g, m .0), omega (arith, ap length q, part-most out 0 len, l, m .1))
 
 -- ---- the area has room, so a frame's fields are left out only where the trace would be too long
 module _ (r : Recorder) (clock : ℕ) (frame reply : List ℕ) (f : length frame ≤ 1424) (q : length reply ≤ 1302) (n m : ℕ)

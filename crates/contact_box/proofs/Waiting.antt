@@ -34,10 +34,10 @@ cut-gate s need e =
     (λ t z. let h = ltb-true (length s) (24 + headerOf s .body) t in (h, omega (arith, h, ltb-false 1400 (headerOf s .body) g)))
     (λ t z. absurd (let y : _≡_ {A = ℕ} 0 1 = cc in omega arith)))))
 
-pub waits-by : (n : ℕ) (r : Served) (written : Bool) → ((need : ℕ) → r ≡ Refused 1 need → n < 1424) → Waits (cond written (nextOf r) Close) n
-waits-by n r false h = tt
-waits-by n (Done status used len) true h = tt
-waits-by n (Refused k need) true h =
+pub waits-by : (held : List ℕ) (r : Served) (written : Bool) → ((need : ℕ) → r ≡ Refused 1 need → length held < 1424) → Waits (cond written (nextOf r) Close) held
+waits-by held r false h = tt
+waits-by held (Done status used len) true h = tt
+waits-by held (Refused k need) true h =
     cases (eqb k 1)
     (λ t. rw t (h need (ap (λ (m : ℕ). Refused m need) (eqb-true k 1 t))))
     (λ f. rw f (cases (eqb k 4) (λ t. rw t tt) (λ f. rw f tt)))
@@ -57,5 +57,5 @@ module _ (config : Config) where
   unfolding served
   cut b clock s room need e = cut-by b s clock room need (gateAll config b room s) refl e
 
-  pub waits : (b : List ℕ) (clock : ℕ) (s : List ℕ) (room : ℕ) (written : Bool) → Waits (cond written (nextOf (served config b clock s room)) Close) (length s)
-  waits b clock s room written = waits-by (length s) (served config b clock s room) written (λ need e. cut b clock s room need e .1)
+  pub waits : (b : List ℕ) (clock : ℕ) (s : List ℕ) (room : ℕ) (written : Bool) → Waits (cond written (nextOf (served config b clock s room)) Close) s
+  waits b clock s room written = waits-by s (served config b clock s room) written (λ need e. cut b clock s room need e .1)

@@ -40,11 +40,11 @@ fn memory() -> [u8; 335888]
     [0; 335888]
 }
 
-// Room for received bytes, or for replies.
-fn area() -> [u8; 16384]
-    ensures { λ r. ⌜ 16384 ≡ length r ⌝ }
+// Room for received bytes, or for replies: as many as a pipe hands over at once.
+fn area() -> [u8; 65536]
+    ensures { λ r. ⌜ 65536 ≡ length r ⌝ }
 {
-    [0; 16384]
+    [0; 65536]
 }
 
 fn make_table(table: &mut [u8], rows: usize, vbucket: u16, mode: u8)

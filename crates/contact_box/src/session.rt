@@ -1,11 +1,11 @@
 // Serving what comes on standard input, in pieces of any size.
 ghost use mathlib.Core.Path.{_≡_};
 ghost use mathlib.Core.Bool.{cond};
-ghost use Prim.Native.Nat.{_+_, _-_, _≤_, _<_};
-ghost use lib.ListN.{length, take, drop};
+ghost use Prim.Native.Nat.{_+_, _≤_, _<_, _^_};
+ghost use lib.ListN.{length, take};
 ghost use Rattle.run.specs.Run.{begun, runEnd};
 ghost use Rattle.serving.specs.Serve.{servedLength};
-ghost use Rattle.contact_box.specs.Session.{nextOf, Waits, Goes, firstFrame, GoesOne};
+ghost use Rattle.contact_box.specs.Session.{heldOf, past, Receives, nextOf, Waits, Goes, firstFrame, GoesOne};
 use crate::clock;
 use crate::recorder;
 use crate::recorder::Recorder;
@@ -22,12 +22,34 @@ pub(crate) enum Next {
     Close,
 }
 
-// held: how many received bytes no frame has consumed. They stand at the start of the received bytes.
+// Where the received bytes that no frame has consumed start and end.
+pub(crate) struct Held {
+    at: usize,
+    end: usize,
+}
+
 pub(crate) struct Session {
-    held: usize,
+    held: Held,
     pub(crate) tally: Tally,
     next: Next,
     pub(crate) recorder: Recorder,
+}
+
+fn held_of(received: &[u8], h: Held) -> &[u8]
+    ensures { λ r. ⌜ now r ≡ heldOf h (now (received .entry)) ⌝ }
+{
+    octets::rest(octets::part(received, 0, h.end), h.at)
+}
+
+// What is held once so many of its bytes are consumed.
+fn past(h: Held, used: usize) -> Held
+    requires { ⌜ h .at + used < 2 ^ 64 ⌝ }
+    ensures { λ r. ⌜ r ≡ past h used ⌝ }
+{
+    Held {
+        at: h.at + used,
+        end: h.end,
+    }
 }
 
 // Reads once behind the bytes held, and answers how many came: none at the end of the input or where reading fails.
@@ -40,19 +62,48 @@ fn receive(received: &mut [u8], held: usize) -> usize
     io::count(got, space)
 }
 
-// Moves what is held past a place to the start, and answers how many bytes that is.
-fn keep(received: &mut [u8], at: usize, held: usize) -> usize
-    requires { ⌜ held ≤ length (now received) ⌝ }
-    ensures { λ n. ⌜ (n ≡ held - at) × (take n (now (received .exit)) ≡ drop at (take held (now (received .entry)))) ⌝ }
+// Moves the bytes held to the start, and answers how many they are. They go by an array, which the compiler knows to be apart from them.
+fn keep(received: &mut [u8], h: Held) -> usize
+    requires { ⌜ (length (heldOf h (now received)) < 1424) × (1424 ≤ length (now received)) ⌝ }
+    ensures { λ n. ⌜ (n ≡ length (heldOf h (now (received .entry)))) × (take n (now (received .exit)) ≡ heldOf h (now (received .entry))) ⌝ }
 {
-    let mut n: usize = 0;
-    let mut i = at;
-    while i < held {
-        received[n] = received[i];
-        n += 1;
-        i += 1;
+    let held = held_of(received, h);
+    if held.len() == 0 {
+        return 0;
     }
+    let mut left = [0u8; 1424];
+    let n = bytes::copy(held, &mut left);
+    octet_writer::put_bytes(received, 0, octets::part(&left, 0, n));
     n
+}
+
+// Reads on behind the bytes held. There is room for more, so where nothing comes the input has ended or can't be read.
+fn receive_on(received: &mut [u8], s: Session) -> Session
+    requires { ⌜ (length (heldOf (s .held) (now received)) < 1424) × (1424 ≤ length (now received)) ⌝ }
+    ensures { λ r. ⌜ Receives (heldOf (s .held) (now (received .entry))) (now (received .exit)) s r ⌝ }
+{
+    let tally = s.tally;
+    let recorder = s.recorder;
+    let left = keep(received, s.held);
+    let came = receive(received, left);
+    let held = Held {
+        at: 0,
+        end: left + came,
+    };
+    if came == 0 {
+        return Session {
+            held,
+            tally,
+            next: Next::Close,
+            recorder,
+        };
+    }
+    Session {
+        held,
+        tally,
+        next: Next::Serve,
+        recorder,
+    }
 }
 
 // What is next after an answer, where what was sent was written or not.
@@ -77,31 +128,24 @@ fn serve_held(
     config: Config,
     table: &mut [u8],
     clock: u32,
-    received: &mut [u8],
-    held: usize,
+    received: &[u8],
     replies: &mut [u8],
-    t: Tally,
-    recorder: Recorder,
+    s: Session,
 ) -> Session
-    requires { ⌜ held ≤ length (now received) ⌝ }
-    ensures { λ s. ⌜ Goes (take held (now (received .entry))) held
-        (runEnd config clock (take held (now (received .entry))) (begun (now (table .entry)) (now (replies .entry)) t))
-        (now (table .exit)) (now (received .exit)) s ⌝ }
+    ensures { λ r. ⌜ Goes
+        (runEnd config clock (heldOf (s .held) (now (received .entry))) (begun (now (table .entry)) (now (replies .entry)) (s .tally)))
+        (now (table .exit)) (now (received .entry)) s r ⌝ }
 {
-    let ran = run::serve_run(
-        config,
-        table,
-        clock,
-        octets::part(received, 0, held),
-        replies,
-        t,
-    );
+    let held = s.held;
+    let recorder = s.recorder;
+    let run = held_of(received, held);
+    let ran = run::serve_run(config, table, clock, run, replies, s.tally);
     let written = io::write_all(STDOUT_FILENO, octets::part(replies, 0, ran.filled));
     let cursor = ran.cursor;
     let tally = ran.tally;
     let stop = ran.stop;
     Session {
-        held: keep(received, cursor.at, held),
+        held: past(held, cursor.at),
         tally,
         next: next_after(stop, written),
         recorder,
@@ -130,84 +174,47 @@ fn serve_first(
     config: Config,
     table: &mut [u8],
     clock: u32,
-    received: &mut [u8],
-    held: usize,
+    received: &[u8],
     replies: &mut [u8],
-    t: Tally,
-    r: Recorder,
+    s: Session,
 ) -> Session
-    requires { ⌜ held ≤ length (now received) ⌝ }
-    ensures { λ s. ⌜ GoesOne config clock (take held (now (received .entry))) held (now (table .entry)) (now (replies .entry)) t r
-        (now (table .exit)) (now (received .exit)) s ⌝ }
+    ensures { λ r. ⌜ GoesOne config clock (heldOf (s .held) (now (received .entry))) (now (table .entry)) (now (replies .entry))
+        (now (table .exit)) (now (received .entry)) s r ⌝ }
 {
-    let frame = first_frame(octets::part(received, 0, held));
+    let held = s.held;
+    let frame = first_frame(held_of(received, held));
     let answer = serve::serve_one(config, table, clock, frame, replies);
     let used = run::used_of(answer);
     let reply = octets::part(replies, 0, length_of(answer));
     let written = io::write_all(STDOUT_FILENO, reply);
-    let recorder = recorder::record_answer(r, clock, answer, frame, reply);
+    let recorder = recorder::record_answer(s.recorder, clock, answer, frame, reply);
     Session {
-        held: keep(received, used, held),
-        tally: tally::counted(t, answer),
+        held: past(held, used),
+        tally: tally::counted(s.tally, answer),
         next: next_after(answer, written),
         recorder,
     }
 }
 
 // Serves what is held, on rows in key order: all frames at once, or one by one where they are recorded.
-fn serve_some(
-    table: &mut [u8],
-    received: &mut [u8],
-    held: usize,
-    replies: &mut [u8],
-    t: Tally,
-    r: Recorder,
-) -> Session
-    requires { ⌜ held ≤ length (now received) ⌝ }
-    ensures { λ s. ⌜ (s .held ≤ length (now (received .entry))) × Waits (s .next) (s .held) ⌝ }
+fn serve_some(table: &mut [u8], received: &[u8], replies: &mut [u8], s: Session) -> Session
+    ensures { λ r. ⌜ Waits (r .next) (heldOf (r .held) (now (received .entry))) ⌝ }
 {
     let config = engine::config_for(false);
-    if recorder::is_on(r) {
-        return serve_first(config, table, clock::now(), received, held, replies, t, r);
+    if recorder::is_on(s.recorder) {
+        return serve_first(config, table, clock::now(), received, replies, s);
     }
-    serve_held(config, table, clock::now(), received, held, replies, t, r)
-}
-
-// Reads on, and serves what is held then. There is room for more, so where nothing comes the input has ended or can't be read.
-fn receive_on(
-    table: &mut [u8],
-    received: &mut [u8],
-    replies: &mut [u8],
-    held: usize,
-    tally: Tally,
-    recorder: Recorder,
-) -> Session
-    requires { ⌜ (held < 1424) × (1424 ≤ length (now received)) ⌝ }
-    ensures { λ r. ⌜ (r .held ≤ length (now (received .entry))) × Waits (r .next) (r .held) ⌝ }
-{
-    let came = receive(received, held);
-    if came == 0 {
-        return Session {
-            held,
-            tally,
-            next: Next::Close,
-            recorder,
-        };
-    }
-    serve_some(table, received, held + came, replies, tally, recorder)
+    serve_held(config, table, clock::now(), received, replies, s)
 }
 
 fn turn(table: &mut [u8], received: &mut [u8], replies: &mut [u8], s: Session) -> Session
-    requires { ⌜ (s .held ≤ length (now received)) × ((1424 ≤ length (now received)) × Waits (s .next) (s .held)) ⌝ }
-    ensures { λ r. ⌜ (r .held ≤ length (now (received .entry))) × Waits (r .next) (r .held) ⌝ }
+    requires { ⌜ (1424 ≤ length (now received)) × Waits (s .next) (heldOf (s .held) (now received)) ⌝ }
+    ensures { λ r. ⌜ Waits (r .next) (heldOf (r .held) (now (received .exit))) ⌝ }
 {
-    let held = s.held;
-    let tally = s.tally;
     let next = s.next;
-    let recorder = s.recorder;
     match next {
-        Next::Receive => receive_on(table, received, replies, held, tally, recorder),
-        Next::Serve => serve_some(table, received, held, replies, tally, recorder),
+        Next::Receive => receive_on(received, s),
+        Next::Serve => serve_some(table, received, replies, s),
         Next::Close => s,
     }
 }
@@ -231,8 +238,9 @@ pub(crate) fn serve_input(
 ) -> Session
     requires { ⌜ 1424 ≤ length (now received) ⌝ }
 {
+    let held = Held { at: 0, end: 0 };
     let mut s = Session {
-        held: 0,
+        held,
         tally: Tally {
             served: 0,
             refused: 0,

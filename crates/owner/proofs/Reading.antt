@@ -6,7 +6,7 @@ use mathlib.Core.List.{List}
 use mathlib.Core.Option.{Option, none, some}
 use lib.ListN.{length}
 use Rattle.octets.specs.Parts.{Bytes, written}
-use Rattle.octets.specs.BigEndian.{bytesOf}
+use Rattle.octets.specs.BigEndian.{num, bytesOf}
 use Rattle.octets.proofs.Choices.{cases}
 use Rattle.numbers.specs.declared.Left.{Left}
 use Rattle.numbers.specs.Expiry.{later, secondsLeft, isPast, secondsIn}
@@ -30,6 +30,7 @@ use Rattle.owning.specs.declared.Document.the-variants.{Damaged, Missing, Expir
 use Rattle.owning.specs.declared.Purged.the-variants.{Damaged as NotPurged, Freed}
 use Rattle.owning.specs.Owner.{shown, readOf, purgeOf, purgedBytes}
 use Rattle.owner.specs.Shown.{shownBy}
+use Rattle.owner.specs.Purging.{purgeStep}
 
 -- a lookup, by whether its row is a document, and by the time that is left to it
 module _ (clock : ℕ) (l : Lookup) where
@@ -90,15 +91,16 @@ module _ (config : Config) (b : List ℕ) (clock : ℕ) where
     unfolding purgeOf purgedBytes
     purge-refused e = (rw e, rw e)
 
-    -- the kept clock is written first, and the rows are purged by it
-    pub purge-done : (now n : ℕ) (a s : List ℕ) → Bytes b → clock < 2 ^ 32 → soundBy config b ≡ true → now ≡ clockAt (tableOf b) clock
-        → a ≡ written b 4 (bytesOf 4 now) → n ≡ freedRows (goneDoc now bound) a → s ≡ purgedBy config (goneDoc now bound) a
+    -- on a table that is not damaged, what a step answers and leaves is what a purge does
+    pub purge-stepped : (n : ℕ) (s : List ℕ) → Bytes b → clock < 2 ^ 32 → soundBy config b ≡ true
+        → n ≡ purgeStep config b clock bound .freed → s ≡ purgeStep config b clock bound .table
         → (Freed n ≡ purgeOf config b clock bound) × (s ≡ purgedBytes config b clock bound)
-    unfolding purgeOf purgedBytes
-    purge-done now n a s y l e m f c w =
+    unfolding purgeStep purgeOf purgedBytes headOf
+    purge-stepped n s y l e c w =
         let t = tableOf b in
         let g = sound-good-by config b y e in
-        let k : a ≡ tableBytes (tableAt t clock) = f ∙ (λ i. written (sym (g .0) i) 4 (bytesOf 4 (m i))) ∙ clock-put t clock in
+        let m = later-at b clock (headOf b) _ refl refl in
+        let k : written b 4 (bytesOf 4 (later (num b 4 4) clock)) ≡ tableBytes (tableAt t clock) = (λ i. written (sym (g .0) i) 4 (bytesOf 4 (m i))) ∙ clock-put t clock in
         let q = purges-good config (tableAt t clock) (clockAt t clock) bound (clock-good-by config t clock (g .1) l) in (
           ap Freed (c ∙ (λ i. freedRows (goneDoc (m i) bound) (k i)) ∙ q .count) ∙ rw e,
           w ∙ (λ i. purgedBy config (goneDoc (m i) bound) (k i)) ∙ q .bytes ∙ rw e,

@@ -1,2 +1,3 @@
 pub mod Shown
+pub mod Purging
 pub mod Claims

@@ -5,6 +5,7 @@ ghost use lib.ListN.{length};
 ghost use Rattle.rows.specs.Table.{tableBytes, fresh};
 ghost use Rattle.owning.specs.Owner.{sizeOf, makeOk, makeOutcome, made, readOf, purgeOf, purgedBytes, activateOf, activatedBytes};
 ghost use Rattle.owner.specs.Shown.{shownBy, activationOf};
+ghost use Rattle.owner.specs.Purging.{purgeStep};
 use document::Head;
 use engine::Checked;
 use engine::Config;
@@ -90,6 +91,15 @@ pub fn read(config: Config, s: &[u8], clock: u32, key: &[u8]) -> Document
     }
 }
 
+// Purges memory that its caller knows to be a table that is not damaged, and says how many rows were freed.
+pub fn purge_step(config: Config, s: &mut [u8], clock: u32, bound: Cas) -> usize
+    ensures { λ r. ⌜ (r ≡ purgeStep config (now (s .entry)) clock (bound .0) .freed) × (now (s .exit) ≡ purgeStep config (now (s .entry)) clock (bound .0) .table) ⌝ }
+{
+    let now = numbers::later(octets::be32(s, 4), clock);
+    row_writer::put_clock(s, now);
+    table::purge(config, s, now, bound)
+}
+
 // Frees the tombstones and expired documents with CAS at or below the bound, and says how many. The later of the kept clock and
 // this one decides, and is kept.
 pub fn purge(config: Config, s: &mut [u8], clock: u32, bound: Cas) -> Purged
@@ -97,11 +107,7 @@ pub fn purge(config: Config, s: &mut [u8], clock: u32, bound: Cas) -> Purged
 {
     match table::checked(config, s) {
         Checked::Damaged => Purged::Damaged,
-        Checked::Sound(head) => {
-            let now = numbers::later(head.clock, clock);
-            row_writer::put_clock(s, now);
-            Purged::Freed(table::purge(config, s, now, bound))
-        }
+        Checked::Sound(_) => Purged::Freed(purge_step(config, s, clock, bound)),
     }
 }
 

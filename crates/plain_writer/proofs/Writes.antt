@@ -1,4 +1,4 @@
--- What storing an entry in the row at a place leaves, and joining a value to the one that it holds.
+-- What storing an entry in the row at a place leaves, and a document or a joined value where it holds the key.
 use Prim.Native.Nat.{ℕ, _+_, _-_, _*_, _≤_, _<_}
 use mathlib.Core.Path.{_≡_, sym, ap, _∙_}
 use mathlib.Core.List.{List}
@@ -10,13 +10,13 @@ use borrow.Author.Tests.{lt-ltb, le-ltb}
 use Rattle.octets.specs.Parts.{pasted}
 use Rattle.document.specs.declared.Metadata.{Metadata}
 use Rattle.document.specs.declared.Side.{Side}
-use Rattle.document.specs.Documents.{Key, Entry}
+use Rattle.document.specs.Documents.{Entry}
 use Rattle.rows.specs.Table.{rowCount, rowAt}
-use Rattle.row_writer.specs.Over.{overBytes, overRow, joinedBytes, joinedRow}
+use Rattle.row_writer.specs.Over.{overBytes, overRow, updatedBytes, updatedRow, joinedBytes, joinedRow}
 use Rattle.rows.proofs.OneRow.{row-cut, row-there, row-size}
-use Rattle.row_writer.proofs.Writes.{length-over, over-one}
+use Rattle.row_writer.proofs.Writes.{length-over, over-one, length-update, update-one}
 use Rattle.row_writer.proofs.Joined.{length-joined, join-one}
-use Rattle.plain_writer.specs.Change.{rowStored, rowJoined}
+use Rattle.plain_writer.specs.Change.{rowStored, rowUpdated, rowJoined}
 
 module _ (b : List ℕ) (i : ℕ) where
   abbrev at : ℕ
@@ -43,16 +43,29 @@ module _ (b : List ℕ) (i : ℕ) where
     unfolding rowStored
     put-nowhere h = rw (le-ltb i (rowCount b) h)
 
+  -- a document over it, which holds the key
+  module _ (k : ℕ) (m : Metadata) (value : List ℕ) (old : ℕ) where
+    pub update-there : i < rowCount b → (r : List ℕ) → r ≡ updatedRow (take (at + 1312 - at) (drop at b)) k m value old → putMid at (at + 1312 - at) b r ≡ rowUpdated b i k m value old
+    unfolding rowUpdated
+    update-there h r p =
+        let w = rowAt b i in
+        row-lent h (λ s. updatedRow s k m value old) (updatedBytes w k m value old) r (update-one w k m value old (row-size b i h)) (length-update w k m value old) p
+        ∙ rw (lt-ltb i (rowCount b) h)
+
+    pub update-nowhere : rowCount b ≤ i → b ≡ rowUpdated b i k m value old
+    unfolding rowUpdated
+    update-nowhere h = rw (le-ltb i (rowCount b) h)
+
   -- a value joined to the one that it holds
-  module _ (key : Key) (m : Metadata) (side : Side) (value : List ℕ) (old : ℕ) where
-    pub join-there : i < rowCount b → (r : List ℕ) → r ≡ joinedRow (take (at + 1312 - at) (drop at b)) key m side value old
-        → putMid at (at + 1312 - at) b r ≡ rowJoined b i key m side value old
+  module _ (k : ℕ) (m : Metadata) (side : Side) (value : List ℕ) (old : ℕ) where
+    pub join-there : i < rowCount b → (r : List ℕ) → r ≡ joinedRow (take (at + 1312 - at) (drop at b)) k m side value old
+        → putMid at (at + 1312 - at) b r ≡ rowJoined b i k m side value old
     unfolding rowJoined
     join-there h r p =
         let w = rowAt b i in
-        row-lent h (λ s. joinedRow s key m side value old) (joinedBytes w key m side value old) r (join-one w key m value old side (row-size b i h)) (length-joined w key m value old side) p
+        row-lent h (λ s. joinedRow s k m side value old) (joinedBytes w k m side value old) r (join-one w k m value old side (row-size b i h)) (length-joined w k m value old side) p
         ∙ rw (lt-ltb i (rowCount b) h)
 
-    pub join-nowhere : rowCount b ≤ i → b ≡ rowJoined b i key m side value old
+    pub join-nowhere : rowCount b ≤ i → b ≡ rowJoined b i k m side value old
     unfolding rowJoined
     join-nowhere h = rw (le-ltb i (rowCount b) h)

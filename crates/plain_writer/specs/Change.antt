@@ -7,19 +7,23 @@ use lib.ListN.{take, drop, replicate}
 use Rattle.octets.specs.Parts.{pasted}
 use Rattle.document.specs.declared.Metadata.{Metadata}
 use Rattle.document.specs.declared.Side.{Side}
-use Rattle.document.specs.Documents.{Key, Doc, Entry}
+use Rattle.document.specs.Documents.{Doc, Entry}
 use Rattle.rows.specs.Row.{rowOf}
 use Rattle.rows.specs.Table.{rowCount, rowAt}
-use Rattle.row_writer.specs.Over.{overBytes, joinedBytes}
+use Rattle.row_writer.specs.Over.{overBytes, updatedBytes, joinedBytes}
 use Rattle.plain.specs.Purge.{picked, one}
 
 -- an entry over the row at a place; unchanged where there is no such row
 unfoldable pub rowStored : List ℕ → ℕ → Entry → ℕ → List ℕ
 rowStored b i e old = cond (ltb i (rowCount b)) (pasted b (16 + i * 1312) (overBytes (rowAt b i) e old)) b
 
--- a value joined to that of the row at a place; unchanged where there is no such row
-unfoldable pub rowJoined : List ℕ → ℕ → Key → Metadata → Side → List ℕ → ℕ → List ℕ
-rowJoined b i key m side value old = cond (ltb i (rowCount b)) (pasted b (16 + i * 1312) (joinedBytes (rowAt b i) key m side value old)) b
+-- a document over the row at a place, which holds its key, of k bytes; unchanged where there is no such row
+unfoldable pub rowUpdated : List ℕ → ℕ → ℕ → Metadata → List ℕ → ℕ → List ℕ
+rowUpdated b i k m value old = cond (ltb i (rowCount b)) (pasted b (16 + i * 1312) (updatedBytes (rowAt b i) k m value old)) b
+
+-- a value joined to that of the row at a place, after a key of k bytes; unchanged where there is no such row
+unfoldable pub rowJoined : List ℕ → ℕ → ℕ → Metadata → Side → List ℕ → ℕ → List ℕ
+rowJoined b i k m side value old = cond (ltb i (rowCount b)) (pasted b (16 + i * 1312) (joinedBytes (rowAt b i) k m side value old)) b
 
 -- a row's bytes after a purge
 unfoldable pub purgeRow : (Doc → Bool) → List ℕ → List ℕ

@@ -8,15 +8,15 @@ ghost use Rattle.octets.specs.Parts.{part, pasted};
 ghost use Rattle.document.specs.Stored.{goneDoc};
 ghost use Rattle.rows.specs.Row.{rowOf};
 ghost use Rattle.plain.specs.Purge.{picked};
-ghost use Rattle.plain_writer.specs.Change.{rowStored, rowJoined, purgeRow, purgeBytes, purgeCount, purgedRows, freedRows};
+ghost use Rattle.plain_writer.specs.Change.{rowStored, rowUpdated, rowJoined, purgeRow, purgeBytes, purgeCount, purgedRows, freedRows};
 use document::Metadata;
 use document::Side;
 use numbers::Cas;
 use rows::HEADER;
 use rows::ROW;
 
-// Stores an entry in the row at a place. Where there is no such row or the entry doesn't fit, nothing changes.
-// old: the length of the value that the row holds for this key, 0 where it is free. What follows that value is left as it is.
+// Stores an entry in the row at a place, its key too. Where there is no such row or the entry doesn't fit, nothing changes.
+// old: how many bytes from the value's place on were in use, 0 where the row is free. What follows them is left as it is.
 pub fn store(b: &mut [u8], i: usize, key: &[u8], m: Metadata, value: &[u8], old: usize)
     ensures { λ _. ⌜ now (b .exit) ≡ rowStored (now (b .entry)) i (record { key = now (key .entry); doc = record { tomb = m .tomb; value = now (value .entry); numbers = m .numbers } }) old ⌝ }
 {
@@ -28,17 +28,29 @@ pub fn store(b: &mut [u8], i: usize, key: &[u8], m: Metadata, value: &[u8], old:
     row_writer::put_row(&mut b[at..end], key, m, value, old);
 }
 
-// Joins a value to the one of length old that the row at a place holds for this key. Where there is no such row or the two don't
-// fit together, nothing changes.
-pub fn join(b: &mut [u8], i: usize, key: &[u8], m: Metadata, side: Side, value: &[u8], old: usize)
-    ensures { λ _. ⌜ now (b .exit) ≡ rowJoined (now (b .entry)) i (now (key .entry)) m side (now (value .entry)) old ⌝ }
+// Stores a document in the row at a place that holds its key, of k bytes: as `store`, but the key is left as it stands.
+pub fn update(b: &mut [u8], i: usize, k: usize, m: Metadata, value: &[u8], old: usize)
+    ensures { λ _. ⌜ now (b .exit) ≡ rowUpdated (now (b .entry)) i k m (now (value .entry)) old ⌝ }
 {
     if i >= rows::rows_in(b.len()) {
         return;
     }
     let at = HEADER + i * ROW;
     let end = at + ROW;
-    row_writer::join_row(&mut b[at..end], key, m, side, value, old);
+    row_writer::update_row(&mut b[at..end], k, m, value, old);
+}
+
+// Joins a value to the one of length old that the row at a place holds for a key of k bytes. Where there is no such row or the two
+// don't fit together, nothing changes.
+pub fn join(b: &mut [u8], i: usize, k: usize, m: Metadata, side: Side, value: &[u8], old: usize)
+    ensures { λ _. ⌜ now (b .exit) ≡ rowJoined (now (b .entry)) i k m side (now (value .entry)) old ⌝ }
+{
+    if i >= rows::rows_in(b.len()) {
+        return;
+    }
+    let at = HEADER + i * ROW;
+    let end = at + ROW;
+    row_writer::join_row(&mut b[at..end], k, m, side, value, old);
 }
 
 // Whether a purge frees a row.

@@ -1,9 +1,9 @@
 -- A frame of a trace, served: its length is its header's, and its reply stands at the start of the reply area.
 use native.Mathlib.Omega.{arith}
-use Prim.Native.Nat.{ℕ, _+_, _≤_}
+use Prim.Native.Nat.{ℕ, _+_, _^_, _≤_, _<_}
 use mathlib.Core.Path.{_≡_, refl, sym, ap, _∙_}
 use mathlib.Core.Bool.{true, false, cond}
-use mathlib.Core.List.{List, _++_}
+use mathlib.Core.List.{List}
 use lib.ListN.{length, take, drop}
 use lib.Dec.{eqb}
 use lib.Seq.{take-append-seam}
@@ -11,6 +11,7 @@ use borrow.Author.Tests.{eqb-true}
 use Rattle.engine.specs.declared.Config.{Config}
 use Rattle.octets.specs.Parts.{Bytes, part, pasted, written}
 use Rattle.octets.proofs.Lists.{written-fits}
+use Rattle.engines.specs.Damage.{soundBy}
 use Rattle.engines.proofs.Tables.{sound-plain}
 use Rattle.header.specs.declared.Header.{Header}
 use Rattle.header.specs.Header.{headerOf}
@@ -21,13 +22,18 @@ use Rattle.serving.specs.declared.Served.the-variants.{Refused, Done}
 use Rattle.serving.specs.Serve.{gateAll, frameReply, answerBy, replyBy, served, servedTable, servedReply}
 use Rattle.serving.specs.Serves.{Serves}
 use Rattle.serving.proofs.Gated.{was-open, refused-keeps}
+use Rattle.serving.proofs.Sound.{stays-sound}
 use Rattle.reply.proofs.Frames.{reply-most}
-use Rattle.trace.specs.declared.Field.the-variants.{Frame}
+use Rattle.tally.specs.declared.Tally.{Tally}
+use Rattle.run.specs.Run.{begun}
+use Rattle.run.specs.Frames.{framesFrom, serveAt, Leaves}
+use Rattle.run.specs.declared.Ran.{Ran}
+use Rattle.run.proofs.Framing.{one-left}
 use Rattle.replay.specs.declared.Ending.the-variants.{Stopped}
 use Rattle.replay.specs.declared.Progress.{Progress}
 use Rattle.replay.specs.declared.Step.the-variants.{Goes, Ends}
 use Rattle.replay.specs.Replay.{Turn, On, End, isOneFrame, replyFor, sentReply, withFrame}
-use Rattle.replay.specs.Turns.{voyageOf, turnOf, TurnsBy, FrameTurns}
+use Rattle.replay.specs.Turns.{voyageOf, FrameTurns}
 
 -- ---- what stands at the start of an area where it was written
 start-of : (out xs : List ℕ) → length xs ≤ length out → part (written out 0 xs) 0 (length xs) ≡ xs
@@ -61,7 +67,7 @@ module _ (config : Config) (b : List ℕ) (clock : ℕ) (s : List ℕ) where
       record { consumed = w .0; reply = w .1 ∙ ap (λ (k : ℕ). replyFor config b clock s (gateAll config b k s)) n }
 
 -- ---- a field's frame
-module _ (config : Config) (b : List ℕ) (frame out : List ℕ) (p : Progress) (n : length out ≡ 1302) (y : Bytes b) where
+module _ (config : Config) (b : List ℕ) (frame out : List ℕ) (p : Progress) (n : length out ≡ 1302) (y : Bytes b) (sb : soundBy config b ≡ true) where
   abbrev asked : Served
   asked = served config b (p .clock) frame 1302
 
@@ -74,7 +80,7 @@ module _ (config : Config) (b : List ℕ) (frame out : List ℕ) (p : Progress) 
   chosen e = rw e refl
 
   stays : isOneFrame asked (length frame) ≡ false → FrameTurns config b frame out p (Ends (Stopped (p .at))) b out
-  stays e = record { turn = rw e refl; leads = refl }
+  stays e = record { turn = rw e refl; leads = refl; sound = sb }
 
   not-one : (r : Served) → asked ≡ r → eqb (24 + headerOf frame .body) (length frame) ≡ false → isOneFrame r (length frame) ≡ false
   not-one (Refused k need) e f = refl
@@ -84,29 +90,39 @@ module _ (config : Config) (b : List ℕ) (frame out : List ℕ) (p : Progress) 
   pub frame-cut : eqb (24 + headerOf frame .body) (length frame) ≡ false → FrameTurns config b frame out p (Ends (Stopped (p .at))) b out
   frame-cut f = stays (not-one asked refl f)
 
-  module _ (r : Served) (b′ out′ : List ℕ) (q : Serves config b (p .clock) frame out r b′ out′) where
-    pub frame-refused : (k need : ℕ) → r ≡ Refused k need → FrameTurns config b frame out p (Ends (Stopped (p .at))) b′ out′
+  -- a frame by itself, on the table
+  module _ (z : Bytes frame) (small : p .clock < 2 ^ 32) (t : Tally) (r : Ran) (b′ out′ : List ℕ)
+      (x : soundBy config b ≡ true → Leaves (framesFrom (serveAt config (p .clock) frame) 0 (begun b out t)) r b′ out′) where
+    call : Serves config b (p .clock) frame out (r .stop) b′ out′
+    call = one-left config (p .clock) frame b out t r b′ out′ (x sb) .serves
+
+    still-sound : soundBy config b′ ≡ true
+    still-sound = ap (soundBy config) (call .table) ∙ stays-sound config b (p .clock) frame y z small sb (length out)
+
+    pub frame-refused : (k need : ℕ) → r .stop ≡ Refused k need → FrameTurns config b frame out p (Ends (Stopped (p .at))) b′ out′
     frame-refused k need e =
-        let a : asked ≡ Refused k need = sym at-size ∙ (sym (q .answer) ∙ e) in
+        let a : asked ≡ Refused k need = sym at-size ∙ (sym (call .answer) ∙ e) in
         record {
           turn = rw a refl;
-          leads = q .table ∙ refused-keeps config b (p .clock) frame out k need (at-size ∙ a) .0;
+          leads = call .table ∙ refused-keeps config b (p .clock) frame out k need (at-size ∙ a) .0;
+          sound = still-sound;
         }
 
-    pub frame-used : (st used len : ℕ) → eqb (24 + headerOf frame .body) (length frame) ≡ true → r ≡ Done st used len → used ≡ length frame
+    pub frame-used : (st used len : ℕ) → eqb (24 + headerOf frame .body) (length frame) ≡ true → r .stop ≡ Done st used len → used ≡ length frame
     frame-used st used len f e =
-        was-sent config b (p .clock) frame out st used len n y (sym (q .answer) ∙ e) .consumed ∙ eqb-true (24 + headerOf frame .body) (length frame) f
+        was-sent config b (p .clock) frame out st used len n y (sym (call .answer) ∙ e) .consumed ∙ eqb-true (24 + headerOf frame .body) (length frame) f
 
-    pub frame-served : (st used len : ℕ) → eqb (24 + headerOf frame .body) (length frame) ≡ true → r ≡ Done st used len
+    pub frame-served : (st used len : ℕ) → eqb (24 + headerOf frame .body) (length frame) ≡ true → r .stop ≡ Done st used len
         → FrameTurns config b frame out p (Goes (record { at = p .at + 3 + used; clock = p .clock; frames = p .frames + 1; filled = len })) b′ out′
     frame-served st used len f e =
-        let a : asked ≡ Done st used len = sym at-size ∙ (sym (q .answer) ∙ e) in
+        let a : asked ≡ Done st used len = sym at-size ∙ (sym (call .answer) ∙ e) in
         let w = was-sent config b (p .clock) frame out st used len n y (at-size ∙ a) in
-        let t : b′ ≡ servedTable config b (p .clock) frame 1302 = q .table ∙ ap (servedTable config b (p .clock) frame) n in
-        let m : part out′ 0 len ≡ sentReply config b (p .clock) frame = ap (λ (zs : List ℕ). part zs 0 len) (q .reply) ∙ w .reply in
+        let t : b′ ≡ servedTable config b (p .clock) frame 1302 = call .table ∙ ap (servedTable config b (p .clock) frame) n in
+        let m : part out′ 0 len ≡ sentReply config b (p .clock) frame = ap (λ (zs : List ℕ). part zs 0 len) (call .reply) ∙ w .reply in
         let one : isOneFrame asked (length frame) ≡ true = ap (λ (z : Served). isOneFrame z (length frame)) a ∙ (ap (λ (z : ℕ). eqb z (length frame)) (w .consumed) ∙ f) in
         let all = frame-used st used len f e in
         record {
           turn = (λ i. On (record { table = t i; clock = p .clock; frames = p .frames + 1; reply = m i })) ∙ sym (chosen one);
           leads = (omega (arith, all), omega arith);
+          sound = still-sound;
         }

@@ -1,6 +1,6 @@
 -- A trace that has opened, on memory for 32 rows: the table that is made there is a fresh one in the trace's mode.
 use native.Mathlib.Omega.{arith}
-use Prim.Native.Nat.{ℕ, _≤_}
+use Prim.Native.Nat.{ℕ, _≤_, _<_}
 use mathlib.Core.Path.{_≡_, refl, sym, ap, subst, _∙_}
 use mathlib.Core.Bool.{true, false, _||_}
 use mathlib.Core.Logic.{_⊎_, inl, inr}
@@ -13,7 +13,10 @@ use Rattle.octets.specs.BigEndian.{num}
 use Rattle.octets.proofs.Choices.{cond-elim}
 use Rattle.rows.specs.RowRules.{sizeOk}
 use Rattle.rows.specs.Table.{tableBytes, fresh}
+use Rattle.engines.specs.Damage.{soundBy}
 use Rattle.owning.specs.Owner.{makeOk, made}
+use Rattle.owner.proofs.Making.{accepted}
+use Rattle.owner.proofs.Tells.{make-sound}
 use Rattle.trace.specs.declared.Opening.{Opening}
 use Rattle.trace.specs.declared.Opening.the-variants.{Broken, Opened}
 use Rattle.trace.specs.Trace.{openingOf, fieldsIn}
@@ -46,11 +49,18 @@ opens trace mode vbucket e =
     })
     (λ v z. no-opening mode vbucket z)))
 
--- a table is made in either mode
-pub made-fresh : (b : List ℕ) (mode vbucket : ℕ) → length b ≡ 42000 → (mode ≡ 1) ⊎ (mode ≡ 2) → made b 32 1 mode vbucket ≡ tableBytes (fresh 32 1 mode vbucket)
-unfolding made makeOk sizeOk
-made-fresh b mode vbucket n (inl e) = rw (n, e) refl
-made-fresh b mode vbucket n (inr e) = rw (n, e) refl
+-- a table is made in either mode, and is sound in both engines
+module _ (b : List ℕ) (mode vbucket : ℕ) (n : length b ≡ 42000) where
+  can-make : (mode ≡ 1) ⊎ (mode ≡ 2) → makeOk (length b) 32 1 mode ≡ true
+  unfolding makeOk sizeOk
+  can-make (inl e) = rw (n, e) refl
+  can-make (inr e) = rw (n, e) refl
+
+  pub made-fresh : (mode ≡ 1) ⊎ (mode ≡ 2) → made b 32 1 mode vbucket ≡ tableBytes (fresh 32 1 mode vbucket)
+  made-fresh k = sym (accepted b 32 1 mode vbucket (can-make k) .1)
+
+  pub made-sound : (config : Config) (b′ : List ℕ) → (mode ≡ 1) ⊎ (mode ≡ 2) → vbucket < 65536 → b′ ≡ made b 32 1 mode vbucket → soundBy config b′ ≡ true
+  made-sound config b′ k v e = ap (soundBy config) e ∙ make-sound config b 32 1 mode vbucket v (sym (accepted b 32 1 mode vbucket (can-make k) .0))
 
 -- ---- what a call leaves
 module _ (config : Config) (b trace : List ℕ) where

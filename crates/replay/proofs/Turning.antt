@@ -1,18 +1,21 @@
 -- What each field of a trace leads to, as the code has it.
 use native.Mathlib.Omega.{arith}
-use Prim.Native.Nat.{ℕ, _+_, _≤_}
+use Prim.Native.Nat.{ℕ, _+_, _^_, _≤_, _<_}
 use mathlib.Core.Path.{_≡_, refl, sym, ap, subst, _∙_}
 use mathlib.Core.Bool.{Bool, true, false}
 use mathlib.Core.List.{List}
 use lib.ListN.{length}
 use lib.Dec.{eqb}
 use Rattle.engine.specs.declared.Config.{Config}
-use Rattle.octets.specs.Parts.{part}
+use Rattle.octets.specs.Parts.{Bytes, part}
 use Rattle.octets.specs.Compare.{same}
 use Rattle.octets.proofs.Choices.{cases}
 use Rattle.octets.proofs.Lists.{part-length}
 use Rattle.numbers.specs.declared.Cas.{Cas}
-use Rattle.owning.specs.Owner.{purgedBytes}
+use Rattle.engines.specs.Damage.{soundBy}
+use Rattle.owner.specs.Purging.{purgeStep}
+use Rattle.owner.proofs.Reading.{purge-stepped}
+use Rattle.owner.proofs.Tells.{purge-sound}
 use Rattle.trace.specs.declared.Field.{Field}
 use Rattle.trace.specs.declared.Field.the-variants.{Clock, Frame, Reply, Purge, Rule, Broken}
 use Rattle.trace.specs.Trace.{lengthIn, bytesHeld, fieldAt, isBroken}
@@ -21,8 +24,8 @@ use Rattle.replay.specs.declared.Ending.the-variants.{Stopped}
 use Rattle.replay.specs.declared.Progress.{Progress}
 use Rattle.replay.specs.declared.Step.{Step}
 use Rattle.replay.specs.declared.Step.the-variants.{Goes, Ends}
-use Rattle.replay.specs.Replay.{Turn, On, onField}
-use Rattle.replay.specs.Turns.{voyageOf, turnOf, passed, Leads, TurnsBy, FrameTurns, Turns, replyStep}
+use Rattle.replay.specs.Replay.{On, onField}
+use Rattle.replay.specs.Turns.{voyageOf, turnOf, passed, Leads, FrameTurns, Turns, replyStep}
 
 module _ (at : ℕ) (s : List ℕ) where
   -- a field's length, and that it is all there
@@ -40,18 +43,18 @@ module _ (at : ℕ) (s : List ℕ) where
     pub held-length : length bytes ≡ lengthIn s
     held-length = ap length held ∙ part-length s 3 (lengthIn s) (inside f e k)
 
-module _ (config : Config) (b s out : List ℕ) (p : Progress) where
+module _ (config : Config) (b s out : List ℕ) (p : Progress) (sb : soundBy config b ≡ true) where
   pub clock-turns : (clock : ℕ) → fieldAt (p .at) s ≡ Clock clock
       → Turns config b s out p (Goes (record { at = p .at + 3 + 4; clock = clock; frames = p .frames; filled = p .filled })) b out
-  clock-turns clock e = record { turn = rw e refl; leads = (omega (arith, says (p .at) s (Clock clock) e), omega arith) }
+  clock-turns clock e = record { turn = rw e refl; leads = (omega (arith, says (p .at) s (Clock clock) e), omega arith); sound = sb }
 
   pub rule-turns : (forcing : Bool) (q : Progress) → fieldAt (p .at) s ≡ Rule forcing → q ≡ passed p 1 → Turns config b s out p (Goes q) b out
   rule-turns forcing q e y =
       let l = says (p .at) s (Rule forcing) e in
-      subst (λ (z : Progress). Turns config b s out p (Goes z) b out) (sym y) (record { turn = rw e refl; leads = (omega (arith, l), omega arith) })
+      subst (λ (z : Progress). Turns config b s out p (Goes z) b out) (sym y) (record { turn = rw e refl; leads = (omega (arith, l), omega arith); sound = sb })
 
   pub broken-turns : fieldAt (p .at) s ≡ Broken → Turns config b s out p (Ends (Stopped (p .at))) b out
-  broken-turns e = record { turn = rw e refl; leads = refl }
+  broken-turns e = record { turn = rw e refl; leads = refl; sound = sb }
 
   pub frame-turns : (len : ℕ) (frame : List ℕ) (r : Step) (b′ out′ : List ℕ) → fieldAt (p .at) s ≡ Frame len → frame ≡ part s 3 len
       → FrameTurns config b frame out p r b′ out′ → Turns config b s out p r b′ out′
@@ -63,6 +66,7 @@ module _ (config : Config) (b s out : List ℕ) (p : Progress) where
       record {
         turn = q .turn ∙ (λ i. onField config (p .at) (voyageOf b out p) (h i) (g i));
         leads = subst (λ (n : ℕ). Leads b p n b′ r) k (q .leads);
+        sound = q .sound;
       }
 
   replied : (len n : ℕ) (bytes : List ℕ) (sent : Bool) → same bytes (part out 0 (p .filled)) ≡ sent
@@ -82,13 +86,16 @@ module _ (config : Config) (b s out : List ℕ) (p : Progress) where
       record {
         turn = ap (turnOf b out) q ∙ (t ∙ (λ i. onField config (p .at) (voyageOf b out p) (sym e i) (g i)));
         leads = subst (Leads b p (lengthIn s) b) (sym q) (leads-reply (length expected) (same expected sent) k);
+        sound = sb;
       }
 
-  pub purge-turns : (bound : Cas) (b′ : List ℕ) (q : Progress) → fieldAt (p .at) s ≡ Purge bound → b′ ≡ purgedBytes config b (p .clock) (bound .0) → q ≡ passed p 8
-      → Turns config b s out p (Goes q) b′ out
-  purge-turns bound b′ q e x y =
+  pub purge-turns : (bound : Cas) (b′ : List ℕ) (q : Progress) → Bytes b → p .clock < 2 ^ 32 → fieldAt (p .at) s ≡ Purge bound
+      → b′ ≡ purgeStep config b (p .clock) (bound .0) .table → q ≡ passed p 8 → Turns config b s out p (Goes q) b′ out
+  purge-turns bound b′ q y small e w g =
       let l = says (p .at) s (Purge bound) e in
-      subst (λ (z : Progress). Turns config b s out p (Goes z) b′ out) (sym y) (record {
+      let x = purge-stepped config b (p .clock) (bound .0) _ b′ y small sb refl w .1 in
+      subst (λ (z : Progress). Turns config b s out p (Goes z) b′ out) (sym g) (record {
         turn = (λ i. On (voyageOf (x i) out (passed p 8))) ∙ (λ i. onField config (p .at) (voyageOf b out p) (sym e i) (bytesHeld s));
         leads = (omega (arith, l), omega arith);
+        sound = ap (soundBy config) x ∙ purge-sound config b (p .clock) (bound .0) y small sb;
       })

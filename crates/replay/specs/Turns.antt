@@ -2,11 +2,12 @@
 use Prim.Native.Nat.{ℕ, _+_, _≤_}
 use mathlib.Core.Path.{_≡_}
 use mathlib.Core.List.{List, []}
-use mathlib.Core.Bool.{Bool, cond}
-use lib.ListN.{length, drop}
+use mathlib.Core.Bool.{Bool, true, cond}
+use lib.ListN.{length}
 use lib.Dec.{eqb}
 use Rattle.engine.specs.declared.Config.{Config}
 use Rattle.octets.specs.Parts.{part}
+use Rattle.engines.specs.Damage.{soundBy}
 use Rattle.trace.specs.declared.Field.{Field}
 use Rattle.trace.specs.declared.Field.the-variants.{Frame}
 use Rattle.trace.specs.Trace.{lengthIn, bytesHeld, fieldAt, fieldsIn}
@@ -34,10 +35,11 @@ abbrev pub Leads : List ℕ → Progress → ℕ → List ℕ → Step → Type 
 Leads b p n b′ (Goes q) = (q .at ≡ p .at + (3 + n)) × (q .frames ≤ p .frames + 1)
 Leads b p n b′ (Ends r) = b′ ≡ b
 
--- after a field that holds these bytes
+-- after a field that holds these bytes; the table stays sound, so that no field after it tests it
 pub record TurnsBy (config : Config) (b out : List ℕ) (p : Progress) (f : Field) (bytes : List ℕ) (n : ℕ) (r : Step) (b′ out′ : List ℕ) : Type 0 where
   pub turn : turnOf b′ out′ r ≡ onField config (p .at) (voyageOf b out p) f bytes
   pub leads : Leads b p n b′ r
+  pub sound : soundBy config b′ ≡ true
 
 abbrev pub FrameTurns : Config → List ℕ → List ℕ → List ℕ → Progress → Step → List ℕ → List ℕ → Type 0
 FrameTurns config b frame out p r b′ out′ = TurnsBy config b out p (Frame (length frame)) frame (length frame) r b′ out′

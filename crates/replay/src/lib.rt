@@ -1,15 +1,16 @@
 // Replaying the trace of a voyage on a fresh table: its frames are served and its purges made one by one, and each expected
-// reply is compared with what was sent.
+// reply is compared with what was sent. The table is sound from the start and stays so: nothing tests it for damage.
 ghost use mathlib.Core.Path.{_≡_};
+ghost use mathlib.Core.Bool.{true};
 ghost use Prim.Native.Nat.{_+_, _≤_};
 ghost use lib.Dec.{eqb};
 ghost use lib.ListN.{length};
 ghost use Rattle.header.specs.Header.{headerOf};
 ghost use Rattle.octets.specs.Compare.{same};
+ghost use Rattle.engines.specs.Damage.{soundBy};
 ghost use Rattle.replay.specs.Replay.{replayed, ruledBy, walked};
 ghost use Rattle.replay.specs.Turns.{passed, replyStep, FrameTurns, Turns, Walks};
 use engine::Config;
-use run::Cursor;
 use serving::ROOM;
 use serving::Served;
 use trace::FRONT;
@@ -69,16 +70,16 @@ fn is_one(frame: &[u8]) -> bool
 
 // Serves a field's frame. Where it is more than one frame, or none that can be served, nothing is served and the replay ends.
 fn serve_field(config: Config, b: &mut [u8], frame: &[u8], out: &mut [u8], p: Progress) -> Step
+    requires { ⌜ soundBy config (now b) ≡ true ⌝ }
     requires { ⌜ (length (now out) ≡ 1302) × ((p .frames ≤ p .at) × (p .at + (3 + length (now frame)) ≤ 65536)) ⌝ }
     ensures { λ r. ⌜ FrameTurns config (now (b .entry)) (now (frame .entry)) (now (out .entry)) p r (now (b .exit)) (now (out .exit)) ⌝ }
 {
     if !is_one(frame) {
         return Step::Ends(Ending::Stopped(p.at));
     }
-    let start = Cursor { at: 0 };
-    let moved = start.step(config, b, p.clock, frame, out);
-    let served = moved.served;
-    match served {
+    let ran = run::serve_frames(config, b, p.clock, frame, out, tally::none(), 0);
+    let stop = ran.stop;
+    match stop {
         Served::Refused(_, _) => Step::Ends(Ending::Stopped(p.at)),
         Served::Done(_, used, len) => Step::Goes(Progress {
             at: p.at + FRONT + used,
@@ -105,6 +106,7 @@ fn compare_reply(expected: &[u8], sent: &[u8], p: Progress) -> Step
 
 // Replays the field at the start of s, the trace from a place on.
 fn turn(config: Config, b: &mut [u8], s: &[u8], out: &mut [u8], p: Progress) -> Step
+    requires { ⌜ soundBy config (now b) ≡ true ⌝ }
     requires { ⌜ (length (now out) ≡ 1302) × ((p .frames ≤ p .at) × (p .at + length (now s) ≤ 65536)) ⌝ }
     ensures { λ r. ⌜ Turns config (now (b .entry)) (now (s .entry)) (now (out .entry)) p r (now (b .exit)) (now (out .exit)) ⌝ }
 {
@@ -122,7 +124,7 @@ fn turn(config: Config, b: &mut [u8], s: &[u8], out: &mut [u8], p: Progress) -> 
             p,
         ),
         Field::Purge(bound) => {
-            owner::purge(config, b, p.clock, bound);
+            owner::purge_step(config, b, p.clock, bound);
             Step::Goes(passed(p, 8))
         }
         Field::Rule(_) => Step::Goes(passed(p, 1)),
@@ -132,6 +134,7 @@ fn turn(config: Config, b: &mut [u8], s: &[u8], out: &mut [u8], p: Progress) -> 
 
 // Replays the fields of a trace on a table, one after another, until one ends it.
 fn replay_fields(config: Config, b: &mut [u8], trace: &[u8], out: &mut [u8]) -> Ending
+    requires { ⌜ soundBy config (now b) ≡ true ⌝ }
     requires { ⌜ (length (now out) ≡ 1302) × ((3 ≤ length (now trace)) × (length (now trace) ≤ 65536)) ⌝ }
     ensures { λ r. ⌜ Walks config (now (b .entry)) (now (trace .entry)) r (now (b .exit)) ⌝ }
 {

@@ -53,7 +53,7 @@ key-short s h e =
     let k = key-most (shapeOf (h .opcode)) h (bytesIn s (extrasSpan h)) (bytesIn s (valueSpan h)) e in
     omega (arith, part-most s (24 + h .extlen) (h .keylen), k)
 
-bytes-most : (op opaque : ℕ) (d : Decision) (key old : List ℕ) → length (bodyOf (d .done .reply) key old) ≤ 1278 → length (replyBytes op opaque d key old) ≤ 1302
+pub bytes-most : (op opaque : ℕ) (d : Decision) (key old : List ℕ) → length (bodyOf (d .done .reply) key old) ≤ 1278 → length (replyBytes op opaque d key old) ≤ 1302
 unfolding replyBytes
 bytes-most op opaque d key old k =
     cases (d .silent)

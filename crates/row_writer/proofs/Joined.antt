@@ -1,89 +1,94 @@
--- A value joined in place to the one that a row holds is the joined value's entry written over the row.
+-- A value joined in place to the one that a row holds is the joined value written over the row.
 use Prim.Native.Nat.{ℕ, _+_, _≤_, _<_}
 use mathlib.Core.Path.{_≡_, refl, sym, ap, _∙_}
-use mathlib.Core.List.{List, _++_, append-assoc}
+use mathlib.Core.List.{List, _++_}
 use native.Mathlib.Omega.{arith}
 use lib.Dec.{leb}
-use lib.ListN.{length, length-append}
+use lib.ListN.{length, take, drop, length-append}
+use lib.Seq.{drop-drop}
 use borrow.Author.Tests.{eq-eqb, ne-eqb, le-leb, lt-leb}
-use Rattle.octets.specs.Parts.{part, written}
+use Rattle.octets.specs.Parts.{part, pasted, written}
+use Rattle.octets.specs.BigEndian.{bytesOf}
 use Rattle.octets.proofs.Choices.{cases}
-use Rattle.octets.proofs.Lists.{part-length, pasted-self, written-fits, length-written, then, before}
+use Rattle.octets.proofs.Lists.{part-length, pasted-before, drop-pasted, written-fits, length-written, then}
 use Rattle.document.specs.declared.Metadata.{Metadata}
 use Rattle.document.specs.declared.Side.{Side}
 use Rattle.document.specs.declared.Side.the-variants.{Front, Back}
-use Rattle.document.specs.Documents.{Key, joined}
-use Rattle.document.specs.Stored.{entryOf}
-use Rattle.rows.specs.Row.{slotBytes, slotFor}
-use Rattle.row_writer.specs.Over.{overBytes, joinedBytes, joinedRow}
-use Rattle.row_writer.proofs.Writes.{slotSized, length-front, row-over, length-over}
+use Rattle.document.specs.Documents.{joined}
+use Rattle.rows.specs.Row.{sizeBytes, shortBytes, longBytes, slotBytes}
+use Rattle.row_writer.specs.Over.{slotSized, updatedBytes, joinedBytes, joinedRow}
+use Rattle.row_writer.proofs.Writes.{stands, update-longer, length-update}
 
-module _ (r : List ℕ) (key : Key) (m : Metadata) (value : List ℕ) (old : ℕ) where
+module _ (r : List ℕ) (k : ℕ) (m : Metadata) (value : List ℕ) (old : ℕ) where
   -- the value that stands there
   abbrev there : List ℕ
-  there = part r (32 + length key) old
+  there = part r (32 + k) old
 
-  module _ (l : length r ≡ 1312) (room : length key + (old + length value) ≤ 1280) where
-    abbrev front : List ℕ
-    front = slotBytes (slotSized key m (old + length value)) ++ key
+  -- the fixed part is written first
+  module _ (l : length r ≡ 1312) (room : k + (old + length value) ≤ 1280) (fixed : List ℕ) (f : fixed ≡ written r 0 (slotBytes (slotSized k m (old + length value)))) where
+    length-fixed : length fixed ≡ 1312
+    length-fixed = ap length f ∙ length-written r 0 (slotBytes (slotSized k m (old + length value))) ∙ l
 
     length-there : length there ≡ old
-    length-there = part-length r (32 + length key) old (omega arith)
+    length-there = part-length r (32 + k) old (omega arith)
 
-    length-start : length front ≡ 32 + length key
-    length-start = length-front (slotSized key m (old + length value)) key
+    -- the value still stands there
+    behind : drop 32 fixed ≡ drop 32 r
+    unfolding slotBytes sizeBytes shortBytes longBytes bytesOf
+    behind =
+        let h = slotBytes (slotSized k m (old + length value)) in
+        ap (drop 32) (f ∙ written-fits r 0 h (omega arith)) ∙ drop-pasted r 0 h (omega arith)
 
-    self : r ≡ written r (32 + length key) there
-    self = pasted-self r (32 + length key) old (omega arith) ∙ sym (written-fits r (32 + length key) there (omega (arith, length-there)))
+    still : part fixed (32 + k) old ≡ there
+    still = ap (take old) (sym (drop-drop k 32 fixed) ∙ ap (drop k) behind ∙ drop-drop k 32 r)
 
-    -- what is written of the joined value, taken for its entry
-    over : (side : Side) (s : List ℕ) → length (joined side there value) ≡ old + length value → s ≡ written r 0 (front ++ joined side there value) → s ≡ joinedBytes r key m side value old
-    unfolding joinedBytes slotFor
+    self : fixed ≡ written fixed (32 + k) there
+    self = stands fixed (32 + k) old there (omega (arith, length-fixed)) still
+
+    -- what is written of the joined value, taken for all of it
+    over : (side : Side) (s : List ℕ) → length (joined side there value) ≡ old + length value → s ≡ written fixed (32 + k) (joined side there value) → s ≡ joinedBytes r k m side value old
+    unfolding joinedBytes
     over side s n p =
         let w = joined side there value in
-        let e = entryOf key m w in
-        let q : s ≡ written r 0 (slotBytes (slotFor e) ++ (key ++ w)) =
-        p ∙ ap (written r 0) (append-assoc (slotBytes (slotSized key m (old + length value))) key w ∙ ap (λ (k : ℕ). slotBytes (slotSized key m k) ++ (key ++ w)) (sym n)) in
-        row-over e old r s q l (omega arith) (omega arith) ∙ rw (le-leb (length key + (old + length value)) 1280 room)
+        let g : fixed ≡ written r 0 (slotBytes (slotSized k m (length w))) = f ∙ ap (λ (j : ℕ). written r 0 (slotBytes (slotSized k m j))) (sym n) in
+        update-longer r k m w old (omega arith) fixed s g p l (omega arith) ∙ rw (le-leb (k + (old + length value)) 1280 room)
 
-    pub joined-back : (s : List ℕ) → s ≡ written (written r 0 front) (32 + length key + old) value → s ≡ joinedBytes r key m Back value old
+    pub joined-back : (s : List ℕ) → s ≡ written fixed (32 + k + old) value → s ≡ joinedBytes r k m Back value old
     joined-back s p =
-        let n : length (there ++ value) ≡ old + length value = length-append there value ∙ ap (λ (k : ℕ). k + length value) length-there in
-        let f : length (front ++ there) ≡ 32 + length key + old = length-append front there ∙ (λ i. length-start i + length-there i) in
-        let a : written r 0 front ≡ written r 0 (front ++ there) = before r r (written r 0 front) (32 + length key) there front self refl length-start (omega (arith, length-there)) in
-        let b = then r (written r 0 front) s 0 (32 + length key + old) (front ++ there) value a p (omega arith) (omega arith) in
-        over Back s n (rw append-assoc at b)
+        let n : length (there ++ value) ≡ old + length value = length-append there value ∙ ap (λ (j : ℕ). j + length value) length-there in
+        over Back s n (then fixed fixed s (32 + k) (32 + k + old) there value self p (omega (arith, length-there)) (omega (arith, length-fixed)))
 
-    pub joined-front : (s1 s : List ℕ) → s1 ≡ written r (32 + length key + length value) there → s ≡ written (written s1 0 front) (32 + length key) value → s ≡ joinedBytes r key m Front value old
+    pub joined-front : (s1 s : List ℕ) → s1 ≡ written fixed (32 + k + length value) (part fixed (32 + k) old) → s ≡ written s1 (32 + k) value → s ≡ joinedBytes r k m Front value old
     joined-front s1 s p q =
+        let at = 32 + k in
         let n : length (value ++ there) ≡ old + length value = length-append value there ∙ omega (arith, length-there) in
-        let f : length (front ++ value) ≡ 32 + length key + length value = length-append front value ∙ ap (λ (k : ℕ). k + length value) length-start in
-        let k : length s1 ≡ length r = ap length p ∙ length-written r (32 + length key + length value) there in
-        let a = then s1 (written s1 0 front) s 0 (32 + length key) front value refl q (omega (arith, length-start)) (omega arith) in
-        let b = before r s1 s (32 + length key + length value) there (front ++ value) p a f (omega (arith, length-there)) in
-        over Front s n (rw append-assoc at b)
+        let p′ : s1 ≡ written fixed (at + length value) there = p ∙ ap (written fixed (at + length value)) still in
+        let j : length s1 ≡ 1312 = ap length p′ ∙ length-written fixed (at + length value) there ∙ length-fixed in
+        let e : s1 ≡ pasted fixed (at + length value) there = p′ ∙ written-fits fixed (at + length value) there (omega (arith, length-there, length-fixed)) in
+        over Front s n
+        (q ∙ written-fits s1 at value (omega arith) ∙ ap (λ (t : List ℕ). pasted t at value) e
+        ∙ pasted-before fixed at (length value) value there refl (omega (arith, length-there, length-fixed))
+        ∙ sym (written-fits fixed at (value ++ there) (omega (arith, n, length-fixed))))
 
   module _ (side : Side) where
-    pub length-joined : length (joinedBytes r key m side value old) ≡ length r
+    pub length-joined : length (joinedBytes r k m side value old) ≡ length r
     unfolding joinedBytes
-    length-joined =
-        let e = entryOf key m (joined side there value) in
-        cases (leb (length key + (old + length value)) 1280) (λ t. rw t (length-over r e old)) (λ f. rw f)
+    length-joined = cases (leb (k + (old + length value)) 1280) (λ t. rw t (length-update r k m (joined side there value) old)) (λ f. rw f)
 
-    pub joined-there : (w : List ℕ) → there ≡ w → length key + (old + length value) ≤ 1280 → joinedBytes r key m side value old ≡ overBytes r (entryOf key m (joined side w value)) old
+    pub joined-there : (w : List ℕ) → there ≡ w → k + (old + length value) ≤ 1280 → joinedBytes r k m side value old ≡ updatedBytes r k m (joined side w value) old
     unfolding joinedBytes
-    joined-there w e room = rw (le-leb (length key + (old + length value)) 1280 room, e)
+    joined-there w e room = rw (le-leb (k + (old + length value)) 1280 room, e)
 
     -- by the row's length, and by whether the two fit
-    pub join-other : (length r ≡ 1312 → ⊥) → r ≡ joinedRow r key m side value old
+    pub join-other : (length r ≡ 1312 → ⊥) → r ≡ joinedRow r k m side value old
     unfolding joinedRow
     join-other n = rw (ne-eqb (length r) 1312 n)
 
     module _ (l : length r ≡ 1312) where
-      pub join-one : joinedRow r key m side value old ≡ joinedBytes r key m side value old
+      pub join-one : joinedRow r k m side value old ≡ joinedBytes r k m side value old
       unfolding joinedRow
       join-one = rw (eq-eqb (length r) 1312 l)
 
-      pub join-unfit : 1280 < length key + (old + length value) → r ≡ joinedRow r key m side value old
+      pub join-unfit : 1280 < k + (old + length value) → r ≡ joinedRow r k m side value old
       unfolding joinedBytes
-      join-unfit h = sym (join-one ∙ rw (lt-leb (length key + (old + length value)) 1280 h))
+      join-unfit h = sym (join-one ∙ rw (lt-leb (k + (old + length value)) 1280 h))

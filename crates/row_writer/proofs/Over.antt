@@ -9,17 +9,18 @@ use mathlib.Core.Option.{none, some}
 use lib.Dec.{eqb}
 use lib.ListN.{length, drop, replicate, length-append, length-drop, length-replicate, replicate-append-replicate}
 use lib.Seq.{drop-drop}
-use Rattle.octets.specs.Parts.{pasted, written}
+use Rattle.octets.specs.Parts.{part, pasted, written}
 use Rattle.octets.specs.Compare.{zeros}
 use Rattle.octets.proofs.Choices.{both}
 use Rattle.octets.proofs.Lists.{written-fits, then}
 use Rattle.octets.proofs.Tests.{zeros-true, zeros-replicate}
-use Rattle.document.specs.Documents.{Entry}
+use Rattle.document.specs.Documents.{Key, Entry}
+use Rattle.document.specs.Stored.{metadataOf}
 use Rattle.rows.specs.Row.{slotBytes, slotFor, usedBytes, rowBytes}
 use Rattle.rows.specs.Good.{EntryGood}
-use Rattle.row_writer.specs.Over.{overBytes}
-use Rattle.row_writer.proofs.Writes.{length-body}
-use Rattle.rows.proofs.RowLaws.{row-length, after-value}
+use Rattle.row_writer.specs.Over.{overBytes, updatedBytes}
+use Rattle.row_writer.proofs.Writes.{length-body, stands, update-over}
+use Rattle.rows.proofs.RowLaws.{row-length, key-read, after-value}
 
 pub zeros-drop : (n : ℕ) (s : List ℕ) → zeros s ≡ true → zeros (drop n s) ≡ true
 unfolding zeros
@@ -94,6 +95,17 @@ module _ (mark : ℕ) (e : Entry) (g : EntryGood mark e) where
       let left = 1280 - (length (x .key) + length (x .doc .value)) in
       over-row (rowBytes (some x)) e (length (x .doc .value)) (row-length mark (some x) f) (omega (arith, g .key-most, g .value-most)) (omega (arith, f .key-most, f .value-most))
       (ap (λ (m : ℕ). zeros (drop (32 + (m + length (x .doc .value))) (rowBytes (some x)))) (sym n) ∙ ap zeros (after-value x) ∙ zeros-replicate left)
+
+  -- the key stands there
+  pub update-used : (x : Entry) → EntryGood mark x → x .key ≡ e .key
+      → updatedBytes (rowBytes (some x)) (length (e .key)) (metadataOf (e .doc)) (e .doc .value) (length (x .doc .value)) ≡ rowBytes (some e)
+  unfolding rowBytes
+  update-used x f k =
+      let r = rowBytes (some x) in
+      let l = row-length mark (some x) f in
+      let held : part r 32 (length (e .key)) ≡ e .key = ap (λ (key : Key). part r 32 (length key)) (sym k) ∙ key-read x ∙ k in
+      update-over r r e (length (x .doc .value)) l (omega (arith, g .key-most, g .value-most)) (stands r 32 (length (e .key)) (e .key) (omega (arith, g .key-most, l)) held)
+      ∙ over-used x f k
 
   pub over-free : overBytes (rowBytes none) e 0 ≡ rowBytes (some e)
   unfolding rowBytes

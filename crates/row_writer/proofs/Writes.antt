@@ -4,19 +4,22 @@ use mathlib.Core.Path.{_≡_, refl, sym, ap, _∙_}
 use mathlib.Core.List.{List, _++_, append-assoc}
 use native.Mathlib.Omega.{arith}
 use native.Mathlib.Nat.{add-assoc}
+use lib.Dec.{leb}
 use lib.ListN.{length, replicate, length-append}
-use borrow.Author.Tests.{eq-eqb, ne-eqb}
-use Rattle.octets.specs.Parts.{written}
+use borrow.Author.Tests.{eq-eqb, ne-eqb, le-leb, lt-leb}
+use Rattle.octets.specs.Parts.{part, pasted, written}
 use Rattle.octets.specs.BigEndian.{bytesOf}
-use Rattle.octets.proofs.Lists.{length-written, written-none, written-not, then, then-two}
+use Rattle.octets.proofs.Choices.{cases}
+use Rattle.octets.proofs.Lists.{part-length, pasted-self, length-written, written-fits, written-none, written-not, then, then-two, before}
 use Rattle.document.specs.Documents.{Key, Entry}
+use Rattle.document.specs.Stored.{metadataOf}
 use Rattle.document.specs.declared.Head.{Head}
 use Rattle.document.specs.declared.Metadata.{Metadata}
 use Rattle.rows.specs.declared.Slot.{Slot}
-use Rattle.rows.specs.Row.{sizeBytes, shortBytes, longBytes, slotBytes, slotFor, kindOf}
+use Rattle.rows.specs.Row.{sizeBytes, shortBytes, longBytes, slotBytes, slotFor}
 use Rattle.rows.specs.Table.{headBytes}
 use Rattle.rows.proofs.Heads.{head-length}
-use Rattle.row_writer.specs.Over.{overBytes, overRow}
+use Rattle.row_writer.specs.Over.{overBytes, overRow, slotSized, updatedBytes, updatedRow}
 
 pub head-unfit : (s : List ℕ) (h : Head) → length s < 16 → s ≡ written s 0 (headBytes h)
 head-unfit s h l = let n = head-length h in sym (written-not s 0 (headBytes h) (omega arith))
@@ -39,39 +42,77 @@ pub length-body : (e : Entry) → length (slotBytes (slotFor e) ++ (e .key ++ e 
 unfolding slotBytes sizeBytes shortBytes longBytes bytesOf
 length-body e = simp length-append (omega arith)
 
--- the fixed part of a row whose value has so many bytes
-abbrev pub slotSized : Key → Metadata → ℕ → Slot
-slotSized key m n = record { kind = kindOf (m .tomb); keylen = length key; vallen = n; numbers = m .numbers }
-
--- a row's fixed part and key, and what is written at a place after them
-pub parts-put : (h : Slot) (key : Key) (s0 s1 s2 s3 : List ℕ) (at : ℕ) (xs : List ℕ) → length s0 ≡ 1312 → length key ≤ 1280
-    → s1 ≡ written s0 0 (slotBytes h) → s2 ≡ written s1 32 key → s3 ≡ written s2 at xs → s3 ≡ written (written s0 0 (slotBytes h ++ key)) at xs
+-- a fixed part, and a key after it
+slot-length : (h : Slot) → length (slotBytes h) ≡ 32
 unfolding slotBytes sizeBytes shortBytes longBytes bytesOf
-parts-put h key s0 s1 s2 s3 at xs l k p q r = r ∙ ap (λ (s : List ℕ). written s at xs) (then s0 s1 s2 0 32 (slotBytes h) key p q refl (omega arith))
+slot-length h = refl
 
-pub length-front : (h : Slot) (key : Key) → length (slotBytes h ++ key) ≡ 32 + length key
+length-front : (h : Slot) (key : Key) → length (slotBytes h ++ key) ≡ 32 + length key
 unfolding slotBytes sizeBytes shortBytes longBytes bytesOf
 length-front h key = simp length-append (omega arith)
 
--- an entry's bytes written over a row, and zeros after them where the value before was longer
-module _ (e : Entry) (old : ℕ) (s0 s : List ℕ) where
-  pub row-put : length s0 ≡ 1312 → length (e .key) + length (e .doc .value) ≤ 1280
-      → s ≡ written (written s0 0 (slotBytes (slotFor e) ++ e .key)) (32 + length (e .key)) (e .doc .value) → s ≡ written s0 0 (slotBytes (slotFor e) ++ (e .key ++ e .doc .value))
-  row-put l room p =
-      let h = slotFor e in
-      rw append-assoc at (then s0 _ s 0 (32 + length (e .key)) (slotBytes h ++ e .key) (e .doc .value) refl p (omega (arith, length-front h (e .key))) (omega arith))
+-- what stands there already need not be written
+pub stands : (s : List ℕ) (at n : ℕ) (xs : List ℕ) → at + n ≤ length s → part s at n ≡ xs → s ≡ written s at xs
+stands s at n xs h e =
+    let l : length xs ≡ n = ap length (sym e) ∙ part-length s at n h in
+    pasted-self s at n h ∙ ap (pasted s at) e ∙ sym (written-fits s at xs (omega arith))
 
-  module _ (p : s ≡ written s0 0 (slotBytes (slotFor e) ++ (e .key ++ e .doc .value))) where
-    pub row-zeroed : (s4 : List ℕ) → s4 ≡ written s (32 + length (e .key) + length (e .doc .value)) (replicate (old - length (e .doc .value)) 0) → s4 ≡ overBytes s0 e old
-    unfolding overBytes
-    row-zeroed s4 t = t ∙ rw (p, add-assoc 32 (length (e .key)) (length (e .doc .value)))
+-- a document written over a row that holds its key
+module _ (r : List ℕ) (k : ℕ) (m : Metadata) (value : List ℕ) (old : ℕ) where
+  abbrev fixed : List ℕ
+  fixed = written r 0 (slotBytes (slotSized k m (length value)))
 
-    pub row-over : length s0 ≡ 1312 → length (e .key) + length (e .doc .value) ≤ 1280 → old ≤ length (e .doc .value) → s ≡ overBytes s0 e old
-    unfolding overBytes
-    row-over l room h =
-        let z : old - length (e .doc .value) ≡ 0 = omega arith in
-        let m : length s ≡ 1312 = ap length p ∙ length-written s0 0 (slotBytes (slotFor e) ++ (e .key ++ e .doc .value)) ∙ l in
-        rw (z, ← p) (sym (written-none s (32 + (length (e .key) + length (e .doc .value))) (omega arith)))
+  -- zeros after the value where the one before was longer
+  module _ (room : k + length value ≤ 1280) (s1 s : List ℕ) (f : s1 ≡ fixed) (p : s ≡ written s1 (32 + k) value) where
+    parts-put : s ≡ written fixed (32 + k) value
+    parts-put = p ∙ ap (λ (t : List ℕ). written t (32 + k) value) f
+
+    pub update-zeroed : (s′ : List ℕ) → s′ ≡ written s (32 + k + length value) (replicate (old - length value) 0) → s′ ≡ updatedBytes r k m value old
+    unfolding updatedBytes
+    update-zeroed s′ t = t ∙ rw (parts-put, le-leb (k + length value) 1280 room, add-assoc 32 k (length value))
+
+    pub update-longer : length r ≡ 1312 → old ≤ length value → s ≡ updatedBytes r k m value old
+    unfolding updatedBytes
+    update-longer l h =
+        let z : old - length value ≡ 0 = omega arith in
+        let n : length s ≡ 1312 = ap length parts-put ∙ length-written fixed (32 + k) value ∙ length-written r 0 (slotBytes (slotSized k m (length value))) ∙ l in
+        rw (le-leb (k + length value) 1280 room, z, ← parts-put) (sym (written-none s (32 + (k + length value)) (omega arith)))
+
+  pub length-update : length (updatedBytes r k m value old) ≡ length r
+  unfolding updatedBytes
+  length-update =
+      let zs = replicate {A = ℕ} (old - length value) 0 in
+      cases (leb (k + length value) 1280)
+      (λ t. rw t
+      (length-written (written fixed (32 + k) value) (32 + (k + length value)) zs ∙ length-written fixed (32 + k) value ∙ length-written r 0 (slotBytes (slotSized k m (length value)))))
+      (λ f. rw f)
+
+  -- by the row's length, and by whether key and value fit
+  pub update-other : (length r ≡ 1312 → ⊥) → r ≡ updatedRow r k m value old
+  unfolding updatedRow
+  update-other n = rw (ne-eqb (length r) 1312 n)
+
+  module _ (l : length r ≡ 1312) where
+    pub update-one : updatedRow r k m value old ≡ updatedBytes r k m value old
+    unfolding updatedRow
+    update-one = rw (eq-eqb (length r) 1312 l)
+
+    pub update-unfit : 1280 < k + length value → r ≡ updatedRow r k m value old
+    unfolding updatedBytes
+    update-unfit h = sym (update-one ∙ rw (lt-leb (k + length value) 1280 h))
+
+-- where the key was written first, or stands there already, that is the whole entry written over the row
+pub update-over : (r s : List ℕ) (e : Entry) (old : ℕ) → length r ≡ 1312 → length (e .key) + length (e .doc .value) ≤ 1280 → s ≡ written r 32 (e .key)
+    → updatedBytes s (length (e .key)) (metadataOf (e .doc)) (e .doc .value) old ≡ overBytes r e old
+unfolding updatedBytes overBytes slotFor
+update-over r s e old l room p =
+    let h = slotFor e in
+    let k = length (e .key) in
+    let v = e .doc .value in
+    let a = before r s (written s 0 (slotBytes h)) 32 (e .key) (slotBytes h) p refl (slot-length h) (omega arith) in
+    let b = then r (written s 0 (slotBytes h)) (written (written s 0 (slotBytes h)) (32 + k) v) 0 (32 + k) (slotBytes h ++ e .key) v a refl (omega (arith, length-front h (e .key))) (omega arith) in
+    let w : written (written s 0 (slotBytes h)) (32 + k) v ≡ written r 0 (slotBytes h ++ (e .key ++ v)) = rw append-assoc at b in
+    rw (le-leb (k + length v) 1280 room) (ap (λ (t : List ℕ). written t (32 + (k + length v)) (replicate (old - length v) 0)) w)
 
 module _ (r : List ℕ) (e : Entry) (old : ℕ) where
   pub length-over : length (overBytes r e old) ≡ length r

@@ -1,4 +1,4 @@
--- For the code alone: an entry written over a row's bytes, or a value joined to the one that stands there, of which only those that the value before it used become zero. On a row that keeps its rules this leaves the entry's own bytes (row_writer/proofs/Over.antt).
+-- For the code alone: an entry written over a row's bytes, a document over those of a row that holds its key, or a value joined to the one that stands there. Of what follows the value, only the bytes that the value before it used become zero. On a row that keeps its rules this leaves the entry's own bytes (row_writer/proofs/Over.antt).
 use Prim.Native.Nat.{ℕ, _+_, _-_}
 use mathlib.Core.Bool.{cond}
 use mathlib.Core.List.{List, _++_}
@@ -7,9 +7,9 @@ use lib.ListN.{length, replicate}
 use Rattle.octets.specs.Parts.{part, written}
 use Rattle.document.specs.declared.Metadata.{Metadata}
 use Rattle.document.specs.declared.Side.{Side}
-use Rattle.document.specs.Documents.{Key, Entry, joined}
-use Rattle.document.specs.Stored.{entryOf}
-use Rattle.rows.specs.Row.{slotBytes, slotFor}
+use Rattle.document.specs.Documents.{Entry, joined}
+use Rattle.rows.specs.declared.Slot.{Slot}
+use Rattle.rows.specs.Row.{slotBytes, slotFor, kindOf}
 
 -- fixed part, key and value, then zeros to where a value of length old ended; the rest is left
 unfoldable pub overBytes : List ℕ → Entry → ℕ → List ℕ
@@ -22,12 +22,26 @@ unfoldable pub overRow : List ℕ → Entry → ℕ → List ℕ
 unfolding overBytes
 overRow r e old = cond (eqb (length r) 1312) (overBytes r e old) r
 
--- a value joined to the one of length old that stands after a key of this length; a row without room for both is left unchanged
-unfoldable pub joinedBytes : List ℕ → Key → Metadata → Side → List ℕ → ℕ → List ℕ
-unfolding overBytes
-joinedBytes r key m side value old =
-    cond (leb (length key + (old + length value)) 1280) (overBytes r (entryOf key m (joined side (part r (32 + length key) old) value)) old) r
+-- the fixed part of a row whose key and value have so many bytes
+abbrev pub slotSized : ℕ → Metadata → ℕ → Slot
+slotSized k m n = record { kind = kindOf (m .tomb); keylen = k; vallen = n; numbers = m .numbers }
 
-unfoldable pub joinedRow : List ℕ → Key → Metadata → Side → List ℕ → ℕ → List ℕ
+-- a document over a row that holds its key, of k bytes: fixed part, value and zeros, and the key is left as it stands; a row without room for both is left unchanged
+unfoldable pub updatedBytes : List ℕ → ℕ → Metadata → List ℕ → ℕ → List ℕ
+updatedBytes r k m value old =
+    cond (leb (k + length value) 1280)
+    (written (written (written r 0 (slotBytes (slotSized k m (length value)))) (32 + k) value) (32 + (k + length value)) (replicate (old - length value) 0))
+    r
+
+unfoldable pub updatedRow : List ℕ → ℕ → Metadata → List ℕ → ℕ → List ℕ
+unfolding updatedBytes
+updatedRow r k m value old = cond (eqb (length r) 1312) (updatedBytes r k m value old) r
+
+-- a value joined to the one of length old that stands after a key of k bytes; a row without room for both is left unchanged
+unfoldable pub joinedBytes : List ℕ → ℕ → Metadata → Side → List ℕ → ℕ → List ℕ
+unfolding updatedBytes
+joinedBytes r k m side value old = cond (leb (k + (old + length value)) 1280) (updatedBytes r k m (joined side (part r (32 + k) old) value) old) r
+
+unfoldable pub joinedRow : List ℕ → ℕ → Metadata → Side → List ℕ → ℕ → List ℕ
 unfolding joinedBytes
-joinedRow r key m side value old = cond (eqb (length r) 1312) (joinedBytes r key m side value old) r
+joinedRow r k m side value old = cond (eqb (length r) 1312) (joinedBytes r k m side value old) r

@@ -1,6 +1,5 @@
 // Writing a table's head, and an entry over a row. Every public function is total on any bytes.
 ghost use mathlib.Core.Path.{_≡_};
-ghost use mathlib.Core.List.{_++_};
 ghost use Prim.Native.Nat.{_+_, _≤_};
 ghost use lib.ListN.{length};
 ghost use lib.Dec.{leb};
@@ -8,7 +7,7 @@ ghost use Rattle.octets.specs.Parts.{written};
 ghost use Rattle.octets.specs.BigEndian.{bytesOf};
 ghost use Rattle.rows.specs.Row.{sizeBytes, shortBytes, longBytes, slotBytes, kindOf};
 ghost use Rattle.rows.specs.Table.{headBytes};
-ghost use Rattle.row_writer.specs.Over.{overBytes, overRow, joinedBytes, joinedRow};
+ghost use Rattle.row_writer.specs.Over.{overBytes, overRow, slotSized, updatedBytes, updatedRow, joinedBytes, joinedRow};
 use document::Head;
 use document::Metadata;
 use document::Side;
@@ -103,6 +102,19 @@ pub fn put_row(row: &mut [u8], key: &[u8], m: Metadata, value: &[u8], old: usize
     put_entry(row, key, m, value, old);
 }
 
+// Writes a document over a row of 1,312 bytes that holds its key, of k bytes: as `put_row`, but the key is left as it stands.
+pub fn update_row(row: &mut [u8], k: usize, m: Metadata, value: &[u8], old: usize)
+    ensures { λ _. ⌜ now (row .exit) ≡ updatedRow (now (row .entry)) k m (now (value .entry)) old ⌝ }
+{
+    if row.len() != ROW {
+        return;
+    }
+    if !fits(k, value.len()) {
+        return;
+    }
+    put_document(row, k, m, value, old);
+}
+
 // Whether a key and a value of these lengths fit a row.
 pub fn fits(k: usize, v: usize) -> bool
     ensures { λ r. ⌜ r ≡ leb (k + v) 1280 ⌝ }
@@ -116,63 +128,70 @@ pub fn fits(k: usize, v: usize) -> bool
     k + v <= SPACE
 }
 
-// Writes the fixed part and the key of a row whose value has so many bytes, and at a place those of the value that are new.
-fn put_parts(row: &mut [u8], key: &[u8], m: Metadata, size: usize, at: usize, value: &[u8])
-    requires { ⌜ (length (now row) ≡ 1312) × (length (now key) ≤ 1280) × (size ≤ 1280) ⌝ }
-    ensures { λ _. ⌜ now (row .exit) ≡ written (written (now (row .entry)) 0 (slotBytes (record { kind = kindOf (m .tomb); keylen = length (now (key .entry)); vallen = size; numbers = m .numbers }) ++ now (key .entry))) at (now (value .entry)) ⌝ }
+// Writes the fixed part of a row whose key and value have so many bytes.
+fn put_fixed(row: &mut [u8], k: usize, m: Metadata, size: usize)
+    requires { ⌜ (length (now row) ≡ 1312) × (k ≤ 1280) × (size ≤ 1280) ⌝ }
+    ensures { λ _. ⌜ now (row .exit) ≡ written (now (row .entry)) 0 (slotBytes (slotSized k m size)) ⌝ }
 {
     let n = m.numbers;
     let h = Slot {
         kind: kind_of(m.tomb),
-        keylen: key.len() as u16,
+        keylen: k as u16,
         vallen: size as u32,
         numbers: n,
     };
     put_slot(row, 0, h);
-    octet_writer::put_bytes(row, FIXED, key);
-    octet_writer::put_bytes(row, at, value);
+}
+
+fn put_document(row: &mut [u8], k: usize, m: Metadata, value: &[u8], old: usize)
+    requires { ⌜ (length (now row) ≡ 1312) × (k + length (now value) ≤ 1280) ⌝ }
+    ensures { λ _. ⌜ now (row .exit) ≡ updatedBytes (now (row .entry)) k m (now (value .entry)) old ⌝ }
+{
+    let v = value.len();
+    put_fixed(row, k, m, v);
+    octet_writer::put_bytes(row, FIXED + k, value);
+    if v < old {
+        octet_writer::put_zeros(row, FIXED + k + v, old - v);
+    }
 }
 
 fn put_entry(row: &mut [u8], key: &[u8], m: Metadata, value: &[u8], old: usize)
     requires { ⌜ (length (now row) ≡ 1312) × (length (now key) + length (now value) ≤ 1280) ⌝ }
     ensures { λ _. ⌜ now (row .exit) ≡ overBytes (now (row .entry)) (record { key = now (key .entry); doc = record { tomb = m .tomb; value = now (value .entry); numbers = m .numbers } }) old ⌝ }
 {
-    let k = key.len();
-    let v = value.len();
-    put_parts(row, key, m, v, FIXED + k, value);
-    if v < old {
-        octet_writer::put_zeros(row, FIXED + k + v, old - v);
-    }
+    octet_writer::put_bytes(row, FIXED, key);
+    put_document(row, key.len(), m, value, old);
 }
 
-fn put_joined(row: &mut [u8], key: &[u8], m: Metadata, side: Side, value: &[u8], old: usize)
-    requires { ⌜ (length (now row) ≡ 1312) × (length (now key) + (old + length (now value)) ≤ 1280) ⌝ }
-    ensures { λ _. ⌜ now (row .exit) ≡ joinedBytes (now (row .entry)) (now (key .entry)) m side (now (value .entry)) old ⌝ }
+fn put_joined(row: &mut [u8], k: usize, m: Metadata, side: Side, value: &[u8], old: usize)
+    requires { ⌜ (length (now row) ≡ 1312) × (k + (old + length (now value)) ≤ 1280) ⌝ }
+    ensures { λ _. ⌜ now (row .exit) ≡ joinedBytes (now (row .entry)) k m side (now (value .entry)) old ⌝ }
 {
-    let start = FIXED + key.len();
+    let start = FIXED + k;
     let size = old + value.len();
+    put_fixed(row, k, m, size);
     match side {
         Side::Front => {
             octet_writer::move_up(row, start, old, value.len());
-            put_parts(row, key, m, size, start, value);
+            octet_writer::put_bytes(row, start, value);
         }
-        Side::Back => put_parts(row, key, m, size, start + old, value),
+        Side::Back => octet_writer::put_bytes(row, start + old, value),
     }
 }
 
-// Joins a value to the one of length old that a row holds for this key, in place: of what stands there no byte is copied, but by a
-// value at its front. Where the row has another length or the two don't fit together, nothing changes.
-pub fn join_row(row: &mut [u8], key: &[u8], m: Metadata, side: Side, value: &[u8], old: usize)
-    ensures { λ _. ⌜ now (row .exit) ≡ joinedRow (now (row .entry)) (now (key .entry)) m side (now (value .entry)) old ⌝ }
+// Joins a value to the one of length old that a row holds for a key of k bytes, in place: of what stands there no byte is copied, but
+// by a value at its front. Where the row has another length or the two don't fit together, nothing changes.
+pub fn join_row(row: &mut [u8], k: usize, m: Metadata, side: Side, value: &[u8], old: usize)
+    ensures { λ _. ⌜ now (row .exit) ≡ joinedRow (now (row .entry)) k m side (now (value .entry)) old ⌝ }
 {
     if row.len() != ROW {
         return;
     }
-    if !fits(key.len(), value.len()) {
+    if !fits(k, value.len()) {
         return;
     }
-    if SPACE - (key.len() + value.len()) < old {
+    if SPACE - (k + value.len()) < old {
         return;
     }
-    put_joined(row, key, m, side, value, old);
+    put_joined(row, k, m, side, value, old);
 }

@@ -52,7 +52,7 @@ module _ (e : Entry) where
   unfolding usedBytes slotBytes sizeBytes shortBytes longBytes bytesOf
   tail-read = refl
 
-  key-read : part (usedBytes e) 32 (length (e .key)) ≡ e .key
+  pub key-read : part (usedBytes e) 32 (length (e .key)) ≡ e .key
   key-read = rw tail-read (take-at (e .key) (e .doc .value ++ zeroed) (length (e .key)) refl)
 
   after-key : drop (32 + length (e .key)) (usedBytes e) ≡ e .doc .value ++ zeroed

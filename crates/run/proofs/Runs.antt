@@ -2,26 +2,23 @@
 use native.Mathlib.Omega.{arith}
 use Prim.Native.Nat.{ℕ, zero, suc, _+_, _-_, _≤_}
 use mathlib.Core.Path.{_≡_, refl, sym, ap, _∙_}
-use mathlib.Core.List.{List, _++_, append-nil}
-use lib.ListN.{length, take, drop, length-drop, drop-of-length-le, take-append-drop}
-use lib.Seq.{take-all}
-use borrow.Rule.Slice.PartMut.{midOf, putMid}
+use mathlib.Core.Bool.{false}
+use mathlib.Core.List.{List}
+use lib.ListN.{length, drop}
 use Rattle.engine.specs.declared.Config.{Config}
+use Rattle.engines.specs.Damage.{soundBy}
 use Rattle.engines.proofs.Tables.{sound-plain}
 use Rattle.octets.specs.Parts.{Bytes}
 use Rattle.request.specs.declared.Gate.{Gate}
 use Rattle.request.specs.declared.Gate.the-variants.{Stop, Whole}
 use Rattle.tally.specs.declared.Tally.{Tally}
-use Rattle.tally.specs.Counts.{countedOf}
 use Rattle.serving.specs.declared.Served.{Served}
 use Rattle.serving.specs.declared.Served.the-variants.{Refused, Done}
-use Rattle.serving.specs.Serves.{Serves}
-use Rattle.serving.specs.Serve.{servedUsed, gateAll, frameReply, answerBy, served, servedTable, servedReply}
+use Rattle.serving.specs.Serve.{gateAll, frameReply, answerBy, served}
 use Rattle.reply.proofs.Frames.{reply-most}
-use Rattle.serving.proofs.Gated.{was-open, refused-keeps}
-use Rattle.run.specs.Run.{movedBy, Stand, calledOn, further, onDone, standAfter, runEnd, ranOf}
-use Rattle.run.specs.declared.Cursor.{Cursor}
-use Rattle.run.specs.declared.Moved.{Moved}
+use Rattle.serving.proofs.Gated.{was-open}
+use Rattle.serve.proofs.Gates.{gate-damaged}
+use Rattle.run.specs.Run.{Stand, begun, calledOn, further, onDone, standAfter, runEnd, ranOf}
 use Rattle.run.specs.declared.Ran.{Ran}
 
 -- ---- what a call that was not refused did
@@ -47,7 +44,7 @@ unfolding served
 done-told config b s clock room st used len e = done-by config b s clock room st used len (gateAll config b room s) refl e
 
 -- ---- the calls of a run
-by-served {ℓ} : {X : Type ℓ} (r : Served) → ((n need : ℕ) → r ≡ Refused n need → X) → ((st used len : ℕ) → r ≡ Done st used len → X) → X
+pub by-served {ℓ} : {X : Type ℓ} (r : Served) → ((n need : ℕ) → r ≡ Refused n need → X) → ((st used len : ℕ) → r ≡ Done st used len → X) → X
 by-served (Refused n need) f g = f n need refl
 by-served (Done st used len) f g = g st used len refl
 
@@ -55,100 +52,35 @@ module _ (config : Config) (clock : ℕ) (run : List ℕ) where
   abbrev on : ℕ → Stand → Served → Stand
   on n x r = onDone r x (λ st used len. standAfter config n clock run (further config clock run x st used len))
 
-  stops : (n k need : ℕ) (x : Stand) → calledOn config clock run x ≡ Refused k need → standAfter config n clock run x ≡ x
+  pub stops : (n k need : ℕ) (x : Stand) → calledOn config clock run x ≡ Refused k need → standAfter config n clock run x ≡ x
   unfolding standAfter
   stops zero k need x e = refl
   stops (suc n) k need x e = ap (on n x) e
 
-  goes : (n st used len : ℕ) (x : Stand) → calledOn config clock run x ≡ Done st used len
+  pub goes : (n st used len : ℕ) (x : Stand) → calledOn config clock run x ≡ Done st used len
       → standAfter config (suc n) clock run x ≡ standAfter config n clock run (further config clock run x st used len)
   unfolding standAfter
   goes n st used len x e = ap (on n x) e
 
-  told : (x : Stand) (st used len : ℕ) → calledOn config clock run x ≡ Done st used len → Told (x .table) (drop (x .at) run) (length (x .reply) - x .filled) used len
+  pub told : (x : Stand) (st used len : ℕ) → calledOn config clock run x ≡ Done st used len → Told (x .table) (drop (x .at) run) (length (x .reply) - x .filled) used len
   told x st used len e = done-told config (x .table) (drop (x .at) run) clock (length (x .reply) - x .filled) st used len e
-
-  -- no more calls than bytes are left
-  enough : (n : ℕ) (x : Stand) → length run - x .at ≤ n → standAfter config (suc n) clock run x ≡ standAfter config n clock run x
-  enough zero x h =
-      by-served (calledOn config clock run x)
-      (λ k need e. stops 1 k need x e ∙ sym (stops 0 k need x e))
-      (λ st used len e. let t = told x st used len e in absurd (omega (arith, t .least, t .inside, length-drop (x .at) run)))
-  enough (suc n) x h =
-      by-served (calledOn config clock run x)
-      (λ k need e. stops (suc (suc n)) k need x e ∙ sym (stops (suc n) k need x e))
-      (λ st used len e.
-      let t = told x st used len e in
-      goes (suc n) st used len x e ∙ (enough n (further config clock run x st used len) (omega (arith, t .least, t .inside, length-drop (x .at) run)) ∙ sym (goes n st used len x e)))
-
-  run-on : (x : Stand) (st used len : ℕ) → calledOn config clock run x ≡ Done st used len → runEnd config clock run x ≡ runEnd config clock run (further config clock run x st used len)
-  unfolding runEnd
-  run-on x st used len e = sym (enough (length run) x (omega arith)) ∙ goes (length run) st used len x e
 
   run-ends : (x : Stand) (k need : ℕ) → calledOn config clock run x ≡ Refused k need → runEnd config clock run x ≡ x
   unfolding runEnd
   run-ends x k need e = stops (length run) k need x e
 
--- ---- one turn of the loop: the part of the reply area past the replies is lent to the step
-module _ (config : Config) (clock : ℕ) (run b out : List ℕ) (t : Tally) (at filled : ℕ) (f : filled ≤ length out) (m : Moved) (b′ ys : List ℕ)
-    (moves : m ≡ movedBy at (m .served)) (q : Serves config b clock (drop at run) (midOf filled (length out - filled) out) (m .served) b′ ys) where
-  abbrev now : Stand
-  now = record { table = b; reply = out; tally = t; at = at; filled = filled }
+-- a run on a damaged table ends before its first frame
+damaged : (config : Config) (b : List ℕ) (clock : ℕ) (s : List ℕ) (room : ℕ) → soundBy config b ≡ false → served config b clock s room ≡ Refused 5 0
+unfolding served
+damaged config b clock s room d = ap (answerBy config b clock s) (gate-damaged config b s room d)
 
-  room : length (drop filled out) ≡ length out - filled
-  room = length-drop filled out
-
-  mid : midOf filled (length out - filled) out ≡ drop filled out
-  mid = take-all (length out - filled) (drop filled out) (omega (arith, room))
-
-  put : putMid filled (length out - filled) out ys ≡ take filled out ++ ys
-  put = ap (λ (zs : List ℕ). take filled out ++ zs) (ap (λ (zs : List ℕ). ys ++ zs) (drop-of-length-le (drop filled out) {i = length out - filled} (omega (arith, room))) ∙ append-nil ys)
-
-  answer : m .served ≡ served config b clock (drop at run) (length (drop filled out))
-  answer = q .answer ∙ (λ i. served config b clock (drop at run) (length (mid i)))
-
-  left : b′ ≡ servedTable config b clock (drop at run) (length (drop filled out))
-  left = q .table ∙ (λ i. servedTable config b clock (drop at run) (length (mid i)))
-
-  reply : ys ≡ servedReply config b clock (drop at run) (drop filled out)
-  reply = q .reply ∙ ap (servedReply config b clock (drop at run)) mid
-
-  called : m .served ≡ calledOn config clock run now
-  called = answer ∙ ap (served config b clock (drop at run)) room
-
-  -- where the cursor is handed back
-  moved-to : (r : Served) → m .served ≡ r → m .cursor ≡ record { at = at + servedUsed r }
-  unfolding movedBy
-  moved-to r e = ap (λ (x : Moved). x .cursor) moves ∙ (λ i. record { at = at + servedUsed (e i) })
-
-  pub turn-told : (st used len : ℕ) → m .served ≡ Done st used len → Told b (drop at run) (length out - filled) used len
-  turn-told st used len e = told config clock run now st used len (sym called ∙ e)
-
-  pub turn-at : (st used len : ℕ) → m .served ≡ Done st used len → m .cursor .at ≡ at + used
-  turn-at st used len e = ap (λ (x : Cursor). x .at) (moved-to (Done st used len) e)
-
-  pub turn-on : (st used len : ℕ) → m .served ≡ Done st used len → (t′ : Tally) → t′ ≡ countedOf t (Done st used len)
-      → runEnd config clock run now ≡ runEnd config clock run (record { table = b′; reply = putMid filled (length out - filled) out ys; tally = t′; at = m .cursor .at; filled = filled + len })
-  turn-on st used len e t′ et =
-      let y = left ∙ ap (servedTable config b clock (drop at run)) room in
-      let z = put ∙ ap (λ (zs : List ℕ). take filled out ++ zs) reply in
-      let c = turn-at st used len e in
-      run-on config clock run now st used len (sym called ∙ e)
-      ∙ sym (λ i. runEnd config clock run (record { table = y i; reply = z i; tally = et i; at = c i; filled = filled + len }))
-
-  pub turn-ends : (n need : ℕ) → m .served ≡ Refused n need → (y : Stand) → runEnd config clock run now ≡ runEnd config clock run y
-      → (_≡_ {A = Ran} (record { cursor = m .cursor; filled = filled; tally = t; stop = m .served }) (ranOf config clock run (runEnd config clock run y)))
-      × ((b′ ≡ runEnd config clock run y .table) × (putMid filled (length out - filled) out ys ≡ runEnd config clock run y .reply))
-  unfolding ranOf
-  turn-ends n need e y p =
-      let x : now ≡ runEnd config clock run y = sym (run-ends config clock run now n need (sym called ∙ e)) ∙ p in
-      let k = refused-keeps config b clock (drop at run) (drop filled out) n need (sym answer ∙ e) in
-      let stays : _≡_ {A = ℕ} (at + 0) at = omega arith in
-      let a : _≡_ {A = Ran} (record { cursor = m .cursor; filled = filled; tally = t; stop = m .served }) (ranOf config clock run now) =
-      λ i. record { cursor = (moved-to (Refused n need) e ∙ (λ j. record { at = stays j })) i; filled = filled; tally = t; stop = called i } in (
-        a ∙ ap (ranOf config clock run) x,
-        (
-          (left ∙ k .0) ∙ ap (λ (z : Stand). z .table) x,
-          (put ∙ (ap (λ (zs : List ℕ). take filled out ++ zs) (reply ∙ k .1) ∙ take-append-drop filled out)) ∙ ap (λ (z : Stand). z .reply) x,
-        ),
-      )
+pub run-damaged : (config : Config) (clock : ℕ) (run b out : List ℕ) (t : Tally) → soundBy config b ≡ false
+    → (_≡_ {A = Ran} (record { cursor = record { at = 0 }; filled = 0; tally = t; stop = Refused 5 0 }) (ranOf config clock run (runEnd config clock run (begun b out t))))
+    × ((b ≡ runEnd config clock run (begun b out t) .table) × (out ≡ runEnd config clock run (begun b out t) .reply))
+unfolding ranOf
+run-damaged config clock run b out t d =
+    let e = damaged config b clock (drop 0 run) (length out - 0) d in
+    let x = sym (run-ends config clock run (begun b out t) 5 0 e) in
+    let a : _≡_ {A = Ran} (record { cursor = record { at = 0 }; filled = 0; tally = t; stop = Refused 5 0 }) (ranOf config clock run (begun b out t)) =
+    λ i. record { cursor = record { at = 0 }; filled = 0; tally = t; stop = sym e i } in
+    (a ∙ ap (ranOf config clock run) x, (ap (λ (z : Stand). z .table) x, ap (λ (z : Stand). z .reply) x))

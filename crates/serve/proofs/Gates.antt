@@ -1,10 +1,10 @@
 -- Which gate a call meets, and what serving is by the gate it met.
-use Prim.Native.Nat.{ℕ, _≤_, _<_}
+use Prim.Native.Nat.{ℕ}
 use mathlib.Core.Path.{_≡_, sym, ap, _∙_}
-use mathlib.Core.Bool.{true, false}
+use mathlib.Core.Bool.{true, false, cond}
 use mathlib.Core.List.{List}
 use lib.ListN.{length}
-use borrow.Author.Tests.{lt-ltb, le-ltb}
+use lib.Dec.{ltb}
 use Rattle.engine.specs.declared.Config.{Config}
 use Rattle.request.specs.declared.Gate.{Gate}
 use Rattle.request.specs.declared.Gate.the-variants.{Stop}
@@ -19,14 +19,9 @@ module _ (config : Config) (b s : List ℕ) (room : ℕ) where
   unfolding gateAll
   gate-damaged d = rw d
 
-  module _ (u : soundBy config b ≡ true) where
-    pub gate-room : room < 1302 → gateAll config b room s ≡ Stop 4 0
-    unfolding gateAll
-    gate-room l = rw (u, lt-ltb room 1302 l)
-
-    pub gate-open : 1302 ≤ room → gateAll config b room s ≡ gateOf s
-    unfolding gateAll
-    gate-open l = rw (u, le-ltb room 1302 l)
+  pub gate-sound : soundBy config b ≡ true → gateAll config b room s ≡ cond (ltb room 1302) (Stop 4 0) (gateOf s)
+  unfolding gateAll
+  gate-sound u = rw u
 
 pub gated : (config : Config) (b s out : List ℕ) (clock : ℕ) (g : Gate) → gateAll config b (length out) s ≡ g → (r : Served) (b′ out′ : List ℕ)
     → r ≡ answerBy config b clock s g → b′ ≡ tableBy config b clock s g → out′ ≡ replyBy config b clock s out g

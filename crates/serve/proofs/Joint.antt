@@ -1,4 +1,4 @@
--- What serving a frame's callees say, as what serving means: all their equations in, the answer, the reply and the table out.
+-- A step on a table that is not damaged, as what serving means: the answer, the reply and the table.
 use Prim.Native.Nat.{ℕ, _+_, _^_, _≤_, _<_}
 use mathlib.Core.Path.{_≡_, refl, sym, ap, subst, _∙_}
 use mathlib.Core.Bool.{Bool, true, false, _||_}
@@ -6,10 +6,9 @@ use mathlib.Core.List.{List, [], append-nil}
 use mathlib.Core.Option.{Option, none}
 use native.Mathlib.Omega.{arith}
 use lib.Dec.{ltb}
-use lib.ListN.{length, drop}
-use lib.Seq.{take-at}
+use lib.ListN.{length}
 use Rattle.engine.specs.declared.Config.{Config}
-use Rattle.octets.specs.Parts.{Bytes, part, pasted, written}
+use Rattle.octets.specs.Parts.{Bytes, part, written}
 use Rattle.octets.specs.BigEndian.{bytesOf}
 use Rattle.octets.proofs.Choices.{cases}
 use Rattle.octets.proofs.Options.{none-some}
@@ -48,19 +47,26 @@ use Rattle.engines.specs.Damage.{soundBy}
 use Rattle.engines.specs.Claims.{GoodBy}
 use Rattle.engines.proofs.Tables.{sound-good-by, head-put, clock-put, clock-good-by}
 use Rattle.table.specs.declared.Lookup.{Lookup}
-use Rattle.table.specs.Calls.{hasPlace, lookupOf, storedBy, joinedBy}
+use Rattle.table.specs.Calls.{hasPlace, lookupOf, joinedBy}
 use Rattle.table.specs.Claims.{Finds}
 use Rattle.table.proofs.Looking.{finds-sound, lookup-head}
 use Rattle.table.proofs.Keeping.{stores-good, joins-good}
 use Rattle.serving.specs.declared.Served.{Served}
 use Rattle.serving.specs.declared.Served.the-variants.{Done}
-use Rattle.serving.specs.Serve.{reachesDecision, decisionOn, decisionAt, frameEffect, effectAt, frameTable, frameReply}
+use Rattle.serving.specs.Serve.{reachesDecision, askedOf, decisionOn, decisionAt, frameEffect, effectAt, frameTable, frameReply}
 use Rattle.serving.specs.Serves.{ServesFrame}
 use Rattle.serving.proofs.Change.{changing, unchanged, raised, raised-good}
+use Rattle.effects.specs.declared.Reply.{Reply}
+use Rattle.effects.specs.declared.Reply.the-variants.{Bare, Found, Counted, Version as VersionReply, Keys}
 use Rattle.reply.specs.Fitting.{bareHeader}
+use Rattle.reply.proofs.Replies.{fitting}
+use Rattle.table.proofs.Listing.{lists-keys}
+use Rattle.serving.specs.Reply.{replyShows, replyBytes}
 use Rattle.reply.proofs.Frames.{bare-reply, refused-is, refused-reply, refused-length, key-short}
-use Rattle.serve.specs.Answer.{replyFrom, ReplyWritten}
-use Rattle.serve.specs.Change.{storedFrom, changedWith, changedBy}
+use Rattle.step.specs.Answer.{replyAs, replyTo}
+use Rattle.step.specs.Step.{Stepped, refusedStep, askedStep, frameStep}
+use Rattle.step.proofs.Storing.{storing}
+use Rattle.step.specs.Change.{storedFrom, changedWith, changedBy}
 
 -- ---- the kept clock
 -- its bytes written alone leave the table at the call's clock
@@ -79,7 +85,7 @@ module _ (config : Config) (b s : List ℕ) (clock : ℕ) (h : Header) (g : reac
   refused-status = ap (λ (x : Decision). x .status) (refused-is config b s clock h g)
 
   -- what answering with a bare header and keeping the clock leaves
-  pub refused-by : (st : ℕ) (hd : Head) (r : Served) (b′ out out′ : List ℕ) → Bytes b → soundBy config b ≡ true → st ≡ frameStatus s h → hd ≡ headOf b
+  refused-by : (st : ℕ) (hd : Head) (r : Served) (b′ out out′ : List ℕ) → Bytes b → soundBy config b ≡ true → st ≡ frameStatus s h → hd ≡ headOf b
       → r ≡ Done st (24 + h .body) 24 → b′ ≡ written b 4 (bytesOf 4 (later (hd .clock) clock))
       → out′ ≡ written out 0 (headerBytes (bareHeader (h .opcode) (h .opaque) st)) → ServesFrame config b clock s h out r b′ out′
   unfolding tableOf
@@ -94,15 +100,6 @@ module _ (config : Config) (b s : List ℕ) (clock : ℕ) (h : Header) (g : reac
       }
 
 -- ---- a frame that is decided
--- a document with this value for a key, where a lookup said
-abbrev pub storing : Config → List ℕ → Lookup → Key → Metadata → List ℕ → List ℕ
-storing config b l key m value = storedBy config b l (entryOf key m value)
-
--- bytes that were written to an array and read back
-pub read-back : (s xs s′ v : List ℕ) (k : ℕ) → k ≡ length xs → s′ ≡ pasted s 0 xs → v ≡ part s′ 0 k → v ≡ xs
-unfolding pasted
-read-back s xs s′ v k p q r = r ∙ rw (q, p) (take-at xs (drop (0 + length xs) s) (length xs) refl)
-
 -- a key with a row needs no free one, and a command that doesn't write doesn't look for one
 abbrev pub seeing : Head → Stored → Bool → ℕ → List ℕ → Context
 seeing h s free clock old = record { head = h; row = s; free = free; clock = clock; number = numberOf old; size = length old }
@@ -187,7 +184,7 @@ module _ (config : Config) (b s : List ℕ) (clock : ℕ) (h : Header) (y : Byte
       ∙ ap (λ (o : Option Doc). tableBytes (record { head = effect .head; rows = storeRow (engineOf config) (t .rows) asked o })) e
 
 -- the key of a frame that goes on, and the value stored for it
-pub shown-parts : (config : Config) (b s : List ℕ) (h : Header) → Bytes b → soundBy config b ≡ true → reachesDecision s h ≡ true → (k : List ℕ) (w : Bool) (l : Lookup) (old : List ℕ)
+shown-parts : (config : Config) (b s : List ℕ) (h : Header) → Bytes b → soundBy config b ≡ true → reachesDecision s h ≡ true → (k : List ℕ) (w : Bool) (l : Lookup) (old : List ℕ)
     → k ≡ bytesIn s (keySpan h) → l ≡ lookupOf config w b k → old ≡ part b (l .at) (l .len)
     → (length k ≤ 250) × ((length old ≤ 1024) × (old ≡ docValue (findRow (tableOf b .rows) k)))
 shown-parts config b s h y sb g k w l old ek el eo =
@@ -196,6 +193,16 @@ shown-parts config b s h y sb g k w l old ek el eo =
       omega (arith, ap length ek, key-short s h g),
       (omega (arith, ap length e, part-most b (lookupOf config w b k .at) (lookupOf config w b k .len), f .short), e ∙ f .value),
     )
+
+-- a reply that fits, and of a listing the keys, is what the table shows
+replied : (r : Reply) (config : Config) (b : List ℕ) (clock : ℕ) (h : Header) (d : Decision) (key old : List ℕ) (room : ℕ) → Bytes b → soundBy config b ≡ true → 1302 ≤ room
+    → (length key ≤ 250) × ((length old ≤ 1024) × (old ≡ docValue (findRow (tableOf b .rows) key)))
+    → replyAs r config room b clock h d key old ≡ replyBytes (h .opcode) (h .opaque) d key (replyShows r (tableOf b .rows) clock key)
+replied Bare config b clock h d key old room y sb l p = fitting room (h .opcode) (h .opaque) d key old l (p .0) (p .1 .0) ∙ ap (replyBytes (h .opcode) (h .opaque) d key) (p .1 .1)
+replied (Found flags keyed) config b clock h d key old room y sb l p = fitting room (h .opcode) (h .opaque) d key old l (p .0) (p .1 .0) ∙ ap (replyBytes (h .opcode) (h .opaque) d key) (p .1 .1)
+replied (Counted n) config b clock h d key old room y sb l p = fitting room (h .opcode) (h .opaque) d key old l (p .0) (p .1 .0) ∙ ap (replyBytes (h .opcode) (h .opaque) d key) (p .1 .1)
+replied VersionReply config b clock h d key old room y sb l p = fitting room (h .opcode) (h .opaque) d key old l (p .0) (p .1 .0) ∙ ap (replyBytes (h .opcode) (h .opaque) d key) (p .1 .1)
+replied (Keys count) config b clock h d key old room y sb l p = ap (replyBytes (h .opcode) (h .opaque) d key) (lists-keys config b clock key count room y sb l)
 
 module _ (config : Config) (b s : List ℕ) (clock : ℕ) (h : Header) (y : Bytes b) (z : Bytes s) (small : clock < 2 ^ 32) (sb : soundBy config b ≡ true) (inside : 24 + h .body ≤ length s)
     (g : reachesDecision s h ≡ true) (k : List ℕ) (w : Bool) (l : Lookup) (old : List ℕ) (now : Head) (q : Instruction) (d : Decision)
@@ -253,19 +260,38 @@ module _ (config : Config) (b s : List ℕ) (clock : ℕ) (h : Header) (y : Byte
       sym (store-is v ev) ∙ no-doc (d .done .store) _ (ap (λ (x : Decision). x .done .store) decided-is
       ∙ stores-none (seeing head (storedOf row) free (head .clock) (docValue row)) q (sym ew ∙ e))
 
-  reply-is : replyFrom b (now .clock) h d k ≡ frameReply config b clock s h
+  reply-is : (room : ℕ) → 1302 ≤ room → replyTo config room b (now .clock) h d k old ≡ frameReply config b clock s h
   unfolding frameReply tableOf
-  reply-is = λ i. replyFrom b (eh i .clock) h (decision-is i) (ek i)
+  reply-is room roomy =
+      replied (d .done .reply) config b (now .clock) h d k old room y sb roomy (shown-parts config b s h y sb g k w l old ek el eo)
+      ∙ (λ i. replyBytes (h .opcode) (h .opaque) (decision-is i) (ek i) (replyShows (decision-is i .done .reply) (tableOf b .rows) (eh i .clock) (ek i)))
 
   -- what answering and storing by the decision leaves
-  pub formed-by : (v : List ℕ) (r : Served) (n : ℕ) (b′ out out′ : List ℕ) → v ≡ bareValue s h → ReplyWritten b (now .clock) h d k out n out′
-      → r ≡ Done (d .status) (24 + h .body) n
-      → b′ ≡ changedBy config b l k (d .done) v
-      → ServesFrame config b clock s h out r b′ out′
-  formed-by v r n b′ out out′ ev reply er eb =
+  formed-by : (v out : List ℕ) → 1302 ≤ length out → v ≡ bareValue s h
+      → let reply = replyTo config (length out) b (now .clock) h d k old in
+      ServesFrame config b clock s h out (Done (d .status) (24 + h .body) (length reply)) (changedBy config b l k (d .done) v) (written out 0 reply)
+  formed-by v out roomy ev =
+      let e = reply-is (length out) roomy in
       record {
-        answer = er ∙ (λ i. Done (status-is i) (24 + h .body) ((reply .size ∙ ap length reply-is) i));
-        table = eb ∙ (λ i. changedWith config b (found i) (ek i) (d .done .store) (d .done .source) (head-is i) v)
+        answer = λ i. Done (status-is i) (24 + h .body) (length (e i));
+        table = (λ i. changedWith config b (found i) (ek i) (d .done .store) (d .done .source) (head-is i) v)
             ∙ changed-is config b s clock h y z small inside sb (d .done .source) v w (d .done .store) (store-is v ev) (store-none v ev);
-        reply = reply .bytes ∙ ap (written out 0) reply-is;
+        reply = ap (written out 0) e;
       }
+
+-- ---- a whole frame
+module _ (config : Config) (b s : List ℕ) (clock : ℕ) (h : Header) (out : List ℕ) (y : Bytes b) (z : Bytes s) (small : clock < 2 ^ 32) (sb : soundBy config b ≡ true)
+    (inside : 24 + h .body ≤ length s) (roomy : 1302 ≤ length out) where
+  abbrev Framed : Stepped → Type 0
+  Framed x = ServesFrame config b clock s h out (x .answer) (x .table) (x .reply)
+
+  asked-serves : reachesDecision s h ≡ true → Framed (askedStep config b (headOf b) clock h (instructionOf (askedOf config s h)) (bytesIn s (keySpan h)) (bareValue s h) out)
+  unfolding askedStep
+  asked-serves g = formed-by config b s clock h y z small sb inside g _ _ _ _ _ _ _ refl refl refl refl refl refl refl (bareValue s h) out roomy refl
+
+  refused-serves : reachesDecision s h ≡ false → Framed (refusedStep b (headOf b) clock h out (frameStatus s h))
+  refused-serves g = refused-by config b s clock h g (frameStatus s h) (headOf b) _ _ out _ y sb refl refl refl refl refl
+
+  pub frame-serves : Framed (frameStep config b (headOf b) clock s h out)
+  unfolding frameStep
+  frame-serves = cases (reachesDecision s h) (λ g. rw g (asked-serves g)) (λ g. rw g (refused-serves g))

@@ -1,4 +1,3 @@
-pub mod Joint
 pub mod Gates
-pub mod Parts
-pub mod Answers
+pub mod Joint
+pub mod Stepping

@@ -1,5 +1,5 @@
 -- What differs by engine on good rows: the place of a key's document, and what a put and a purge leave of the bytes.
-use Prim.Native.Nat.{ℕ, suc, _+_, _<_}
+use Prim.Native.Nat.{ℕ, suc, _+_, _*_, _<_}
 use native.Mathlib.Omega.{arith}
 use native.Mathlib.Nat.{zero-add}
 use mathlib.Core.Path.{_≡_, refl, sym, ap, _∙_}
@@ -9,6 +9,7 @@ use mathlib.Core.Option.{none, some}
 use lib.Dec.{ltb}
 use lib.ListN.{length, take, drop, getD, set}
 use borrow.Author.Tests.{lt-ltb}
+use Rattle.octets.specs.Parts.{pasted}
 use Rattle.document.specs.Documents.{Key, Doc, Entry}
 use Rattle.document.specs.Stored.{goneDoc}
 use Rattle.engine.specs.declared.EngineKind.{EngineKind}
@@ -16,7 +17,7 @@ use Rattle.engine.specs.declared.EngineKind.the-variants.{Plain, Ordered}
 use Rattle.engine.specs.declared.Place.{Place}
 use Rattle.engine.specs.declared.Place.the-variants.{Over, Into, Full}
 use Rattle.rows.specs.Row.{Row, rowBytes}
-use Rattle.rows.specs.Table.{Table, rowCount, rowAt, tableBytes}
+use Rattle.rows.specs.Table.{Table, rowCount, tableBytes}
 use Rattle.rows.specs.Good.{EntryGood}
 use Rattle.rows.specs.Find.{freeRows}
 use Rattle.row_writer.specs.Over.{overBytes}
@@ -93,21 +94,21 @@ module _ (t : Table) (g : Good t) (key : Key) where
 
     module _ (m : EntryGood (t .head .mark .0) e) where
       -- over a row that then has the entry's own bytes
-      pub row-stored : (i old : ℕ) → i < length ws → overBytes (rowAt (tableBytes t) i) e old ≡ rowBytes (some e)
-          → rowStored (tableBytes t) i e old ≡ tableBytes (record { head = t .head; rows = set ws i (some e) })
-      unfolding rowStored
-      row-stored i old h q =
+      pub row-stored : (i : ℕ) (r : List ℕ) → i < length ws → r ≡ rowBytes (some e)
+          → cond (ltb i (rowCount (tableBytes t))) (pasted (tableBytes t) (16 + i * 1312) r) (tableBytes t) ≡ tableBytes (record { head = t .head; rows = set ws i (some e) })
+      row-stored i r h q =
           let l : i < rowCount (tableBytes t) = omega (arith, h, table-count t g) in
           rw (lt-ltb i (rowCount (tableBytes t)) l, q) (row-put t (t .head .mark .0) i (some e) m (g .rows) h)
 
       -- in a row of its own
       pub stored-in : (k : EngineKind) → rowsKept k ws → findIn key 0 ws ≡ Nothing → 0 < freeRows ws
           → storedWith k (tableBytes t) (newAt k key ws) e ≡ tableBytes (record { head = t .head; rows = putBy k ws key d })
+      unfolding rowStored
       stored-in Plain o f h =
           let i = usedFirst ws in
           let q : freeIn 0 ws ≡ At i = free-at ws 0 h ∙ ap At (zero-add i) in
           let at = at-place key ws i (rw (f, q)) in
-          row-stored i 0 (at .below)
+          row-stored i _ (at .below)
           (ap (λ (r : List ℕ). overBytes r e 0) (row-bytes t g i (at .below) ∙ ap rowBytes (free-row ws)) ∙ over-free (t .head .mark .0) e m)
           ∙ ap (λ (r : List Row). tableBytes (record { head = t .head; rows = r })) (sym (at .put d))
       stored-in Ordered o f h = inserts-good t key d (record { good = g; order = o }) m (find-nothing key 0 ws f) h

@@ -12,19 +12,19 @@ use Rattle.document.specs.declared.Metadata.{Metadata}
 use Rattle.document.specs.declared.Side.{Side}
 use Rattle.document.specs.declared.Side.the-variants.{Front, Back}
 use Rattle.document.specs.Documents.{Key, Entry, docValue, joined}
-use Rattle.document.specs.Stored.{entryOf}
+use Rattle.document.specs.Stored.{metadataOf, entryOf}
 use Rattle.engine.specs.declared.Config.{Config}
 use Rattle.engine.specs.declared.Place.the-variants.{Into, Full}
 use Rattle.rows.specs.Row.{Row, rowBytes}
 use Rattle.rows.specs.Table.{rowCount, rowAt, tableBytes}
 use Rattle.rows.specs.Find.{findRow, freeRows}
 use Rattle.rows.proofs.RowLaws.{value-read}
-use Rattle.row_writer.specs.Over.{overBytes}
-use Rattle.row_writer.proofs.Over.{over-used}
+use Rattle.row_writer.specs.Over.{updatedBytes}
+use Rattle.row_writer.proofs.Over.{update-used}
 use Rattle.row_writer.proofs.Joined.{joined-there}
 use Rattle.plain.specs.Lookup.{findIn}
 use Rattle.plain.proofs.Places.{founds, find-place, find-nothing}
-use Rattle.plain_writer.specs.Change.{rowStored, rowJoined}
+use Rattle.plain_writer.specs.Change.{rowUpdated, rowJoined}
 use Rattle.table.specs.declared.Lookup.{Lookup}
 use Rattle.table.specs.Calls.{storedNew, storedBy, joinedBy, purgedBy}
 use Rattle.table.specs.Claims.{StoresGood, JoinsGood, PurgesGood}
@@ -33,7 +33,7 @@ use Rattle.table.proofs.Engines.{newAt, put-over, row-stored, stored-in
 use Rattle.table.proofs.Looking.{absentAt, found-lookup, absent-lookup}
 
 pub stores-good : StoresGood
-unfolding storedBy storedNew
+unfolding storedBy storedNew rowUpdated
 stores-good config t key d g m room =
     let b = tableBytes t in
     let e : Entry = record { key = key; doc = d } in
@@ -41,10 +41,10 @@ stores-good config t key d g m room =
     (λ i f.
     let h = find-place key (t .rows) i f in
     let x = h .entry in
-    let own = over-used (t .head .mark .0) e m x (entry-good t (g .good) i x (h .there)) (h .named) in
+    let own = update-used (t .head .mark .0) e m x (entry-good t (g .good) i x (h .there)) (h .named) in
     ap (λ (l : Lookup). storedBy config b l e) (found-lookup config t g key true i f)
-    ∙ row-stored t (g .good) key d m i (length (x .doc .value)) (h .below)
-    (ap (λ (r : List ℕ). overBytes r e (length (x .doc .value))) (entry-bytes t (g .good) i x (h .below) (h .there)) ∙ own)
+    ∙ row-stored t (g .good) key d m i _ (h .below)
+    (ap (λ (r : List ℕ). updatedBytes r (length key) (metadataOf d) (d .value) (length (x .doc .value))) (entry-bytes t (g .good) i x (h .below) (h .there)) ∙ own)
     ∙ ap (λ (r : List Row). tableBytes (record { head = t .head; rows = r })) (sym (put-over t (g .good) key d (config .engine) (g .kept) i f)))
     (λ f.
     let h = room (find-nothing key 0 (t .rows) f) in
@@ -61,9 +61,9 @@ alone Back value = refl
 module _ (config : Config) (b : List ℕ) (key : Key) (m : Metadata) (side : Side) (value : List ℕ) where
   -- a value joined to the one that stands in the row at a place
   row-joined : (i old : ℕ) (w : List ℕ) → part (rowAt b i) (32 + length key) old ≡ w → length key + (old + length value) ≤ 1280
-      → rowJoined b i key m side value old ≡ rowStored b i (entryOf key m (joined side w value)) old
-  unfolding rowJoined rowStored
-  row-joined i old w e room = ap (λ (r : List ℕ). cond (ltb i (rowCount b)) (pasted b (16 + i * 1312) r) b) (joined-there (rowAt b i) key m value old side w e room)
+      → rowJoined b i (length key) m side value old ≡ rowUpdated b i (length key) m (joined side w value) old
+  unfolding rowJoined rowUpdated
+  row-joined i old w e room = ap (λ (r : List ℕ). cond (ltb i (rowCount b)) (pasted b (16 + i * 1312) r) b) (joined-there (rowAt b i) (length key) m value old side w e room)
 
   -- where a key has no row, nothing stands there
   place-joined : (room : Bool) (i : ℕ)

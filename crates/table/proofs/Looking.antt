@@ -2,14 +2,15 @@
 use Prim.Native.Nat.{ℕ, suc, _+_, _*_, _≤_}
 use native.Mathlib.Omega.{arith}
 use mathlib.Core.Path.{_≡_, refl, sym, ap, _∙_, subst}
-use mathlib.Core.Bool.{Bool, cond, _&&_, _||_}
+use mathlib.Core.Bool.{Bool, true, cond, not, _&&_, _||_}
 use mathlib.Core.List.{List, [], _∷_}
 use mathlib.Core.Option.{Option, none, some}
-use lib.Dec.{ltb}
+use lib.Dec.{ltb, eqb}
 use lib.ListN.{length}
+use borrow.Author.Tests.{eqb-true, not-true}
 use Rattle.octets.specs.Parts.{part}
 use Rattle.octets.specs.Compare.{same}
-use Rattle.octets.proofs.Choices.{cases}
+use Rattle.octets.proofs.Choices.{cases, both}
 use Rattle.document.specs.Documents.{Key, Doc, docValue}
 use Rattle.document.specs.Stored.{storedOf, hasRow}
 use Rattle.document.specs.declared.Stored.the-variants.{Nothing as NoRow}
@@ -26,7 +27,7 @@ use Rattle.plain.proofs.TableLaws.{table-length, good-sound}
 use Rattle.engines.specs.Claims.{GoodBy}
 use Rattle.engines.proofs.Tables.{sound-good-by}
 use Rattle.table.specs.declared.Lookup.{Lookup}
-use Rattle.table.specs.Calls.{hasPlace, lookupAt, placeFor, lookupOf}
+use Rattle.table.specs.Calls.{hasPlace, lookupAt, placeWith, placeFor, lookupOf}
 use Rattle.table.specs.Claims.{Finds, FindsGood, FindsSound, LookupHead}
 use Rattle.table.proofs.Rows.{over, entry-good, over-at, value-at}
 use Rattle.table.proofs.Engines.{gap, newAt, found-in, absent-in}
@@ -70,12 +71,31 @@ module _ (config : Config) (t : Table) (g : GoodBy config t) (key : Key) (new : 
   abbrev place : Place
   place = placeFor config new key (tableOf b .rows)
 
-  place-rows : place ≡ placeFor config new key (t .rows)
-  place-rows = ap (λ (x : Table). placeFor config new key (x .rows)) (good-sound t (g .good) .1)
+  -- rows have keys of a byte at least
+  keyless : eqb (length key) 0 ≡ true → findIn key 0 (t .rows) ≡ Nothing
+  keyless e =
+      founds (findIn key 0 (t .rows))
+      (λ i f.
+      let h = find-place key (t .rows) i f in
+      let m = entry-good t (g .good) i (h .entry) (h .there) in
+      absurd (omega (arith, m .key-least, ap length (h .named), eqb-true (length key) 0 e)))
+      (λ f. f)
+
+  unasked : (eqb (length key) 0 && not new) ≡ true → Full ≡ placeWith (config .engine) new key (t .rows)
+  unasked e =
+      let p = both (eqb (length key) 0) (not new) e in
+      sym (absent-in t (g .good) key new (config .engine) (g .kept) (keyless (p .0)) ∙ rw (not-true new (p .1)))
+
+  place-with : placeFor config new key (t .rows) ≡ placeWith (config .engine) new key (t .rows)
+  unfolding placeFor
+  place-with = cases (eqb (length key) 0 && not new) (λ e. rw e (unasked e)) (λ e. rw e)
+
+  place-rows : place ≡ placeWith (config .engine) new key (t .rows)
+  place-rows = ap (λ (x : Table). placeFor config new key (x .rows)) (good-sound t (g .good) .1) ∙ place-with
 
   -- the key has a row
   pub found-lookup : (i : ℕ) (f : findIn key 0 (t .rows) ≡ At i) → lookupOf config new b key ≡ over (length key) i (find-place key (t .rows) i f .entry)
-  unfolding lookupOf placeFor
+  unfolding lookupOf
   found-lookup i f =
       let h = find-place key (t .rows) i f in
       ap (lookupAt b (length key)) (place-rows ∙ found-in t (g .good) key new (config .engine) (g .kept) i f)
@@ -83,7 +103,7 @@ module _ (config : Config) (t : Table) (g : GoodBy config t) (key : Key) (new : 
 
   -- it has none
   pub absent-lookup : findIn key 0 (t .rows) ≡ Nothing → lookupOf config new b key ≡ absentAt (gap (config .engine) new key (t .rows))
-  unfolding lookupOf placeFor
+  unfolding lookupOf
   absent-lookup f =
       ap (lookupAt b (length key)) (place-rows ∙ absent-in t (g .good) key new (config .engine) (g .kept) f)
       ∙ absent-at (new && ltb 0 (freeRows (t .rows))) (newAt (config .engine) key (t .rows)) b (length key)

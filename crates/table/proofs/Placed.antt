@@ -2,11 +2,13 @@
 use Prim.Native.Nat.{ℕ, _+_, _*_, _≤_, _<_}
 use native.Mathlib.Omega.{arith}
 use mathlib.Core.Path.{_≡_, sym, ap, _∙_}
-use mathlib.Core.Bool.{Bool}
+use mathlib.Core.Bool.{Bool, not, _&&_}
 use mathlib.Core.List.{List}
 use mathlib.Core.Option.{none, some}
+use lib.Dec.{eqb}
 use lib.ListN.{length, getD}
 use Rattle.octets.specs.Parts.{part}
+use Rattle.octets.proofs.Choices.{cond-elim}
 use Rattle.document.specs.Documents.{Key, Entry}
 use Rattle.document.specs.Stored.{metadataOf}
 use Rattle.document.specs.declared.Metadata.{Metadata}
@@ -15,7 +17,7 @@ use Rattle.engine.specs.declared.Config.{Config}
 use Rattle.engine.specs.declared.EngineKind.{EngineKind}
 use Rattle.engine.specs.declared.EngineKind.the-variants.{Plain, Ordered}
 use Rattle.engine.specs.declared.Place.{Place}
-use Rattle.engine.specs.declared.Place.the-variants.{Over}
+use Rattle.engine.specs.declared.Place.the-variants.{Over, Full}
 use Rattle.rows.specs.Row.{Row, slotOf, docOf}
 use Rattle.rows.specs.Table.{rowCount, tableOf, rowAt}
 use Rattle.rows.proofs.OneRow.{row-size, row-at, row-entry, key-inside, row-there}
@@ -34,10 +36,14 @@ over-in : (k : EngineKind) (key : Key) (ws : List Row) (new : Bool) (i : ℕ) �
 over-in Plain key ws new i e = let h = find-place key ws i (over-found key ws new i e) in (h .below, (h .entry, (h .there, h .named)))
 over-in Ordered key ws new i e = over-keyed ws key new i e
 
+-- no row where none was looked for
+no-row {ℓ} : {X : Type ℓ} (i : ℕ) → Full ≡ Over i → X
+no-row i e = absurd (let y : _≡_ {A = ℕ} 0 1 = cc in omega arith)
+
 module _ (config : Config) (b : List ℕ) (key : Key) (new : Bool) (i : ℕ) (e : placeFor config new key (tableOf b .rows) ≡ Over i) where
   over-row : Keyed key (tableOf b .rows) i
   unfolding placeFor
-  over-row = over-in (config .engine) key (tableOf b .rows) new i e
+  over-row = cond-elim (eqb (length key) 0 && not new) _ _ _ e (λ t z. no-row i z) (λ t z. over-in (config .engine) key (tableOf b .rows) new i z)
 
   pub place-below : i < rowCount b
   place-below = omega (arith, over-row .0, count-rows b)

@@ -1,8 +1,9 @@
 -- For the code alone: what a lookup gives and a store leaves, by places, on any memory. What they mean on a table that is not damaged is in Claims.antt.
 use Prim.Native.Nat.{ℕ, _+_, _*_}
-use mathlib.Core.Bool.{Bool, true, false}
+use mathlib.Core.Bool.{Bool, true, false, cond, not, _&&_}
 use mathlib.Core.List.{List}
 use lib.ListN.{length}
+use lib.Dec.{eqb}
 use Rattle.document.specs.declared.Metadata.{Metadata}
 use Rattle.document.specs.declared.Side.{Side}
 use Rattle.document.specs.Documents.{Key, Doc, Entry}
@@ -16,7 +17,7 @@ use Rattle.engine.specs.declared.Place.the-variants.{Over, Into, Full}
 use Rattle.rows.specs.Row.{Row, slotOf, docOf}
 use Rattle.rows.specs.Table.{tableOf, rowAt}
 use Rattle.plain.specs.Lookup.{placeBy}
-use Rattle.plain_writer.specs.Change.{rowStored, rowJoined, purgedRows}
+use Rattle.plain_writer.specs.Change.{rowStored, rowUpdated, rowJoined, purgedRows}
 use Rattle.plain_listing.specs.Places.{fittingKeys}
 use Rattle.ordered_lookup.specs.Halving.{placeOrdered}
 use Rattle.ordered_writer.specs.Insertion.{inserted}
@@ -47,8 +48,9 @@ abbrev pub placeWith : EngineKind → Bool → Key → List Row → Place
 placeWith Plain new key ws = placeBy new key ws
 placeWith Ordered new key ws = placeOrdered new key ws
 
+-- a key of no bytes has no row: none is looked for unless a new one is
 unfoldable pub placeFor : Config → Bool → Key → List Row → Place
-placeFor config new key ws = placeWith (config .engine) new key ws
+placeFor config new key ws = cond (eqb (length key) 0 && not new) Full (placeWith (config .engine) new key ws)
 
 -- what a lookup gives
 unfoldable pub lookupOf : Config → Bool → List ℕ → Key → Lookup
@@ -63,9 +65,9 @@ storedWith Ordered b i e = inserted b i e
 unfoldable pub storedNew : Config → List ℕ → ℕ → Entry → List ℕ
 storedNew config b i e = storedWith (config .engine) b i e
 
--- an entry stored where a lookup of its key said
+-- an entry stored where a lookup of its key said; a row that was found holds the key
 abbrev pub storedIn : Config → List ℕ → Place → Entry → ℕ → List ℕ
-storedIn config b (Over i) e old = rowStored b i e old
+storedIn config b (Over i) e old = rowUpdated b i (length (e .key)) (metadataOf (e .doc)) (e .doc .value) old
 storedIn config b (Into i) e old = storedNew config b i e
 storedIn config b Full e old = b
 
@@ -74,7 +76,7 @@ storedBy config b l e = storedIn config b (l .place) e (l .len)
 
 -- a value joined to the one that a lookup of its key found; where it found none, there is nothing to join it to
 abbrev pub joinedIn : Config → List ℕ → Place → Key → Metadata → Side → List ℕ → ℕ → List ℕ
-joinedIn config b (Over i) key m side value old = rowJoined b i key m side value old
+joinedIn config b (Over i) key m side value old = rowJoined b i (length key) m side value old
 joinedIn config b (Into i) key m side value old = storedNew config b i (entryOf key m value)
 joinedIn config b Full key m side value old = b
 

@@ -6,10 +6,11 @@ ghost use Prim.Native.Nat.{_≤_, _<_};
 ghost use lib.ListN.{length};
 ghost use Rattle.octets.specs.Parts.{written};
 ghost use Rattle.document.specs.Stored.{entryOf, goneDoc};
-ghost use Rattle.rows.specs.Table.{rowCount, tableOf};
+ghost use Rattle.rows.specs.Table.{rowCount, headOf, tableOf};
 ghost use Rattle.plain_writer.specs.Change.{freedRows};
 ghost use Rattle.engines.specs.Damage.{soundBy, checkedBy};
 ghost use Rattle.table.specs.Calls.{isOrdered, hasPlace, lookupAt, placeFor, lookupOf, storedNew, storedBy, joinedBy, purgedBy, keysFor};
+use document::Head;
 use document::Metadata;
 use document::Side;
 use document::Stored;
@@ -73,6 +74,20 @@ pub fn is_sound(config: Config, b: &[u8]) -> bool
     }
 }
 
+// The head of any memory, for a step. The walk of the damage test reads it by a function of its own, which is inlined there for having
+// no other caller.
+pub fn head(b: &[u8]) -> Head
+    ensures { λ r. ⌜ r ≡ headOf (now (b .entry)) ⌝ }
+{
+    Head {
+        state: octets::byte(b, 0),
+        mode: octets::byte(b, 1),
+        vbucket: octets::be16(b, 2),
+        clock: octets::be32(b, 4),
+        mark: Cas(octets::be64(b, 8)),
+    }
+}
+
 // Whether there is such a place.
 pub fn has_place(p: Place) -> bool
     ensures { λ r. ⌜ r ≡ hasPlace p ⌝ }
@@ -112,10 +127,13 @@ fn absent(place: Place) -> Lookup
     }
 }
 
-// The place of a key's document: over its row, else a new row's.
+// The place of a key's document: over its row, else a new row's. Requests without a key, as a Noop, look for nothing.
 fn place_for(config: Config, b: &[u8], key: &[u8], new: bool) -> Place
     ensures { λ r. ⌜ r ≡ placeFor config new (now (key .entry)) (tableOf (now (b .entry)) .rows) ⌝ }
 {
+    if (key.len() == 0) & !new {
+        return Place::Full;
+    }
     let engine = config.engine;
     match engine {
         EngineKind::Plain => plain::lookup::place(b, key, new),
@@ -152,7 +170,7 @@ pub fn store(config: Config, b: &mut [u8], l: Lookup, key: &[u8], m: Metadata, v
     let old = l.len;
     let place = l.place;
     match place {
-        Place::Over(i) => plain_writer::store(b, i, key, m, value, old),
+        Place::Over(i) => plain_writer::update(b, i, key.len(), m, value, old),
         Place::Into(i) => store_new(config, b, i, key, m, value),
         Place::Full => {}
     }
@@ -174,7 +192,7 @@ pub fn join(
     let old = l.len;
     let place = l.place;
     match place {
-        Place::Over(i) => plain_writer::join(b, i, key, m, side, value, old),
+        Place::Over(i) => plain_writer::join(b, i, key.len(), m, side, value, old),
         Place::Into(i) => store_new(config, b, i, key, m, value),
         Place::Full => {}
     }

@@ -19,6 +19,17 @@ fn more_if(on: bool, n: u64) -> u64
     if on { numbers::next(n) } else { n }
 }
 
+// Before any frame.
+pub fn none() -> Tally
+    ensures { λ r. ⌜ r ≡ (record { served = 0; refused = 0; silent = 0 }) ⌝ }
+{
+    Tally {
+        served: 0,
+        refused: 0,
+        silent: 0,
+    }
+}
+
 // The counts after an answer.
 pub fn counted(t: Tally, r: Served) -> Tally
     ensures { λ x. ⌜ x ≡ countedOf t r ⌝ }

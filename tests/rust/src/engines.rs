@@ -25,7 +25,7 @@ pub fn arranged(engine: Engine, memory: &[u8]) -> Vec<u8> {
     if engine == Engine::Plain {
         return arranged;
     }
-    let used = table.rows.iter().enumerate().filter_map(|(place, row)| row.map(|row| (row.key, place)));
+    let used = table.rows().enumerate().filter_map(|(place, row)| row.map(|row| (row.key, place)));
     let mut used: Vec<(&[u8], usize)> = used.collect();
     used.sort_unstable();
     arranged[HEADER..].fill(0);
@@ -38,7 +38,7 @@ pub fn arranged(engine: Engine, memory: &[u8]) -> Vec<u8> {
 /// What a table holds, row places aside: its header, and documents and tombstones by key. None where it is damaged.
 pub fn contents(engine: Engine, memory: &[u8]) -> Option<(Head, Vec<Row<'_>>)> {
     let table = Table::read(engine, memory).ok()?;
-    let mut rows: Vec<Row> = table.rows.into_iter().flatten().collect();
+    let mut rows: Vec<Row> = table.rows().flatten().collect();
     rows.sort_unstable_by_key(|row| row.key);
     Some((table.head, rows))
 }

@@ -4,6 +4,7 @@ use crate::answers::{lifetime, Activated, Document, Fields, Purged, Ran, Request
 use crate::frame::Frame;
 use crate::generate::GET_KEYS;
 use crate::rendering::bytes::u32_at;
+use crate::rendering::owner::DAMAGED;
 use crate::rendering::table::{ACTIVE, KEPT_AT};
 use std::time::{Duration, Instant};
 
@@ -148,6 +149,7 @@ impl<'s> Pair<'s> {
         state_agrees(&first, &self.before.table, &one.table)?;
         for store in self.stores {
             round_trip(store, call, &first, &one.out)?;
+            one_by_one(store, call, &first, &self.before, one)?;
         }
         Ok(first)
     }
@@ -273,6 +275,28 @@ fn round_trip(store: &dyn Store, call: &Call, answer: &Answer, out: &[u8]) -> Re
         }
         _ => Ok(()),
     }
+}
+
+/// A run is answered, replied and counted as its frames are one by one, each by a call of its own until one is refused, and
+/// leaves the same table. Where the table is damaged no frame is served.
+fn one_by_one(store: &dyn Store, call: &Call, answer: &Answer, before: &State, after: &State) -> Result<(), String> {
+    let (Call::Run { clock, received, .. }, Answer::Ran(ran)) = (call, answer) else {
+        return Ok(());
+    };
+    let State { mut table, mut tally, mut out } = before.clone();
+    out.resize(after.out.len(), FILLING);
+    let mut sum = Ran::default();
+    while sum.outcome == 0 {
+        let (rest, room) = (&received[sum.used..], &mut out[sum.reply..]);
+        let Served { outcome, used, reply, needed, .. } = store.serve(&mut table, *clock, rest, room, &mut tally);
+        sum = Ran { outcome, used: sum.used + used, reply: sum.reply + reply, needed };
+    }
+    same("the answer of a run, then of its frames one by one,", ran, &sum)?;
+    same("the tally of a run, then of its frames one by one,", &after.tally, &tally)?;
+    same_bytes("the reply of a run, then of its frames one by one,", &after.out, &out)?;
+    same_bytes("the table of a run, then of its frames one by one,", &after.table, &table)?;
+    let served_on_damage = ran.outcome == DAMAGED && ran.used + ran.reply > 0;
+    same("whether a run on a damaged table served a frame", &false, &served_on_damage)
 }
 
 /// The fields that a request read from these bytes shows.

@@ -2,11 +2,12 @@
 
 use crate::answers::Tally;
 use crate::frame::Frame;
-use crate::rendering::request::HEADER as FRAME_HEADER;
+use crate::rendering::request::{first_frame, HEADER as FRAME_HEADER};
 use crate::rendering::serving::ROOM;
 use crate::rendering::table::{row_at, ROW};
 use crate::session::{Call, Session};
 use std::cell::Cell;
+use std::iter::successors;
 
 /// How many sessions are tried at most.
 const TRIES: u32 = 200_000;
@@ -87,7 +88,8 @@ fn simpler_calls(call: &Call) -> Forms<'_, Call> {
             let with = move |clock, received: &[u8]| Call::Run { clock, room, received: received.to_vec() };
             let served = Call::Serve { clock, room, received: received.clone() };
             let clocks = lower(clock).map(move |clock| with(clock, received));
-            Box::new([served].into_iter().chain(clocks).chain(shorter_runs(received).map(move |run| with(clock, &run))))
+            let runs = fewer_frames(received).chain(shorter_runs(received)).map(move |run| with(clock, &run));
+            Box::new([served].into_iter().chain(clocks).chain(runs))
         }
         &Call::Read { clock, ref key } => {
             let clocks = lower(clock).map(|clock| Call::Read { clock, key: key.clone() });
@@ -118,6 +120,29 @@ fn smaller(bytes: &[u8]) -> Forms<'_, Vec<u8>> {
         cleared
     });
     Box::new(cut.chain(cleared))
+}
+
+/// The run without half of its frames, a quarter of them, and so on to single ones.
+fn fewer_frames(received: &[u8]) -> Forms<'_, Vec<u8>> {
+    let frames = frames_of(received);
+    let sizes = successors(Some(frames.len() / 2), |size| Some(size / 2)).take_while(|&size| size > 0);
+    let spans: Vec<_> = sizes.flat_map(|size| (0..frames.len()).step_by(size).map(move |at| (at, at + size))).collect();
+    let without = move |(from, to): (usize, usize)| {
+        let after = &frames[to.min(frames.len())..];
+        [&frames[..from], after].concat().concat()
+    };
+    Box::new(spans.into_iter().map(without))
+}
+
+/// The frames of a run; what follows the last whole one is the last.
+fn frames_of(mut received: &[u8]) -> Vec<&[u8]> {
+    let mut frames = Vec::new();
+    while let Ok(frame) = first_frame(received) {
+        frames.push(frame);
+        received = &received[frame.len()..];
+    }
+    frames.extend(Some(received).filter(|rest| !rest.is_empty()));
+    frames
 }
 
 /// The run without its first frame, or with that frame's body shortened, or smaller as bytes.

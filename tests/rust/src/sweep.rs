@@ -82,8 +82,8 @@ fn refuses(answer: &Answer) -> bool {
 /// table made active.
 fn calls(memory: &[u8], mode: u8) -> Vec<Call> {
     let mut keys: Vec<&[u8]> = vec![b"contact-1", b"contact-2", b"contact-3"];
-    let found = Table::read(Engine::Plain, memory).map(|table| table.rows).unwrap_or_default();
-    keys.extend(found.iter().flatten().map(|row| row.key));
+    let found = Table::read(Engine::Plain, memory).into_iter().flat_map(|table| table.rows().flatten());
+    keys.extend(found.map(|row| row.key));
     keys.sort_unstable();
     keys.dedup();
     let reads = keys.iter().flat_map(|key| CLOCKS.map(|clock| Call::Read { clock, key: key.to_vec() }));

@@ -102,6 +102,19 @@ fn a_fault_that_both_stores_of_an_engine_share_is_found_by_the_other_engine() {
 }
 
 #[test]
+fn a_run_that_is_not_its_frames_one_by_one_is_found() {
+    // all four serve a Delete by the same fault, and none has it in a run
+    let stores: Stores =
+        [[&Faulty(Engine::Plain), &Faulty(Engine::Plain)], [&Faulty(Engine::Ordered), &Faulty(Engine::Ordered)]];
+    let mut comparison = Comparison::new(stores, 1);
+    let session = comparison.run(100_000).expect_err("the fault is found");
+    let (small, what) = comparison.shrunk(session);
+    assert!(what.starts_with("call 0: plain engine: the reply of a run, then of its frames one by one,"), "{what}");
+    // a write and the Delete of its key, of 250 bytes at most
+    assert!(matches!(&small.calls[..], [Call::Run { received, .. }] if received.len() < 600), "{}", to_text(&small));
+}
+
+#[test]
 fn a_failing_trace_is_made_small() {
     let found = TraceComparison::new(STORES, 1).run(10_000).expect_err("the fault is found");
     assert!(found.what.starts_with("rows in key order: answer differs:"), "{}", found.what);

@@ -1,7 +1,7 @@
 use mathlib.Core.Path.{sym, _∙_}
 use Rattle.octets.specs.Parts.{Bytes}
 use Rattle.engines.proofs.Checks.{damaged-by, sound-by}
-use Rattle.owner.proofs.Reading.{later-at, purge-refused, purge-done}
+use Rattle.owner.proofs.Reading.{purge-refused, purge-stepped}
 use borrow.Author.Needs.{needs}
 use Rattle.owner.proofs.purge.Statement.{statement}
 use Rattle.owner.proofs.purge.Tie as tie
@@ -12,17 +12,11 @@ checked-requires c κs = search needs
 enum-told : tie.Need-enum-told
 enum-told c = search needs
 
-enum-known-head : tie.Need-enum-known-head
-enum-known-head c = search needs
+enum-told-2 : tie.Need-enum-told-2
+enum-told-2 c = search needs
 
-later-requires : tie.Need-later-requires
-later-requires c κs = search needs
-
-put-clock-requires : tie.Need-put-clock-requires
-put-clock-requires c κs = search needs
-
-purge-requires : tie.Need-purge-requires
-purge-requires c κs = search needs
+purge-step-requires : tie.Need-purge-step-requires
+purge-step-requires c κs = tt
 
 same-length : tie.Need-same-length
 same-length c = search needs
@@ -36,18 +30,12 @@ same-length-2 c = search needs
 
 returns-2 : tie.Need-returns-2
 returns-2 c =
-    let at2 = c .before .before in
-    let at6 = at2 .before .before .before .before in
-    let at8 = at6 .before .before in
-    let at10 = at8 .before .before in
-    let at12 = at10 .before .before in
-    let at14 = at12 .before .before in
-    let start = at14 .before in
-    let a = (start .args) in
-    let y : Bytes (a .s .now) = λ k. at14 .slice-known .given k .fits in
-    let whole = sound-by _ _ _ (sym (at12 .checked .ensures) ∙ at10 .head .given .1) in
-    purge-done (a .config) (a .s .now) (a .clock) (a .bound .0) _ _ _ _ y (start .fits .clock .fits) (whole .0) (later-at (a .s .now) (a .clock) _ _ (whole .1) (at8 .later .ensures))
-    (at6 .put-clock .ensures) (at2 .purge .ensures .0) (at2 .purge .ensures .1)
+    let step = c .before .before .purge-step in
+    let start = c .before .before .before .before .before .before .before .before .before in
+    let a = start .args in
+    let y : Bytes (a .s .now) = λ k. c .before .before .before .before .before .before .before .before .slice-known .given k .fits in
+    let whole = sound-by _ _ _ (sym (c .before .before .before .before .before .before .checked .ensures) ∙ c .before .before .before .before .enum-told2 .given .1) in
+    purge-stepped (a .config) (a .s .now) (a .clock) (a .bound .0) _ _ y (start .fits .clock .fits) (whole .0) (step .ensures .0) (step .ensures .1)
 
 pub purge-spec : {M : Type 1} → statement M
 purge-spec =
@@ -55,10 +43,8 @@ purge-spec =
     (tie.spec
     checked-requires
     enum-told
-    enum-known-head
-    later-requires
-    put-clock-requires
-    purge-requires
+    enum-told-2
+    purge-step-requires
     same-length
     returns
     same-length-2

@@ -8,9 +8,8 @@ rows-in-requires c κs = tt
 
 returns : tie.Need-returns
 returns c =
-    let at5 = c .before .before .before .before .before in
-    let a = (at5 .args) in
-    join-nowhere (a .b .now) (a .i) (a .key .now) (a .m) (a .side) (a .value .now) (a .old) (rw ((c .before .rows-in) .ensures) at ((c .if1) .taken))
+    let a = c .before .before .before .before .args in
+    join-nowhere (a .b .now) (a .i) (a .k) (a .m) (a .side) (a .value .now) (a .old) (rw (c .before .rows-in .ensures) at (c .if1 .taken))
 
 mul-at : tie.Need-mul-at
 mul-at c = search needs
@@ -38,11 +37,10 @@ same-length c = search needs
 
 returns-2 : tie.Need-returns-2
 returns-2 c =
-    let at4 = c .before .before .before .before in
-    let at5 = at4 .before in
-    let at9 = at5 .before .before .before .before in
-    let a = (at9 .args) in
-    join-there (a .b .now) (a .i) (a .key .now) (a .m) (a .side) (a .value .now) (a .old) (rw (at5 .rows-in .ensures) at (at4 .if1 .left)) _ ((c .before .before .join-row) .ensures)
+    let t = c .before .before .before .before in
+    let n = t .before in
+    let a = n .before .before .before .args in
+    join-there (a .b .now) (a .i) (a .k) (a .m) (a .side) (a .value .now) (a .old) (rw (n .rows-in .ensures) at (t .if1 .left)) _ (c .before .before .join-row .ensures)
 
 pub join-spec : {M : Type 1} → statement M
 join-spec =

@@ -1,7 +1,7 @@
 use borrow.Author.Needs.{needs}
 use mathlib.Core.Path.{refl, sym, _∙_}
 use borrow.Author.Tests.{ne-eqb}
-use Rattle.replay.proofs.Opening.{opens, other-size, unopened, opened}
+use Rattle.replay.proofs.Opening.{opens, made-sound, other-size, unopened, opened}
 use Rattle.replay.proofs.replay.Statement.{statement}
 use Rattle.replay.proofs.replay.Tie as tie
 
@@ -34,7 +34,9 @@ replay-fields-requires c κs =
     let c10 = c8 .before .before in
     let c14 = c10 .before .before .before .before in
     let o = opens (c14 .args .trace .now) _ _ (sym (c10 .opening-of .ensures) ∙ c8 .mode .given .1) in
-    (refl, (o .least, o .most))
+    let m = c .before .before .before .before .before in
+    let sound = made-sound (c14 .args .b .now) _ _ (c10 .before .if1 .left) _ _ (o .known) (m .before .before .known-told .given .1 .0 .1) (m .make .ensures .1) in
+    (sound, (refl, (o .least, o .most)))
 
 returns-2 : tie.Need-returns-2
 returns-2 c =

@@ -1,4 +1,5 @@
 use Rattle.serve.proofs.Gates.{gate-damaged, gated}
+use Rattle.serve.proofs.Stepping.{stepped}
 use Rattle.engines.proofs.Checks.{damaged-by, sound-by}
 use lib.ListN.{length}
 use mathlib.Core.Path.{refl, sym, _∙_}
@@ -16,10 +17,8 @@ enum-told c = search needs
 enum-known-head : tie.Need-enum-known-head
 enum-known-head c = search needs
 
-serve-sound-requires : tie.Need-serve-sound-requires
-serve-sound-requires c κs =
-    let m = c .before .before .before in
-    sound-by (m .before .before .before .before .before .before .before .args .config) _ _ (sym (m .before .before .checked .ensures) ∙ m .head .given .1)
+step-requires : tie.Need-step-requires
+step-requires c κs = search needs
 
 same-length : tie.Need-same-length
 same-length c = search needs
@@ -40,7 +39,13 @@ same-length-3 : tie.Need-same-length-3
 same-length-3 c = search needs
 
 returns-2 : tie.Need-returns-2
-returns-2 c = c .before .before .before .before .serve-sound .ensures
+returns-2 c =
+    let m = c .before .before .before .before .before .before .before .before in
+    let f = m .before .before .before .before .before .before .before in
+    let a = f .args in
+    let sound = sound-by (a .config) _ _ (sym (m .before .before .checked .ensures) ∙ m .head .given .1) in
+    stepped (a .config) (now (a .b)) _ (a .clock) (now (a .s)) (now (a .out)) _ _ _ (λ i. m .before .before .before .before .before .before .slice-known .given i .fits)
+    (λ i. m .before .before .before .before .before .shared-slice-known .given i .fits) (f .fits .clock .fits) (sound .0) (sound .1) (c .before .before .before .before .step .ensures)
 
 pub serve-one-spec : {M : Type 1} → statement M
 serve-one-spec =
@@ -49,7 +54,7 @@ serve-one-spec =
     checked-requires
     enum-told
     enum-known-head
-    serve-sound-requires
+    step-requires
     same-length
     returns
     same-length-2

@@ -6,8 +6,8 @@ use Rattle.table.proofs.store.Tie as tie
 enum-known-place : tie.Need-enum-known-place
 enum-known-place c = search needs
 
-store-requires : tie.Need-store-requires
-store-requires c κs = tt
+update-requires : tie.Need-update-requires
+update-requires c κs = tt
 
 enum-known-place-2 : tie.Need-enum-known-place-2
 enum-known-place-2 c = search needs
@@ -23,7 +23,7 @@ same-length c = search needs
 
 returns : tie.Need-returns
 unfolding storedBy
-returns c = rw ((c .before .before .before .before .before .place) .given .1) ((c .before .before .store) .ensures)
+returns c = rw ((c .before .before .before .before .before .place) .given .1) ((c .before .before .update) .ensures)
 
 same-length-2 : tie.Need-same-length-2
 same-length-2 c = search needs
@@ -41,7 +41,7 @@ store-spec =
     tie.close
     (tie.spec
     enum-known-place
-    store-requires
+    update-requires
     enum-known-place-2
     store-new-requires
     enum-told

@@ -45,7 +45,10 @@ fn compare(seed: u64, calls: u64) -> Result<String, String> {
     println!("{}\nrendering {rendering}, library {library}", comparison.coverage.summary());
     let missing = if made < FULL { Vec::new() } else { comparison.coverage.missing(&comparison.generator) };
     if missing.is_empty() {
-        Ok(format!("{made} calls compared on both engines with seed {seed}: no difference"))
+        let frames = comparison.coverage.frames_in_runs();
+        Ok(format!(
+            "{made} calls compared on both engines with seed {seed}, {frames} frames in long runs: no difference"
+        ))
     } else {
         Err(format!("never met, or too seldom, in {made} calls with seed {seed}:\n  {}", missing.join("\n  ")))
     }

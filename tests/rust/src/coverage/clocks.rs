@@ -323,10 +323,10 @@ fn leaves_out(before: &[u8], kept: u32, clock: u32, request: &View, served: &Ser
     let Ok(table) = Table::read(Engine::Plain, before) else {
         return false;
     };
-    let from = || table.rows.iter().flatten().filter(|row| row.key >= request.key);
+    let from = || table.rows().flatten().filter(|row| row.key >= request.key);
     let live = from().filter(|row| row.live(kept.max(clock)));
     let whole = FRAME_HEADER + live.map(|row| 4 + row.key.len()).sum::<usize>();
-    served.status == 0 && served.reply == whole && from().any(|row| past_by_kept(row, kept, clock))
+    served.status == 0 && served.reply == whole && from().any(|row| past_by_kept(&row, kept, clock))
 }
 
 /// A plain write's expiry as given.
@@ -379,5 +379,5 @@ fn row(memory: &[u8], key: &[u8], is_such: impl Fn(&Row) -> bool) -> Option<Numb
 }
 
 fn any_row(memory: &[u8], is_such: impl Fn(&Row) -> bool) -> bool {
-    Table::read(Engine::Plain, memory).is_ok_and(|table| table.rows.iter().flatten().any(is_such))
+    Table::read(Engine::Plain, memory).is_ok_and(|table| table.rows().flatten().any(|row| is_such(&row)))
 }

@@ -221,8 +221,8 @@ fn user(request: &View, status: u8) -> Option<User> {
 
 /// Whether the reply's length is that of every live key from the start on.
 fn lists_all(before: &[u8], clock: u32, request: &View, served: &Served) -> bool {
-    let live = |row: &&Row| row.live(clock) && row.key >= request.key;
-    let length = |table: Table| table.rows.iter().flatten().filter(live).map(|row| 4 + row.key.len()).sum::<usize>();
+    let live = |row: &Row| row.live(clock) && row.key >= request.key;
+    let length = |table: Table| table.rows().flatten().filter(live).map(|row| 4 + row.key.len()).sum::<usize>();
     Table::read(Engine::Plain, before).is_ok_and(|table| served.reply == FRAME_HEADER + length(table))
 }
 
@@ -231,7 +231,7 @@ fn decided(before: &[u8], clock: u32, user: User, goes_by: impl Fn(&Row) -> bool
     let Ok(table) = Table::read(Engine::Plain, before) else {
         return Vec::new();
     };
-    let rows = table.rows.iter().flatten().filter(|row| goes_by(row));
+    let rows = table.rows().flatten().filter(goes_by);
     let mut met: Vec<Met> =
         rows.filter_map(|row| near(row.left(clock)?)).map(|near| Met::Decided { user, near }).collect();
     met.sort_unstable();

@@ -177,7 +177,7 @@ fn listed(before: &[u8], clock: u32, request: &View, served: &Served) -> Vec<Lis
     let Ok(table) = Table::read(Engine::Plain, before) else {
         return Vec::new();
     };
-    let rows: Vec<Row> = table.rows.into_iter().flatten().collect();
+    let rows: Vec<Row> = table.rows().flatten().collect();
     let by_place: Vec<&[u8]> = rows.iter().filter(|row| row.live(clock)).map(|row| row.key).collect();
     let mut keys: Vec<&[u8]> = by_place.iter().copied().filter(|&key| key >= request.key).collect();
     keys.sort_unstable();

@@ -9,6 +9,7 @@ mod layouts;
 mod lifetimes;
 mod listings;
 mod orders;
+mod runs;
 mod searches;
 mod situations;
 pub mod voyages;
@@ -23,6 +24,7 @@ use crate::session::{Answer, Call};
 use contests::Contest;
 use forces::Passage;
 use layouts::Carriers;
+use runs::Runs;
 use situations::Situation;
 use std::collections::BTreeMap;
 use std::fmt::{Debug, Write};
@@ -49,12 +51,21 @@ pub struct Coverage {
     joined: Option<(u8, Vec<u8>)>,
     carriers: Carriers,
     passage: Passage,
+    /// By engine.
+    runs: [Runs; 2],
+    /// How many frames the long runs have served.
+    frames_in_runs: u64,
 }
 
 impl Coverage {
-    /// How many calls were counted.
+    /// How many calls were counted. A run is one of them, however many frames it has.
     pub fn calls(&self) -> u64 {
         self.calls
+    }
+
+    /// How many frames the runs of a hundred or more have served, by the plain engine.
+    pub fn frames_in_runs(&self) -> u64 {
+        self.frames_in_runs
     }
 
     /// Counts the tables that a session starts with, the plain engine's first.
@@ -64,6 +75,7 @@ impl Coverage {
         self.joined = None;
         self.carriers.forget();
         self.passage = Passage::default();
+        self.runs = Default::default();
         *self.sizes.entry(situations::rows(table)).or_default() += 1;
         self.meet(situations::of_start(table, start.damage));
         self.meet([Situation::Clock(clocks::of_start(table))]);
@@ -91,6 +103,12 @@ impl Coverage {
         self.meet(forces::of_form(call, answer).map(Situation::Force));
         let passed = self.passage.of_call(before, call, answer);
         self.meet(passed.map(Situation::Force));
+        let ran = [(Engine::Plain, before, answer), (Engine::Ordered, ordered, by_order)]
+            .map(|(engine, table, answer)| self.runs[engine as usize].of_call(engine, table, call, answer));
+        self.meet(ran.into_iter().flatten().map(Situation::Run));
+        let (frames, met) = runs::of_frames(before, call, answer);
+        self.frames_in_runs += frames;
+        self.meet(met.into_iter().map(Situation::Run));
         let joined = self.joined.take();
         if matches!(call, Call::Run { .. } | Call::Make { .. }) {
             self.carriers.forget();

@@ -266,8 +266,8 @@ struct Sorted<'t> {
 impl<'t> Sorted<'t> {
     fn read(memory: &'t [u8]) -> Option<Sorted<'t>> {
         let table = Table::read(Engine::Ordered, memory).ok()?;
-        let free = table.rows.iter().filter(|row| row.is_none()).count();
-        Some(Sorted { size: size(memory), free, rows: table.rows.into_iter().flatten().collect() })
+        let free = table.rows().filter(|row| row.is_none()).count();
+        Some(Sorted { size: size(memory), free, rows: table.rows().flatten().collect() })
     }
 
     /// How many rows come before a key, and whether it has one.

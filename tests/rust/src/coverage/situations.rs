@@ -1,6 +1,6 @@
 //! Situations that a run must come to, told from the table, the frame and the answer, whatever was aimed at.
 
-use super::{clocks, forces, joins, layouts, lifetimes, listings, orders, searches};
+use super::{clocks, forces, joins, layouts, lifetimes, listings, orders, runs, searches};
 use crate::answers::{Engine, Served};
 use crate::generate::keys::{bucket, fingerprint};
 use crate::generate::tables::Damage;
@@ -15,7 +15,7 @@ use crate::rendering::table::{Kind, Row, Table, ACTIVE, DEAD, HEADER, KEY, KEY_A
 use crate::session::Answer;
 
 pub const WITH_META: [u8; 6] = [0xa2, 0xa3, 0xa4, 0xa5, 0xa8, 0xa9];
-const QUIET: [u8; 13] = [0x09, 0x0d, 0x11, 0x12, 0x13, 0x14, 0x15, 0x16, 0x19, 0x1a, 0xa3, 0xa5, 0xa9];
+pub const QUIET: [u8; 13] = [0x09, 0x0d, 0x11, 0x12, 0x13, 0x14, 0x15, 0x16, 0x19, 0x1a, 0xa3, 0xa5, 0xa9];
 const EXISTS: u8 = Status::Exists as u8;
 const INVALID: u8 = Status::Invalid as u8;
 const NOT_MY_VBUCKET: u8 = Status::NotMyVbucket as u8;
@@ -122,6 +122,7 @@ pub enum Situation {
     Order(orders::Met),
     Layout(layouts::Met),
     Force(forces::Met),
+    Run(runs::Met),
 }
 
 impl Situation {
@@ -140,6 +141,7 @@ impl Situation {
             Situation::Layout(met) if met.is_rare() => calls / 250_000,
             Situation::Force(met) if met.is_rare() => calls / 250_000,
             Situation::Order(met) => calls / met.once_in(),
+            Situation::Run(met) => calls / met.once_in(),
             _ => calls / 50_000,
         }
     }
@@ -170,6 +172,7 @@ pub fn expected() -> Vec<Situation> {
     expected.extend(orders::expected().into_iter().map(Situation::Order));
     expected.extend(layouts::expected().into_iter().map(Situation::Layout));
     expected.extend(forces::expected().into_iter().map(Situation::Force));
+    expected.extend(runs::expected().into_iter().map(Situation::Run));
     expected
 }
 

@@ -10,6 +10,7 @@ mod listings;
 pub mod orders;
 mod parts;
 mod requests;
+mod runs;
 pub mod tables;
 mod voyages;
 
@@ -35,6 +36,9 @@ pub const BUILT: [u8; 31] = [
 
 pub const GET_KEYS: u8 = 0xb8;
 
+/// One session in so many is about long runs.
+const RUNS_ONCE_IN: usize = 150;
+
 /// What of a table shapes the next call: its rows, and a stand-in for the header of a damaged one. Rows in any order are seen.
 struct Sight<'t> {
     damaged: bool,
@@ -49,14 +53,14 @@ struct Sight<'t> {
 impl<'t> Sight<'t> {
     fn of(memory: &'t [u8]) -> Sight<'t> {
         match Table::read(Engine::Plain, memory) {
-            Ok(Table { head, rows, .. }) => Sight {
+            Ok(table @ Table { head, .. }) => Sight {
                 damaged: false,
                 state: head.state,
                 mode: head.mode,
                 vbucket: head.vbucket,
                 kept: head.kept,
                 mark: head.mark.0,
-                rows: rows.into_iter().flatten().collect(),
+                rows: table.rows().flatten().collect(),
             },
             Err(_) => Sight {
                 damaged: true,
@@ -88,6 +92,8 @@ pub struct Generator {
     clock: u32,
     lists: bool,
     ends: bool,
+    /// Whether it is about long runs.
+    runs: bool,
     /// Whether it purges more often.
     purges: bool,
     /// Whether it asks for option 0x01 more often.
@@ -118,6 +124,7 @@ impl Generator {
             clock: 0,
             lists: false,
             ends: false,
+            runs: false,
             purges: false,
             forces: false,
             joined: None,
@@ -129,17 +136,22 @@ impl Generator {
     pub fn start(&mut self) -> Start {
         self.lists = self.random.percent(6);
         self.ends = self.random.percent(5);
+        self.runs = !self.lists && self.random.below(RUNS_ONCE_IN) == 0;
         self.forces = false;
         self.joined = None;
         self.carried = None;
-        let rows = if self.lists { self.listed_row_count() } else { self.row_count() };
+        let rows = match (self.lists, self.runs) {
+            (true, _) => self.listed_row_count(),
+            (_, true) => self.run_row_count(),
+            _ => self.row_count(),
+        };
         self.clock = self.session_clock();
         self.keys = if self.lists { self.listed_keys(rows) } else { self.session_keys(rows) };
         let table = self.table(rows);
         if !self.lists && self.random.percent(if rows > 12 { 40 } else { 16 }) {
             return self.damaged(table);
         }
-        let calls = if rows > 12 || self.lists { 8 } else { self.random.between(10, 60) };
+        let calls = if rows > 12 || self.lists || self.runs { 8 } else { self.random.between(10, 60) };
         // now and then both engines are lent the rows out of order
         let arranged = self.random.percent(98);
         Start { session: self.session(table, arranged), damage: None, in_order: arranged, calls }
@@ -173,6 +185,9 @@ impl Generator {
     /// The next call on the engines' tables, the plain one's first. Where rows in key order alone are damaged, it is one of
     /// those that find damage or any.
     pub fn call(&mut self, [table, ordered]: [&[u8]; 2]) -> Call {
+        if self.runs {
+            return self.call_about_runs(table);
+        }
         let sight = Sight::of(table);
         if sight.damaged || (!sound(Engine::Ordered, ordered) && self.random.percent(60)) {
             return self.call_on_damage(table, &sight);
@@ -223,32 +238,6 @@ impl Generator {
             _ => ROOM,
         };
         Call::Serve { clock, room, received }
-    }
-
-    /// Frames one after another; some runs are cut, some hold a frame that is refused, some run out of room.
-    fn run(&mut self, sight: &Sight) -> Call {
-        let clock = self.clock_near(sight);
-        let frames = self.random.between(0, 6);
-        let mut received: Vec<u8> = (0..frames).flat_map(|_| self.run_frame(sight, clock)).collect();
-        if self.random.percent(30) {
-            received.truncate(self.random.below(received.len() + 1));
-        }
-        received.shrink_to_fit();
-        let replies = self.random.below(frames + 1) * *self.random.pick(&[24, 32, 33, 100, ROOM]);
-        let room = match self.random.below(3) {
-            0 => ROOM * (frames + 1),
-            1 => ROOM + replies,
-            _ => (ROOM + replies).saturating_sub(self.random.below(3)),
-        };
-        Call::Run { clock, room, received }
-    }
-
-    fn run_frame(&mut self, sight: &Sight, clock: u32) -> Vec<u8> {
-        if self.random.percent(6) {
-            self.received(sight).1
-        } else {
-            self.request(sight, clock).bytes()
-        }
     }
 
     /// A purge's bound, around the CAS numbers in the table.

@@ -69,24 +69,24 @@ pub fn decide<'t, 'f>(rule: Rule, table: &Table<'t>, clock: u32, request: &View<
     }
     request.size_rule()?;
     vbucket_rule(&table.head, request)?;
-    let key = Key::find(table, clock, request);
+    let key = || Key::find(table, clock, request);
     match request.shape.command {
         Command::Noop => Ok(Effect::Nothing),
         Command::Version => Ok(Effect::TellVersion),
-        Command::Get => key.get(false),
-        Command::GetK => key.get(true),
-        Command::Set | Command::Add | Command::Replace => key.store(clock).map(Effect::Store),
-        Command::Delete => key.delete().map(Effect::Store),
-        Command::Increment | Command::Decrement => key.count(clock).map(Effect::Store),
-        Command::SetWithMeta | Command::AddWithMeta | Command::DeleteWithMeta => key.with_meta().map(Effect::Store),
+        Command::Get => key().get(false),
+        Command::GetK => key().get(true),
+        Command::Set | Command::Add | Command::Replace => key().store(clock).map(Effect::Store),
+        Command::Delete => key().delete().map(Effect::Store),
+        Command::Increment | Command::Decrement => key().count(clock).map(Effect::Store),
+        Command::SetWithMeta | Command::AddWithMeta | Command::DeleteWithMeta => key().with_meta().map(Effect::Store),
         Command::GetKeys => {
             let count = KeysExtras::read(request.extras).count;
             Ok(Effect::List(listing(table, clock, request.key, count)))
         }
-        Command::Append => key.join(Content::Appended(request.value)).map(Effect::Store),
-        Command::Prepend => key.join(Content::Prepended(request.value)).map(Effect::Store),
-        Command::Touch => key.touch(clock).map(|(_, write)| Effect::Store(write)),
-        Command::GetAndTouch => key.touch(clock).map(|(row, write)| Effect::StoreAndShow { write, row }),
+        Command::Append => key().join(Content::Appended(request.value)).map(Effect::Store),
+        Command::Prepend => key().join(Content::Prepended(request.value)).map(Effect::Store),
+        Command::Touch => key().touch(clock).map(|(_, write)| Effect::Store(write)),
+        Command::GetAndTouch => key().touch(clock).map(|(row, write)| Effect::StoreAndShow { write, row }),
     }
 }
 

@@ -9,7 +9,7 @@ pub const MAX_LISTING: usize = 1_278;
 /// in byte order, each once, stopping at the count or before the first key that would carry the value past 1,278 bytes.
 /// None found is [...] an empty value. [...] a prefix sorts first". Every key is at or after an empty start.
 pub fn listing(table: &Table, clock: u32, start: &[u8], count: u32) -> Vec<u8> {
-    let live = table.rows.iter().flatten().filter(|row| row.live(clock));
+    let live = table.rows().flatten().filter(|row| row.live(clock));
     let mut keys: Vec<&[u8]> = live.map(|row| row.key).filter(|&key| key >= start).collect();
     keys.sort_unstable();
     let mut value = Vec::with_capacity(MAX_LISTING);

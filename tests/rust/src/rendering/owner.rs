@@ -107,7 +107,7 @@ pub fn purge(engine: Engine, memory: &mut [u8], clock: u32, bound: u64) -> Purge
 
 fn purged(table: &Table, clock: u32, bound: Cas) -> Vec<usize> {
     let goes = |row: &Row| !row.live(clock) && row.numbers.cas <= bound;
-    (0..table.rows.len()).filter(|&place| table.rows[place].as_ref().is_some_and(goes)).collect()
+    (0..table.size()).filter(|&place| table.row(place).as_ref().is_some_and(goes)).collect()
 }
 
 /// Order 9: "a new owner call makes one active, leaves an active one, and changes nothing but the state. It answers 5 on a

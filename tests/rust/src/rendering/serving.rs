@@ -42,30 +42,31 @@ pub fn serve_by(
     reply: &mut [u8],
     tally: &mut Tally,
 ) -> Served {
-    match serve_frame(rule, engine, memory, clock, received, reply) {
-        Ok(served) => {
-            count(tally, served.status, served.reply);
-            served
-        }
-        Err(Refusal { outcome, needed }) => Served { outcome, needed, ..Served::default() },
-    }
+    let stepped = damage_test(engine, memory).and_then(|()| step(rule, engine, memory, clock, received, reply, tally));
+    stepped.unwrap_or_else(|Refusal { outcome, needed }| Served { outcome, needed, ..Served::default() })
 }
 
-/// The "outcomes of serving, in the order tested". Order 2: "serving a frame with any status" raises the kept clock, and
-/// "outcomes 1 to 5" don't.
-fn serve_frame(
+/// The first of the "outcomes of serving, in the order tested".
+fn damage_test(engine: Engine, memory: &[u8]) -> Result<(), Refusal> {
+    Table::read(engine, memory).map(drop).map_err(|Damaged| Refusal { outcome: DAMAGED, needed: 0 })
+}
+
+/// The other outcomes, on a table that is known to be sound, and its frame counted where that is 0. Order 2: "serving a frame
+/// with any status" raises the kept clock, and "outcomes 1 to 5" don't.
+fn step(
     rule: Rule,
     engine: Engine,
     memory: &mut [u8],
     clock: u32,
     received: &[u8],
     reply: &mut [u8],
+    tally: &mut Tally,
 ) -> Result<Served, Refusal> {
-    let table = Table::read(engine, memory).map_err(|Damaged| Refusal { outcome: DAMAGED, needed: 0 })?;
     if reply.len() < ROOM {
         return Err(Refusal { outcome: NO_ROOM, needed: 0 });
     }
     let frame = first_frame(received)?;
+    let table = Table::known(engine, memory);
     let later = table.head.later(clock);
     let decision = view(frame).and_then(|request| decide(rule, &table, later, &request));
     let status = decision.as_ref().map_or_else(|&status| status as u8, |_| 0);
@@ -75,6 +76,7 @@ fn serve_frame(
         store(memory, mark, &write);
     }
     write_kept(memory, later);
+    count(tally, status, sent);
     Ok(Served { outcome: 0, status, used: frame.len(), reply: sent, needed: 0 })
 }
 
@@ -167,7 +169,7 @@ fn store(memory: &mut [u8], mark: Cas, write: &Write) {
 }
 
 /// "A cursor over a run of received frames is handed back advanced by what was consumed": frame after frame is served
-/// until one is refused, each reply right after the one before.
+/// until one is refused, each reply right after the one before. No served frame damages the table, so that it is tested once.
 pub fn serve_run(
     engine: Engine,
     memory: &mut [u8],
@@ -177,12 +179,17 @@ pub fn serve_run(
     tally: &mut Tally,
 ) -> Ran {
     let mut ran = Ran::default();
+    if let Err(Refusal { outcome, needed }) = damage_test(engine, memory) {
+        return Ran { outcome, needed, ..ran };
+    }
     loop {
-        let served = serve(engine, memory, clock, &received[ran.used..], &mut reply[ran.reply..], tally);
-        if served.outcome != 0 {
-            return Ran { outcome: served.outcome, needed: served.needed, ..ran };
+        let (received, reply) = (&received[ran.used..], &mut reply[ran.reply..]);
+        match step(Rule::New, engine, memory, clock, received, reply, tally) {
+            Ok(served) => {
+                ran.used += served.used;
+                ran.reply += served.reply;
+            }
+            Err(Refusal { outcome, needed }) => return Ran { outcome, needed, ..ran },
         }
-        ran.used += served.used;
-        ran.reply += served.reply;
     }
 }

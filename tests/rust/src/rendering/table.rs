@@ -85,15 +85,16 @@ impl Row<'_> {
     }
 }
 
-/// What memory holds that is sound for an engine; the rows by place, the free ones as `None`.
-#[derive(Debug)]
+/// Memory that is sound for an engine.
+#[derive(Clone, Copy, Debug)]
 pub struct Table<'a> {
     pub engine: Engine,
     pub head: Head,
-    pub rows: Vec<Option<Row<'a>>>,
+    memory: &'a [u8],
 }
 
 impl<'a> Table<'a> {
+    /// Memory tested for damage.
     pub fn read(engine: Engine, memory: &'a [u8]) -> Result<Table<'a>, Damaged> {
         let head = read_head(memory)?;
         let rows = memory[HEADER..].chunks_exact(ROW).map(read_row).collect::<Result<Vec<_>, _>>()?;
@@ -102,16 +103,43 @@ impl<'a> Table<'a> {
             Engine::Plain => keys_differ(&rows),
             Engine::Ordered => in_key_order(&rows),
         })?;
-        Ok(Table { engine, head, rows })
+        Ok(Table { engine, head, memory })
+    }
+
+    /// Memory that is known to be sound: it was tested, and no call but those of this module has changed it since.
+    pub fn known(engine: Engine, memory: &'a [u8]) -> Table<'a> {
+        let head = read_head(memory).expect("the table is sound");
+        Table { engine, head, memory }
+    }
+
+    /// How many rows there are, free ones too.
+    pub fn size(&self) -> usize {
+        (self.memory.len() - HEADER) / ROW
+    }
+
+    /// The row at a place; none where it is free.
+    pub fn row(&self, place: usize) -> Option<Row<'a>> {
+        sound_row(&self.memory[row_at(place)..][..ROW])
+    }
+
+    /// The rows by place, the free ones as `None`.
+    pub fn rows(&self) -> impl Iterator<Item = Option<Row<'a>>> + use<'a> {
+        self.memory[HEADER..].chunks_exact(ROW).map(sound_row)
+    }
+
+    /// The key of the row at a place; none where it is free.
+    fn key(&self, place: usize) -> Option<&'a [u8]> {
+        let row = &self.memory[row_at(place)..][..ROW];
+        (u16_at(row, 0) != 0).then(|| &row[KEY_AT..][..usize::from(u16_at(row, 2))])
     }
 
     /// The used row of a key, with its place. Order 7: "keys are found by halving".
     pub fn find(&self, key: &[u8]) -> Option<(usize, Row<'a>)> {
         let place = match self.engine {
-            Engine::Plain => self.rows.iter().position(|row| row.is_some_and(|row| row.key == key))?,
+            Engine::Plain => (0..self.size()).find(|&place| self.key(place) == Some(key))?,
             Engine::Ordered => self.keys_before(key),
         };
-        let row = (*self.rows.get(place)?)?;
+        let row = (place < self.size()).then(|| self.row(place))??;
         (row.key == key).then_some((place, row))
     }
 
@@ -126,12 +154,21 @@ impl<'a> Table<'a> {
     }
 
     pub fn lowest_free(&self) -> Option<usize> {
-        self.rows.iter().position(Option::is_none)
+        self.rows().position(|row| row.is_none())
     }
 
     /// How many keys come before this one, in a table in key order.
     fn keys_before(&self, key: &[u8]) -> usize {
-        self.rows.partition_point(|row| row.is_some_and(|row| row.key < key))
+        let (mut low, mut high) = (0, self.size());
+        while low < high {
+            let middle = (low + high) / 2;
+            if self.key(middle).is_some_and(|other| other < key) {
+                low = middle + 1;
+            } else {
+                high = middle;
+            }
+        }
+        low
     }
 }
 
@@ -142,6 +179,23 @@ fn read_head(memory: &[u8]) -> Result<Head, Damaged> {
     let mode = Mode::read(memory[1]).ok_or(Damaged)?;
     let (vbucket, kept, mark) = (u16_at(memory, 2), u32_at(memory, KEPT_AT), Cas(u64_at(memory, 8)));
     Ok(Head { state: memory[0], mode, vbucket, kept, mark })
+}
+
+/// The row that these bytes of a sound table are; none where it is free.
+fn sound_row(row: &[u8]) -> Option<Row<'_>> {
+    let kind = match u16_at(row, 0) {
+        0 => return None,
+        1 => Kind::Document,
+        _ => Kind::Tombstone,
+    };
+    let (key, rest) = row[KEY_AT..].split_at(usize::from(u16_at(row, 2)));
+    let value = &rest[..u32_at(row, 4) as usize];
+    Some(Row { kind, numbers: read_numbers(row), key, value })
+}
+
+fn read_numbers(row: &[u8]) -> Numbers {
+    let (flags, expiry) = (u32_at(row, 8), u32_at(row, 12));
+    Numbers { flags, expiry, revision: Revision(u64_at(row, 16)), cas: Cas(u64_at(row, 24)) }
 }
 
 /// "A row is free, a document, or a tombstone. [...] A tombstone has no value, flags 0, expiry 0. [...] Unused bytes
@@ -159,9 +213,8 @@ fn read_row(row: &[u8]) -> Result<Option<Row<'_>>, Damaged> {
     let (key, rest) = row[KEY_AT..].split_at(key_length);
     let (value, unused) = rest.split_at(value_length);
     require(is_zero(unused))?;
-    let (flags, expiry) = (u32_at(row, 8), u32_at(row, 12));
-    require(kind == Kind::Document || (value.is_empty() && flags == 0 && expiry == 0))?;
-    let numbers = Numbers { flags, expiry, revision: Revision(u64_at(row, 16)), cas: Cas(u64_at(row, 24)) };
+    let numbers = read_numbers(row);
+    require(kind == Kind::Document || (value.is_empty() && numbers.flags == 0 && numbers.expiry == 0))?;
     Ok(Some(Row { kind, numbers, key, value }))
 }
 

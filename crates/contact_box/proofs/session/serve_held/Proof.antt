@@ -1,61 +1,72 @@
 -- `serve_held` serves what is held as a run, and holds what no frame consumed.
-use borrow.Author.Needs.{needs}
 use native.Mathlib.Omega.{arith}
-use Prim.Native.Nat.{ℕ, _-_, _≤_}
+use borrow.Author.Needs.{needs}
+use Prim.Native.Nat.{ℕ, _-_}
 use mathlib.Core.Bool.{Bool, cond}
 use mathlib.Core.List.{List}
-use mathlib.Core.Path.{_≡_, sym, ap, subst, _∙_}
-use lib.ListN.{length, take, drop, length-drop}
-use lib.Seq.{length-take-le}
+use mathlib.Core.Path.{_≡_, refl, sym, ap, subst, _∙_}
+use denote.Ref.{now}
+use lib.ListN.{length, drop}
 use Rattle.engine.specs.declared.Config.{Config}
-use Rattle.tally.specs.declared.Tally.{Tally}
 use Rattle.run.specs.declared.Ran.{Ran}
 use Rattle.run.specs.Run.{calledOn, begun, runEnd, ranOf}
+use Rattle.contact_box.specs.declared.session.Held.{Held}
 use Rattle.contact_box.specs.declared.session.Next.{Next}
-use Rattle.contact_box.specs.declared.recorder.Recorder.{Recorder}
-use Rattle.contact_box.specs.Session.{nextOf, Waits, Goes}
 use Rattle.contact_box.specs.declared.session.Next.the-variants.{Close}
+use Rattle.contact_box.specs.declared.session.Session.{Session}
+use Rattle.contact_box.specs.Session.{heldOf, past, nextOf, Waits, Goes}
+use Rattle.contact_box.proofs.Holding.{held-past, past-fits, ran-inside}
 use Rattle.contact_box.proofs.Waiting.{waits}
 use Rattle.contact_box.proofs.session.serve_held.Statement.{statement}
 use Rattle.contact_box.proofs.session.serve_held.Tie as tie
 
-goes : (config : Config) (clock held n : ℕ) (b b′ s s′ run out : List ℕ) (t : Tally) (r : Ran) (x : Next) (v : Recorder) (written : Bool)
-    → held ≤ length s → run ≡ take held s → r ≡ ranOf config clock run (runEnd config clock run (begun b out t)) → b′ ≡ runEnd config clock run (begun b out t) .table
-    → (n ≡ held - r .cursor .at) × (take n s′ ≡ drop (r .cursor .at) (take held s)) → x ≡ cond written (nextOf (r .stop)) Close
-    → Goes (take held s) held (runEnd config clock (take held s) (begun b out t)) b′ s′ (record { held = n; tally = r .tally; next = x; recorder = v })
+goes : (config : Config) (clock : ℕ) (b b′ s run out : List ℕ) (x : Session) (r : Ran) (h : Held) (next : Next) (written : Bool)
+    → run ≡ heldOf (x .held) s → r ≡ ranOf config clock run (runEnd config clock run (begun b out (x .tally))) → b′ ≡ runEnd config clock run (begun b out (x .tally)) .table
+    → h ≡ past (x .held) (r .cursor .at) → next ≡ cond written (nextOf (r .stop)) Close
+    → Goes (runEnd config clock (heldOf (x .held) s) (begun b out (x .tally))) b′ s x (record { held = h; tally = r .tally; next = next; recorder = x .recorder })
 unfolding ranOf
-goes config clock held n b b′ s s′ run out t r x v written h e q w k f =
-    let z = runEnd config clock (take held s) (begun b out t) in
-    let p : r ≡ ranOf config clock (take held s) z = q ∙ ap (λ (y : List ℕ). ranOf config clock y (runEnd config clock y (begun b out t))) e in
-    let left : n ≡ held - z .at = k .0 ∙ ap (λ (y : Ran). held - y .cursor .at) p in
-    let rest = drop (z .at) (take held s) in
-    let there : length rest ≡ n = omega (arith, length-drop (z .at) (take held s), length-take-le held s h) in
-    let next : cond written (nextOf (calledOn config clock (take held s) z)) Close ≡ x = sym (f ∙ ap (λ (y : Ran). cond written (nextOf (y .stop)) Close) p) in
+goes config clock b b′ s run out x r h next written e q w l f =
+    let y = heldOf (x .held) s in
+    let z = runEnd config clock y (begun b out (x .tally)) in
+    let p : r ≡ ranOf config clock y z = q ∙ ap (λ (v : List ℕ). ranOf config clock v (runEnd config clock v (begun b out (x .tally)))) e in
+    let left : h ≡ past (x .held) (z .at) = l ∙ ap (λ (v : Ran). past (x .held) (v .cursor .at)) p in
+    let kept : heldOf h s ≡ drop (z .at) y = ap (λ (v : Held). heldOf v s) left ∙ held-past (x .held) s (z .at) in
+    let on : next ≡ cond written (nextOf (calledOn config clock y z)) Close = f ∙ ap (λ (v : Ran). cond written (nextOf (v .stop)) Close) p in
     record {
-      stored = w ∙ ap (λ (y : List ℕ). runEnd config clock y (begun b out t) .table) e;
-      counted = ap (λ (y : Ran). y .tally) p;
+      stored = w ∙ ap (λ (v : List ℕ). runEnd config clock v (begun b out (x .tally)) .table) e;
+      counted = ap (λ (v : Ran). v .tally) p;
+      recorded = refl;
       left = left;
-      kept = k .1 ∙ ap (λ (y : Ran). drop (y .cursor .at) (take held s)) p;
-      waits = subst (Waits x) there (subst (λ (y : Next). Waits y (length rest)) next (waits config (z .table) clock rest (length (z .reply) - z .filled) written));
+      kept = kept;
+      waits =
+          subst (λ (v : Next). Waits v (heldOf h s)) (sym on)
+          (subst (Waits (cond written (nextOf (calledOn config clock y z)) Close)) (sym kept) (waits config (z .table) clock (drop (z .at) y) (length (z .reply) - z .filled) written));
     }
 
-part-requires : tie.Need-part-requires
-part-requires c κs = search needs
+held-of-requires : tie.Need-held-of-requires
+held-of-requires c κs = tt
 
 serve-run-requires : tie.Need-serve-run-requires
-serve-run-requires c κs = search needs
+serve-run-requires c κs = tt
 
-part-requires-2 : tie.Need-part-requires-2
-part-requires-2 c κs = search needs
+part-requires : tie.Need-part-requires
+part-requires c κs = tt
 
 write-all-requires : tie.Need-write-all-requires
-write-all-requires c κs = search needs
+write-all-requires c κs = tt
 
-keep-requires : tie.Need-keep-requires
-keep-requires c κs = search needs
+past-requires : tie.Need-past-requires
+past-requires c κs =
+    let c9 = c .before .before .before .before .before .before .before .before .before in
+    let c12 = c9 .before .before .before in
+    let c18 = c12 .before .before .before .before .before .before in
+    let a = c18 .args in
+    past-fits (a .s .held) (now (a .received)) (c9 .serve-run .result .cursor .at) (now (c12 .held-of .result)) (c12 .held-of .ensures)
+    (ran-inside (a .config) (a .clock) (now (c12 .held-of .result)) (now (a .table)) (now (a .replies)) (a .s .tally) (c9 .serve-run .result) (c9 .serve-run .ensures .0))
+    (omega (arith, c18 .good .1 .1 .1 .1 .1 .0)) (omega (arith, c18 .good .1 .1 .1 .0))
 
 next-after-requires : tie.Need-next-after-requires
-next-after-requires c κs = search needs
+next-after-requires c κs = tt
 
 same-length : tie.Need-same-length
 same-length c = search needs
@@ -63,36 +74,27 @@ same-length c = search needs
 same-length-2 : tie.Need-same-length-2
 same-length-2 c = search needs
 
-same-length-3 : tie.Need-same-length-3
-same-length-3 c = search needs
-
 returns : tie.Need-returns
 returns c =
-    let c10 = c .before .before .before .before .before .before .before .before .before .before in
-    let c20 = c10 .before .before .before .before .before .before .before .before .before .before in
-    let args = c20 .before .before .args in
-    let pre = c20 .before .before .pre in
-    let part = c10 .before .before .before .before .before .before .part in
-    let serve-run = c10 .before .before .before .before .serve-run in
-    let write-all = c .before .before .before .before .before .before .before .write-all in
-    let a = args in
-    let ran = serve-run in
-    let k = c .before .before .before .keep in
-    goes (a .config) (a .clock) (a .held) (k .result) (a .table .now) (ran .last .1 .0) (a .received .now) (k .last .0) (part .result .now) (a .replies .now) (a .t)
-    (ran .result) (c .next-after .result) (a .recorder) (write-all .result) pre (part .ensures) (ran .ensures .0) (ran .ensures .1 .0) (k .ensures)
-    (c .next-after .ensures)
+    let c4 = c .before .before .before .before in
+    let c11 = c4 .before .before .before .before .before .before .before in
+    let c14 = c11 .before .before .before in
+    let c20 = c14 .before .before .before .before .before .before in
+    let a = c20 .args in
+    goes (a .config) (a .clock) (now (a .table)) (c11 .serve-run .last .1 .0) (now (a .received)) (now (c14 .held-of .result)) (now (a .replies)) (a .s)
+    (c11 .serve-run .result) (c .before .past .result) (c .next-after .result) (c4 .write-all .result) (c14 .held-of .ensures) (c11 .serve-run .ensures .0)
+    (c11 .serve-run .ensures .1 .0) (c .before .past .ensures) (c .next-after .ensures)
 
 pub serve-held-spec : {M : Type 1} → statement M
 serve-held-spec =
     tie.close
     (tie.spec
-    part-requires
+    held-of-requires
     serve-run-requires
-    part-requires-2
+    part-requires
     write-all-requires
-    keep-requires
+    past-requires
     next-after-requires
     same-length
     same-length-2
-    same-length-3
     returns)

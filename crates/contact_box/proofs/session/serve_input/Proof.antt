@@ -1,15 +1,14 @@
--- `serve_input` is safe and ends: what is held stands inside the received bytes, with room for more where more is to come, and the turns fall.
+-- `serve_input` is safe and ends: there is room where more is to come, and the turns fall.
 use borrow.Author.Needs.{needs}
-use Prim.Native.Nat.{_≤_}
 use mathlib.Core.Path.{_≡_}
 use lib.ListN.{length}
-use Rattle.contact_box.specs.Session.{Waits}
+use Rattle.contact_box.specs.Session.{heldOf, Waits}
 use Rattle.contact_box.proofs.session.serve_input.Statement.{statement}
 use Rattle.contact_box.proofs.session.serve_input.Tie as tie
 
 abbrev Inv-loop : tie.InvT-loop
 Inv-loop table₀ received₀ replies₀ s₀ turns₀ table received replies s turns =
-    (length table ≡ length table₀) × ((length received ≡ length received₀) × ((length replies ≡ length replies₀) × ((s .held ≤ length received) × Waits (s .next) (s .held))))
+    (length table ≡ length table₀) × ((length received ≡ length received₀) × ((length replies ≡ length replies₀) × Waits (s .next) (heldOf (s .held) received)))
 
 abbrev μ-loop : tie.MeasureT-loop
 μ-loop table₀ received₀ replies₀ s₀ turns₀ table received replies s turns = turns
@@ -30,7 +29,7 @@ loop-less : tie.Need-loop-less Inv-loop μ-loop
 loop-less c = search needs
 
 loop-again : tie.Need-loop-again Inv-loop μ-loop
-loop-again c = (search needs, (search needs, (search needs, (search needs, c .before .before .before .before .before .before .turn .ensures .1))))
+loop-again c = (search needs, (search needs, (search needs, c .before .before .before .before .before .before .turn .ensures)))
 
 same-length : tie.Need-same-length Inv-loop μ-loop
 same-length c = search needs

@@ -1,8 +1,9 @@
 -- `turn` reads only where there is room.
 use borrow.Author.Needs.{needs}
 use mathlib.Core.Path.{subst}
+use denote.Ref.{now}
 use Rattle.contact_box.specs.declared.session.Next.{Next}
-use Rattle.contact_box.specs.Session.{Waits}
+use Rattle.contact_box.specs.Session.{heldOf, Waits}
 use Rattle.contact_box.proofs.session.turn.Statement.{statement}
 use Rattle.contact_box.proofs.session.turn.Tie as tie
 
@@ -11,14 +12,15 @@ enum-told c = search needs
 
 receive-on-requires : tie.Need-receive-on-requires
 receive-on-requires c κs =
-    let s = c .before .before .before .before .before .before .before .before .before .before in
-    (subst (λ (n : Next). Waits n (s .args .s .held)) (c .before .before .before .enum-told .given .1) (s .pre .1 .1), s .pre .1 .0)
+    let c6 = c .before .before .before .before .before .before in
+    let a = c6 .args in
+    (subst (λ (n : Next). Waits n (heldOf (a .s .held) (now (a .received)))) (c .before .enum-told .given .1) (c6 .pre .1), c6 .pre .0)
 
 enum-told-2 : tie.Need-enum-told-2
 enum-told-2 c = search needs
 
 serve-some-requires : tie.Need-serve-some-requires
-serve-some-requires c κs = search needs
+serve-some-requires c κs = tt
 
 enum-told-3 : tie.Need-enum-told-3
 enum-told-3 c = search needs
@@ -26,23 +28,17 @@ enum-told-3 c = search needs
 same-length : tie.Need-same-length
 same-length c = search needs
 
+returns : tie.Need-returns
+returns c = search needs
+
 same-length-2 : tie.Need-same-length-2
 same-length-2 c = search needs
 
 same-length-3 : tie.Need-same-length-3
 same-length-3 c = search needs
 
-returns : tie.Need-returns
-returns c = search needs
-
 same-length-4 : tie.Need-same-length-4
 same-length-4 c = search needs
-
-same-length-5 : tie.Need-same-length-5
-same-length-5 c = search needs
-
-same-length-6 : tie.Need-same-length-6
-same-length-6 c = search needs
 
 returns-2 : tie.Need-returns-2
 returns-2 c = search needs
@@ -60,11 +56,9 @@ turn-spec =
     serve-some-requires
     enum-told-3
     same-length
+    returns
     same-length-2
     same-length-3
-    returns
     same-length-4
-    same-length-5
-    same-length-6
     returns-2
     returns-3)

@@ -1,0 +1,5 @@
+pub mod Framed
+pub mod Parts
+pub mod Answers
+pub mod Storing
+pub mod Told
