@@ -28,7 +28,7 @@ use Rattle.serve.proofs.Stepping.{stepped}
 use Rattle.run.specs.Run.{Stand, begun, calledOn, further, standAfter, runEnd, ranOf}
 use Rattle.run.specs.Frames.{Framed, afterFrame, onAnswer, framesFrom, stepAt, serveAt, Leaves}
 use Rattle.run.specs.declared.Ran.{Ran}
-use Rattle.run.proofs.Runs.{by-served, told, stops, goes}
+use Rattle.run.proofs.Runs.{by-served, consumed, stops, goes}
 
 -- ---- one call
 module _ (call : Stand → Stepped) (x : Stand) (y : Stepped) (e : call x ≡ y) where
@@ -126,9 +126,6 @@ module _ (config : Config) (clock : ℕ) (run : List ℕ) where
   abbrev call : Stand → Stepped
   call = serveAt config clock run
 
-  further-is : (x : Stand) (st used len : ℕ) → afterFrame x (call x) st used len ≡ further config clock run x st used len
-  further-is x st used len = refl
-
   -- enough of them are the run
   pub all-frames : (n : ℕ) (x : Stand) → length run - x .at ≤ n
       → framesFrom call n x ≡ record { stand = standAfter config n clock run x; stop = calledOn config clock run (standAfter config n clock run x) }
@@ -137,14 +134,14 @@ module _ (config : Config) (clock : ℕ) (run : List ℕ) where
       (λ k need e.
       frame-stops call x (call x) refl 0 k need e
       ∙ (λ i. record { stand = sym (stops config clock run 0 k need x e) i; stop = (sym e ∙ ap (calledOn config clock run) (sym (stops config clock run 0 k need x e))) i }))
-      (λ st used len e. let w = told config clock run x st used len e in absurd (omega (arith, w .least, w .inside, length-drop (x .at) run)))
+      (λ st used len e. let w = consumed config clock run x st used len e in absurd (omega (arith, w .least, w .inside, length-drop (x .at) run)))
   all-frames (suc n) x h =
       by-served (calledOn config clock run x)
       (λ k need e.
       let s = sym (stops config clock run (suc n) k need x e) in
       frame-stops call x (call x) refl (suc n) k need e ∙ (λ i. record { stand = s i; stop = (sym e ∙ ap (calledOn config clock run) s) i }))
       (λ st used len e.
-      let w = told config clock run x st used len e in
+      let w = consumed config clock run x st used len e in
       let g = sym (goes config clock run n st used len x e) in
       frame-goes call x (call x) refl n st used len e
       ∙ (all-frames n (further config clock run x st used len) (omega (arith, w .least, w .inside, length-drop (x .at) run))

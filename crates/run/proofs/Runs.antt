@@ -1,4 +1,4 @@
--- Serving a run: a call that is not refused takes a header at least and leaves its reply inside the room, so the calls come to an end.
+-- Serving a run: a call that is not refused takes a header at least, so the calls come to an end.
 use native.Mathlib.Omega.{arith}
 use Prim.Native.Nat.{ℕ, zero, suc, _+_, _-_, _≤_}
 use mathlib.Core.Path.{_≡_, refl, sym, ap, _∙_}
@@ -7,41 +7,31 @@ use mathlib.Core.List.{List}
 use lib.ListN.{length, drop}
 use Rattle.engine.specs.declared.Config.{Config}
 use Rattle.engines.specs.Damage.{soundBy}
-use Rattle.engines.proofs.Tables.{sound-plain}
-use Rattle.octets.specs.Parts.{Bytes}
 use Rattle.request.specs.declared.Gate.{Gate}
 use Rattle.request.specs.declared.Gate.the-variants.{Stop, Whole}
 use Rattle.tally.specs.declared.Tally.{Tally}
 use Rattle.serving.specs.declared.Served.{Served}
 use Rattle.serving.specs.declared.Served.the-variants.{Refused, Done}
-use Rattle.serving.specs.Serve.{gateAll, frameReply, answerBy, served}
-use Rattle.reply.proofs.Frames.{reply-most}
+use Rattle.serving.specs.Serve.{gateAll, answerBy, served}
 use Rattle.serving.proofs.Gated.{was-open}
 use Rattle.serve.proofs.Gates.{gate-damaged}
 use Rattle.run.specs.Run.{Stand, begun, calledOn, further, onDone, standAfter, runEnd, ranOf}
 use Rattle.run.specs.declared.Ran.{Ran}
 
 -- ---- what a call that was not refused did
-pub record Told (b s : List ℕ) (room used len : ℕ) : Type 0 where
+pub record Consumed (s : List ℕ) (used : ℕ) : Type 0 where
   pub least : 24 ≤ used
   pub inside : used ≤ length s
-  pub fits : Bytes b → len ≤ room
 
-done-by : (config : Config) (b s : List ℕ) (clock room st used len : ℕ) (g : Gate) → gateAll config b room s ≡ g → answerBy config b clock s g ≡ Done st used len → Told b s room used len
+done-by : (config : Config) (b s : List ℕ) (clock room st used len : ℕ) (g : Gate) → gateAll config b room s ≡ g → answerBy config b clock s g ≡ Done st used len → Consumed s used
 done-by config b s clock room st used len (Stop k need) q e = absurd (let y : _≡_ {A = ℕ} 0 1 = cc in omega arith)
 done-by config b s clock room st used len (Whole h) q e =
     let u : 24 + h .body ≡ used = cc in
-    let l : length (frameReply config b clock s h) ≡ len = cc in
-    let w = was-open config b s room h q in
-    record {
-      least = omega arith;
-      inside = omega (arith, w .frame .inside);
-      fits = λ y. omega (arith, reply-most config b clock s h y (sound-plain config b (w .undamaged)), w .roomy);
-    }
+    record { least = omega arith; inside = omega (arith, was-open config b s room h q .frame .inside) }
 
-done-told : (config : Config) (b s : List ℕ) (clock room st used len : ℕ) → served config b clock s room ≡ Done st used len → Told b s room used len
+done-consumed : (config : Config) (b s : List ℕ) (clock room st used len : ℕ) → served config b clock s room ≡ Done st used len → Consumed s used
 unfolding served
-done-told config b s clock room st used len e = done-by config b s clock room st used len (gateAll config b room s) refl e
+done-consumed config b s clock room st used len e = done-by config b s clock room st used len (gateAll config b room s) refl e
 
 -- ---- the calls of a run
 pub by-served {ℓ} : {X : Type ℓ} (r : Served) → ((n need : ℕ) → r ≡ Refused n need → X) → ((st used len : ℕ) → r ≡ Done st used len → X) → X
@@ -62,8 +52,8 @@ module _ (config : Config) (clock : ℕ) (run : List ℕ) where
   unfolding standAfter
   goes n st used len x e = ap (on n x) e
 
-  pub told : (x : Stand) (st used len : ℕ) → calledOn config clock run x ≡ Done st used len → Told (x .table) (drop (x .at) run) (length (x .reply) - x .filled) used len
-  told x st used len e = done-told config (x .table) (drop (x .at) run) clock (length (x .reply) - x .filled) st used len e
+  pub consumed : (x : Stand) (st used len : ℕ) → calledOn config clock run x ≡ Done st used len → Consumed (drop (x .at) run) used
+  consumed x st used len e = done-consumed config (x .table) (drop (x .at) run) clock (length (x .reply) - x .filled) st used len e
 
   run-ends : (x : Stand) (k need : ℕ) → calledOn config clock run x ≡ Refused k need → runEnd config clock run x ≡ x
   unfolding runEnd

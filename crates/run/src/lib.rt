@@ -1,4 +1,4 @@
-// A cursor over a run of received frames, and a call that serves a whole run by it.
+// Frames one after another: a cursor over a run of received frames, and a call that serves a whole run with one damage test.
 ghost use mathlib.Core.Path.{_≡_};
 ghost use mathlib.Core.Bool.{true};
 ghost use Rattle.engines.specs.Damage.{soundBy};
