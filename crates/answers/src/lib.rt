@@ -1,5 +1,7 @@
 // The answers as C takes them: structs of numbers, in which outcomes and statuses are document 01's. What an answer
 // doesn't have is 0.
+#![tactic(auto)]
+
 ghost use Rattle.std.specs.Prelude.{◌≡◌};
 ghost use Rattle.answers.specs.Answers.{served_answer, ran_answer, part_of, lifetime_of, live_answer, no_document, document_answer, purged_answer, activated_answer, request_refused, request_shown, request_answer, written_answer, replayed_answer};
 
@@ -14,14 +16,14 @@ use tally::Tally;
 
 // Bytes of a frame or of a table: a place counted from its first byte, and a length.
 #[repr(C)]
-#[derive(Drop)]
+#[derive(Clone, Copy)]
 pub struct Part {
     pub at: usize,
     pub len: usize,
 }
 
 #[repr(C)]
-#[derive(Drop)]
+#[derive(Clone, Copy)]
 pub struct ServedAnswer {
     pub outcome: u8,
     pub status: u8,
@@ -32,7 +34,7 @@ pub struct ServedAnswer {
 
 // Why a run stopped, and what was consumed and answered before.
 #[repr(C)]
-#[derive(Drop)]
+#[derive(Clone, Copy)]
 pub struct RanAnswer {
     pub outcome: u8,
     pub used: usize,
@@ -41,7 +43,7 @@ pub struct RanAnswer {
 }
 
 #[repr(C)]
-#[derive(Drop)]
+#[derive(Clone, Copy)]
 pub struct DocumentAnswer {
     pub outcome: u8,
     pub status: u8,
@@ -56,14 +58,14 @@ pub struct DocumentAnswer {
 }
 
 #[repr(C)]
-#[derive(Drop)]
+#[derive(Clone, Copy)]
 pub struct PurgedAnswer {
     pub outcome: u8,
     pub freed: usize,
 }
 
 #[repr(C)]
-#[derive(Drop)]
+#[derive(Clone, Copy)]
 pub struct ActivatedAnswer {
     pub outcome: u8,
     pub status: u8,
@@ -71,7 +73,7 @@ pub struct ActivatedAnswer {
 
 // The value ends with `meta` bytes of extended meta.
 #[repr(C)]
-#[derive(Drop)]
+#[derive(Clone, Copy)]
 pub struct RequestAnswer {
     pub outcome: u8,
     pub status: u8,
@@ -87,7 +89,7 @@ pub struct RequestAnswer {
 }
 
 #[repr(C)]
-#[derive(Drop)]
+#[derive(Clone, Copy)]
 pub struct WrittenAnswer {
     pub outcome: u8,
     pub status: u8,
@@ -95,7 +97,7 @@ pub struct WrittenAnswer {
 }
 
 #[repr(C)]
-#[derive(Drop)]
+#[derive(Clone, Copy)]
 pub struct ReplayedAnswer {
     pub outcome: u8,
     // 1: differs, 2: stopped, both at a place; 3: replayed, so many frames

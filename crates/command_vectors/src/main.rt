@@ -15,6 +15,8 @@
 // size of the value; incr and decr DELTA INITIAL EXPIRY; setm, addm and delm, the with-meta writes, FLAGS EXPIRY REVISION CAS OPTIONS
 // SIZE; append and prepend SIZE; touch and gat, Get-and-touch, EXPIRY. Numbers are decimal, or hexadecimal after 0x, and count by as many low bits as their field has. A request changes nothing for the
 // next line. Any other line is answered by `what?`.
+#![tactic(auto)]
+
 mod requests;
 mod setting;
 mod show;

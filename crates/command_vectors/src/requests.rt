@@ -5,7 +5,7 @@ use commands::{Command, Counter, Instruction, Kind, Meta, MetaKind, Plain, Touch
 use document::Side;
 use numbers::Cas;
 
-#[derive(Drop)]
+#[derive(Clone, Copy)]
 pub(crate) enum Decoded {
     Request(Instruction),
     Unknown,

@@ -7,7 +7,7 @@ use document::{Head, Metadata, Stored};
 use numbers::Cas;
 
 // The setting after a line, and whether the line sets something: else it is the one before.
-#[derive(Drop)]
+#[derive(Clone, Copy)]
 pub(crate) struct Changed {
     pub(crate) setting: Context,
     pub(crate) good: bool,

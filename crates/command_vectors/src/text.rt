@@ -3,21 +3,26 @@ use digits::Number;
 use numbers::{Cas, Numbers, Revision};
 
 // The numbers that a text spells, as many as there is room for, and whether it spells nothing else.
-#[derive(Drop)]
+#[derive(Clone, Copy)]
 pub(crate) struct Fields {
     pub(crate) values: [u64; 8],
     pub(crate) count: usize,
     pub(crate) good: bool,
 }
 
+// Where the first such byte stands, or the text's length where there is none.
+fn find(s: &[u8], mark: u8) -> usize {
+    s.iter().position(|b| *b == mark).unwrap_or(s.len())
+}
+
 // What stands before the first such byte, or all of the text where there is none.
 pub(crate) fn before(s: &[u8], mark: u8) -> &[u8] {
-    octets::part(s, 0, bytes::scan::find(s, 0, s.len(), mark))
+    octets::part(s, 0, find(s, mark))
 }
 
 // What stands after the first such byte.
 pub(crate) fn after(s: &[u8], mark: u8) -> &[u8] {
-    let at = bytes::scan::find(s, 0, s.len(), mark);
+    let at = find(s, mark);
     if at < s.len() {
         return octets::rest(s, at + 1);
     }

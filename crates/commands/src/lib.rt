@@ -1,6 +1,8 @@
 // What a request asks for, and the status it gets: decided by value from the table's head, the row of the request's key and
 // whether a row is free. The tests of each family of commands are in read_status, write_status and meta_status; effects has what
 // is done where none fails.
+#![tactic(auto)]
+
 pub mod status;
 
 ghost use Rattle.std.specs.Prelude.{◌≡◌};
@@ -10,7 +12,7 @@ use digits::Number;
 use document::{Head, Side, Stored};
 use numbers::{Cas, Numbers};
 
-#[derive(Drop)]
+#[derive(Clone, Copy)]
 pub enum Kind {
     Set,
     Add,
@@ -18,7 +20,7 @@ pub enum Kind {
 }
 
 // Set, Add and Replace.
-#[derive(Drop)]
+#[derive(Clone, Copy)]
 pub struct Plain {
     pub kind: Kind,
     pub flags: u32,
@@ -26,7 +28,7 @@ pub struct Plain {
 }
 
 // Increment (up) and Decrement.
-#[derive(Drop)]
+#[derive(Clone, Copy)]
 pub struct Counter {
     pub up: bool,
     pub delta: u64,
@@ -35,13 +37,13 @@ pub struct Counter {
 }
 
 // Touch, and Get-and-touch, whose reply shows the document.
-#[derive(Drop)]
+#[derive(Clone, Copy)]
 pub struct Touching {
     pub expiry: u32,
     pub shown: bool,
 }
 
-#[derive(Drop)]
+#[derive(Clone, Copy)]
 pub enum MetaKind {
     Set,
     Add,
@@ -49,7 +51,7 @@ pub enum MetaKind {
 }
 
 // A with-meta write and its options: force 0x01, last 0x02, regenerate 0x04, skip 0x08.
-#[derive(Drop)]
+#[derive(Clone, Copy)]
 pub struct Meta {
     pub kind: MetaKind,
     pub numbers: Numbers,
@@ -59,7 +61,7 @@ pub struct Meta {
     pub skip: bool,
 }
 
-#[derive(Drop)]
+#[derive(Clone, Copy)]
 pub enum Command {
     // whether the reply carries the key
     Get(bool),
@@ -77,7 +79,7 @@ pub enum Command {
 }
 
 // A request whose form is right, its key and value aside.
-#[derive(Drop)]
+#[derive(Clone, Copy)]
 pub struct Instruction {
     pub vbucket: u16,
     pub cas: Cas,
@@ -91,7 +93,7 @@ pub struct Instruction {
 
 // What a decision sees beside the request: the table's head, the key's row, whether a row is free, the clock, and of the stored
 // value the number that it says and its size.
-#[derive(Drop)]
+#[derive(Clone, Copy)]
 pub struct Context {
     pub head: Head,
     pub row: Stored,
@@ -103,7 +105,7 @@ pub struct Context {
 
 // What each status asks, in 01's order with those of orders 4 and 9: 0x04, 0x83, 0x03, 0x07, 0x05, 0x01, 0x02, 0x03 of a joined
 // value, 0x06, 0x84, 0x82.
-#[derive(Drop)]
+#[derive(Clone, Copy)]
 pub struct Tests {
     pub fault: bool,
     pub unsupported: bool,

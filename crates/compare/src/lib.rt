@@ -1,4 +1,6 @@
 // Comparing bytes in lent memory: whether two parts are the same, and whether one is all zero.
+#![tactic(auto)]
+
 ghost use Rattle.std.specs.Prelude.{◌≡◌, length};
 ghost use Rattle.octets.specs.Compare.{zeros, same};
 

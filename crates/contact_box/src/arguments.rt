@@ -10,7 +10,7 @@ const REVISION: u8 = 1;
 const LAST_WRITE_WINS: u8 = 2;
 
 // What is wrong: that the arguments are not three or four, or one of them.
-#[derive(Drop)]
+#[derive(Clone, Copy)]
 pub(crate) enum Fault {
     Count,
     Rows,
@@ -20,7 +20,7 @@ pub(crate) enum Fault {
 }
 
 // A table to serve on, or one to record on, which has the rows of the table that a trace is replayed on.
-#[derive(Drop)]
+#[derive(Clone, Copy)]
 pub(crate) enum Parsed {
     Table { rows: usize, vbucket: u16, mode: u8 },
     Recorded { vbucket: u16, mode: u8 },

@@ -17,6 +17,8 @@
 // says its tally and the kept clock on standard error, and how much it recorded or where it stopped to. Arguments that it can't serve by,
 // or a TRACE that can't be opened, get a line there and nothing else. The exit status is 0 in every
 // case, since a Rattle program has no other.
+#![tactic(auto)]
+
 mod arguments;
 mod clock;
 mod recorder;

@@ -10,7 +10,7 @@ use trace_writer::BEGINNING;
 
 // Nothing is recorded; all is, so far; or the recording has stopped for good: the next fields would make the trace longer than one
 // may be, or the file couldn't be written.
-#[derive(Drop)]
+#[derive(Clone, Copy)]
 pub(crate) enum Recording {
     Off,
     On,
@@ -19,7 +19,7 @@ pub(crate) enum Recording {
 }
 
 // at: the trace's length, which is the place of its next field; clock: the one that it told last, 0 before any.
-#[derive(Drop)]
+#[derive(Clone, Copy)]
 pub(crate) struct Recorder {
     file: i32,
     at: usize,

@@ -12,7 +12,7 @@ use serving::Served;
 use tally::Tally;
 
 // What is next: read on, serve on with the reply area free again, or end.
-#[derive(Drop)]
+#[derive(Clone, Copy)]
 pub(crate) enum Next {
     Receive,
     Serve,
@@ -20,13 +20,13 @@ pub(crate) enum Next {
 }
 
 // Where the received bytes that no frame has consumed start and end.
-#[derive(Drop)]
+#[derive(Clone, Copy)]
 pub(crate) struct Held {
     at: usize,
     end: usize,
 }
 
-#[derive(Drop)]
+#[derive(Clone, Copy)]
 pub(crate) struct Session {
     held: Held,
     pub(crate) tally: Tally,

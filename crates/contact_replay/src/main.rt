@@ -13,12 +13,13 @@
 // P is the offset of a field's tag. The trace ends where the input does, or where it can't be read on: what was read until then is
 // replayed. Of an input over 65,536 bytes one byte more is read, and no frame of it is served. Input may come in pieces of any
 // size. The exit status is 0 in every case, since a Rattle program has no other.
+#![tactic(auto)]
+
 ghost use Rattle.std.specs.Prelude.{◌≡◌, ◌+◌, ◌≤◌, length, take};
 ghost use Rattle.replay.specs.Replay.{replayed, replay_outcome};
 ghost use Rattle.contact_replay.specs.Line.{said, line_of};
 
 use engine::Config;
-use libc::{STDIN_FILENO, STDOUT_FILENO};
 use replay::Ending;
 
 // Room for a trace, and for one byte more, which tells that it is too long. The contract gives only the length, which lending needs.
@@ -75,12 +76,12 @@ fn main() {
     let mut trace = room();
     let mut table = memory();
     let mut line = [0u8; 30];
-    let n = io::read_full(STDIN_FILENO, &mut trace);
+    let n = io::read_full(0, &mut trace);
     let len = answer(
         engine::config_for(false),
         &mut table,
         octets::part(&trace, 0, n),
         &mut line,
     );
-    io::write_all(STDOUT_FILENO, octets::part(&line, 0, len));
+    io::write_all(1, octets::part(&line, 0, len));
 }

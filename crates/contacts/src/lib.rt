@@ -1,5 +1,7 @@
 // The calls for C and Rust: numbers and byte slices in, a struct of numbers out, each with the contract of the call that
 // it passes on. include/contacts.h documents them.
+#![tactic(auto)]
+
 ghost use Rattle.std.specs.Prelude.{◌≡◌, length};
 ghost use Rattle.engine.specs.Config.{config_for};
 ghost use Rattle.engines.specs.Damage.{sound_by};

@@ -1,4 +1,6 @@
 // The decision on a request: its command's status, and what it does where that is 0.
+#![tactic(auto)]
+
 ghost use Rattle.std.specs.Prelude.{◌≡◌, true, false};
 ghost use Rattle.numbers.specs.Expiry.{passes};
 ghost use Rattle.commands.specs.Rules.{get_rule, list_rule, noop_rule, plain_rule, write_rule, delete_rule, count_rule, meta_rule, is_add_meta, join_rule, touch_rule};
@@ -10,7 +12,7 @@ use document::Side;
 use effects::{Done, Reply};
 use numbers::Cas;
 
-#[derive(Drop)]
+#[derive(Clone, Copy)]
 pub struct Decision {
     pub status: u8,
     pub silent: bool,

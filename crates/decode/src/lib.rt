@@ -1,4 +1,6 @@
 // What a whole frame asks for: opcode and extras become a command, and the value is told from its extended meta.
+#![tactic(auto)]
+
 ghost use Rattle.std.specs.Prelude.{◌≡◌};
 ghost use Rattle.decode.specs.Decode.{plain_of, counter_of, touch_of, meta_command, family_of, instruction_with, list_decoded, meta_decoded, decoded_by};
 
@@ -56,7 +58,7 @@ fn meta_of(kind: MetaKind, w: WithMeta) -> Command
 }
 
 // How an operation's command is told: at once, or from extras of one of five kinds.
-#[derive(Drop)]
+#[derive(Clone, Copy)]
 enum Family {
     Bare(Command),
     Stored(Kind),
@@ -114,7 +116,7 @@ fn instruction_with(
 }
 
 // A frame's field rules are broken, or what it asks for.
-#[derive(Drop)]
+#[derive(Clone, Copy)]
 pub enum Decoded {
     Broken,
     Whole(Instruction),

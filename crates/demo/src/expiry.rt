@@ -17,7 +17,7 @@ const BEFORE_COLUMN: usize = 27;
 const EXPIRY_COLUMN: usize = 62;
 
 // A command's opcode, and whether its request names the contact's CAS.
-#[derive(Drop)]
+#[derive(Clone, Copy)]
 struct Try {
     opcode: u8,
     by_cas: bool,

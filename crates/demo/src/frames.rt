@@ -18,7 +18,7 @@ pub(crate) const SIZE: usize = rows::HEADER + ROWS * rows::ROW;
 pub(crate) const ROOM: usize = serving::ROOM;
 
 // When a request is served, and what its header says.
-#[derive(Drop)]
+#[derive(Clone, Copy)]
 pub(crate) struct Call {
     pub(crate) clock: u32,
     pub(crate) opcode: u8,

@@ -1,5 +1,7 @@
 // Tells three failures of earlier versions at sea, and what this one answers. Each answer printed is the store's own, on a
 // table in memory; the clocks are fixed, so the story is the same every time.
+#![tactic(auto)]
+
 mod erased;
 mod expiry;
 mod fleet;

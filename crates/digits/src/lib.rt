@@ -1,9 +1,11 @@
 // Decimal numbers as bytes: a counter's value read and written.
+#![tactic(auto)]
+
 ghost use Rattle.std.specs.Prelude.{◌≡◌, cond, [], ◌∷◌, ◌+◌, ◌≤◌, ◌<◌, length, leb};
 ghost use Rattle.octets.specs.Parts.{pasted};
 ghost use Rattle.digits.specs.Decimal.{digits, number_of, number_from};
 
-#[derive(Drop)]
+#[derive(Clone, Copy)]
 pub enum Number {
     Value(u64),
     NoNumber,

@@ -1,4 +1,6 @@
 // What a store of documents is, apart from how memory holds it.
+#![tactic(auto)]
+
 ghost use Rattle.std.specs.Prelude.{◌≡◌};
 ghost use Rattle.document.specs.Head.{raised, at_clock};
 ghost use Rattle.document.specs.Stored.{alive, live, is_document, has_row, numbers_of, accepted, gone};
@@ -6,7 +8,7 @@ ghost use Rattle.document.specs.Stored.{alive, live, is_document, has_row, numbe
 use numbers::{Cas, Mode, Numbers, Revision};
 
 // A table's head.
-#[derive(Drop)]
+#[derive(Clone, Copy)]
 pub struct Head {
     // 1 active, 2 replica, 3 pending, 4 dead
     pub state: u8,
@@ -20,20 +22,20 @@ pub struct Head {
 }
 
 // What a used row holds for its key, the value aside.
-#[derive(Drop)]
+#[derive(Clone, Copy)]
 pub struct Metadata {
     pub tomb: bool,
     pub numbers: Numbers,
 }
 
-#[derive(Drop)]
+#[derive(Clone, Copy)]
 pub enum Stored {
     Nothing,
     Used(Metadata),
 }
 
 // The side of a stored value at which another is joined to it.
-#[derive(Drop)]
+#[derive(Clone, Copy)]
 pub enum Side {
     Front,
     Back,

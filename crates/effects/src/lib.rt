@@ -1,5 +1,7 @@
 // What a command does once no test fails: what is stored, the reply and the new head. Bytes stand apart: it says where a
 // value comes from, and serving puts it in.
+#![tactic(auto)]
+
 ghost use Rattle.std.specs.Prelude.{◌≡◌, cond, false};
 ghost use Rattle.effects.specs.Done.{nothing, storing, plain_numbers, found, write_done, delete_done, sum, counted, count_done, meta_numbers, meta_done, join_done, touch_done};
 
@@ -9,7 +11,7 @@ use document::{Head, Metadata, Side, Stored};
 use numbers::{Cas, Numbers};
 
 // Where a stored value comes from.
-#[derive(Drop)]
+#[derive(Clone, Copy)]
 pub enum Source {
     Empty,
     Frame,
@@ -21,7 +23,7 @@ pub enum Source {
 }
 
 // What a reply carries beside its CAS.
-#[derive(Drop)]
+#[derive(Clone, Copy)]
 pub enum Reply {
     Bare,
     // flags and the stored value, and the key where it is true
@@ -32,7 +34,7 @@ pub enum Reply {
     Keys(u32),
 }
 
-#[derive(Drop)]
+#[derive(Clone, Copy)]
 pub struct Done {
     pub store: Stored,
     pub source: Source,

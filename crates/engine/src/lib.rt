@@ -1,11 +1,13 @@
 // What an engine is: rows that are searched by key, written and purged, and the laws that any engine meets, in specs/Engine.antt.
+#![tactic(auto)]
+
 ghost use Rattle.std.specs.Prelude.{◌≡◌};
 ghost use Rattle.engine.specs.Config.{config_for};
 
 use document::Head;
 
 // Where a document for a key is stored.
-#[derive(Drop)]
+#[derive(Clone, Copy)]
 pub enum Place {
     // over the key's row
     Over(usize),
@@ -16,14 +18,14 @@ pub enum Place {
 }
 
 // The head of a table that is not damaged.
-#[derive(Drop)]
+#[derive(Clone, Copy)]
 pub enum Checked {
     Damaged,
     Sound(Head),
 }
 
 // Which engine keeps a table's rows. The table's memory doesn't say it.
-#[derive(Drop)]
+#[derive(Clone, Copy)]
 pub enum EngineKind {
     // rows in place, a new key in the lowest free one
     Plain,
@@ -32,7 +34,7 @@ pub enum EngineKind {
 }
 
 // What a call is told beside its memory and its clock.
-#[derive(Drop)]
+#[derive(Clone, Copy)]
 pub struct Config {
     pub engine: EngineKind,
     // whether option 0x01 of a with-meta write is taken: the rule of old traces, and of nothing else

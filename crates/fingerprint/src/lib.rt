@@ -1,4 +1,6 @@
 // Fingerprints: a number that equal keys share, so that two keys are compared only where their fingerprints agree.
+#![tactic(auto)]
+
 ghost use Rattle.std.specs.Prelude.{◌≡◌};
 ghost use Rattle.fingerprint.specs.Fingerprint.{turned, mixed, lane_of, lane_with, both_lanes, folded, fingerprint, bucket_of, print_among};
 
@@ -17,7 +19,7 @@ fn mix(p: u64, w: u64) -> u64
 }
 
 // A lane of words: their sum, and the sum of what that was after each of them, by which a word counts by its place too.
-#[derive(Drop)]
+#[derive(Clone, Copy)]
 struct Lane {
     words: u64,
     sums: u64,

@@ -1,4 +1,6 @@
 // The 24 bytes that open every frame, request or reply.
+#![tactic(auto)]
+
 ghost use Rattle.std.specs.Prelude.{◌≡◌, ◌≤◌, length};
 ghost use Rattle.octets.specs.Parts.{pasted, written};
 ghost use Rattle.header.specs.Header.{header_of, front_bytes, middle_bytes, back_bytes, header_bytes};
@@ -6,7 +8,7 @@ ghost use Rattle.header.specs.Layout.{layout_of};
 
 use numbers::Cas;
 
-#[derive(Drop)]
+#[derive(Clone, Copy)]
 pub struct Header {
     pub magic: u8,
     pub opcode: u8,
@@ -22,7 +24,7 @@ pub struct Header {
 }
 
 // Where the parts of a frame stand, counted from its start.
-#[derive(Drop)]
+#[derive(Clone, Copy)]
 pub struct Layout {
     pub extras: usize,
     pub key: usize,

@@ -1,11 +1,13 @@
 // The byte order of keys: unsigned bytes, the first that differs decides, and a prefix comes first. Two keys are compared only
 // as far as they are alike.
+#![tactic(auto)]
+
 ghost use Rattle.std.specs.Prelude.{◌≡◌, ◌≤◌, length, take, drop};
 ghost use Rattle.octets.specs.Compare.{same};
 ghost use Rattle.keys.specs.Keys.{side_of};
 
 // On which side of another key a key stands.
-#[derive(Drop)]
+#[derive(Clone, Copy)]
 pub enum Side {
     Less,
     Equal,

@@ -1,1 +1,2 @@
 // The merge theorem: definitions, statement and proof alone, in specs/ and proofs/.
+#![tactic(auto)]

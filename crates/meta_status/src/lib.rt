@@ -1,4 +1,6 @@
 // The status of the with-meta writes.
+#![tactic(auto)]
+
 ghost use Rattle.std.specs.Prelude.{◌≡◌};
 ghost use Rattle.commands.specs.Rules.{is_last, meta_rule, status_by};
 

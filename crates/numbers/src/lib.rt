@@ -1,18 +1,20 @@
 // The numbers of a document: their kinds, the published order, expiry and growth. CAS and revision are two kinds of
 // number that can't be exchanged.
+#![tactic(auto)]
+
 ghost use Rattle.std.specs.Prelude.{◌≡◌, unsigned_abs};
 ghost use Rattle.numbers.specs.Order.{mode_of, above, lead, second, greater};
 ghost use Rattle.numbers.specs.Expiry.{later, seconds_left, is_past, seconds_in, expired, passes, absolute};
 ghost use Rattle.numbers.specs.Growth.{next, cas_after, larger_cas, revision_after, incremented, decremented};
 
-#[derive(Drop)]
+#[derive(Clone, Copy)]
 pub struct Cas(pub u64);
 
-#[derive(Drop)]
+#[derive(Clone, Copy)]
 pub struct Revision(pub u64);
 
 // The four numbers that a document carries, and that the published order compares.
-#[derive(Drop)]
+#[derive(Clone, Copy)]
 pub struct Numbers {
     pub flags: u32,
     pub expiry: u32,
@@ -21,7 +23,7 @@ pub struct Numbers {
 }
 
 // How a table resolves conflicts.
-#[derive(Drop)]
+#[derive(Clone, Copy)]
 pub enum Mode {
     ByRevision,
     LastWrite,
@@ -80,7 +82,7 @@ pub fn later(kept: u32, clock: u32) -> u32
 }
 
 // The time that is left to a document: it never expires, or so many seconds, none or fewer once it has expired.
-#[derive(Drop)]
+#[derive(Clone, Copy)]
 pub enum Left {
     Never,
     Seconds(i64),

@@ -1,5 +1,7 @@
 // Writing bytes into lent memory: numbers, parts, zeros, and a part moved up in place. Every public function is total: a write
 // that doesn't fit changes nothing.
+#![tactic(auto)]
+
 ghost use Rattle.std.specs.Prelude.{◌≡◌, ◌+◌, ◌≤◌, length, replicate};
 ghost use Rattle.octets.specs.Parts.{part, pasted, written};
 ghost use Rattle.octets.specs.BigEndian.{bytes_of};
@@ -31,7 +33,9 @@ fn paste(out: &mut [u8], at: usize, s: &[u8])
     requires { at + length s.now ≤ length out.old }
     ensures { out.new ≡ pasted out.old at s.now }
 {
-    bytes::copy(s, &mut out[at..]);
+    let end = at + s.len();
+    let room = &mut out[at..end];
+    room.copy_from_slice(s);
 }
 
 // The same by 32 bytes, and the last 32 once more, so that no byte is left to a slower loop. Those go by an array, which the
@@ -44,7 +48,7 @@ fn paste_run(out: &mut [u8], at: usize, s: &[u8])
     let last = s.len() - 32;
     paste(out, at, &s[..whole]);
     let mut end = [0u8; 32];
-    bytes::copy(&s[last..], &mut end);
+    end.copy_from_slice(&s[last..]);
     paste(out, at + last, &end);
 }
 
@@ -68,7 +72,7 @@ fn move_chunk(out: &mut [u8], at: usize, by: usize)
 {
     let end = at + 32;
     let mut chunk = [0u8; 32];
-    bytes::copy(&out[at..end], &mut chunk);
+    chunk.copy_from_slice(&out[at..end]);
     paste(out, at + by, &chunk);
 }
 

@@ -1,5 +1,7 @@
 // Bytes in lent memory: parts of a slice, big-endian numbers. Every public function is total: a part that isn't there reads as
 // empty.
+#![tactic(auto)]
+
 ghost use Rattle.std.specs.Prelude.{◌≡◌, ℕ, ◌+◌, ◌-◌, ◌^◌, ◌≤◌, ◌<◌, length, drop, leb};
 ghost use Rattle.octets.specs.Parts.{part};
 ghost use Rattle.octets.specs.BigEndian.{num};

@@ -1,5 +1,7 @@
 // Listing the live keys of rows in key order: the rows are walked from the first one that is not below the start key, and their
 // keys are written as far as they fit.
+#![tactic(auto)]
+
 ghost use Rattle.std.specs.Prelude.{◌≡◌, ◌≤◌, length, drop};
 ghost use Rattle.octets.specs.Parts.{written};
 ghost use Rattle.rows.specs.Row.{row_of};

@@ -1,5 +1,7 @@
 // Finding a key's row, or the place of a new one, by halving: rows in key order, order 7. Every function is total on any bytes; what
 // is found where the rows are in order is in specs/Claims.antt.
+#![tactic(auto)]
+
 ghost use Rattle.std.specs.Prelude.{◌≡◌, ◌&&◌};
 ghost use Rattle.rows.specs.Row.{row_of};
 ghost use Rattle.rows.specs.Table.{table_of};

@@ -1,5 +1,7 @@
 // What changes rows in key order: a new key's row put at its place by moving the rows after it, and a purge that closes the
 // gaps. A document stored over its key's row is the plain engine's. Every public function is total on any bytes.
+#![tactic(auto)]
+
 ghost use Rattle.std.specs.Prelude.{◌≡◌, not, cond, ◌++◌, ◌+◌, ◌*◌, ◌≤◌, length, take, drop};
 ghost use Rattle.octets.specs.Parts.{part, pasted};
 ghost use Rattle.document.specs.Stored.{gone_doc};
@@ -21,7 +23,7 @@ fn copy_row(b: &mut [u8], at: usize, to: usize)
 {
     let end = at + ROW;
     let mut row = [0u8; ROW];
-    bytes::copy(&b[at..end], &mut row);
+    row.copy_from_slice(&b[at..end]);
     octet_writer::put_bytes(b, to, &row);
 }
 

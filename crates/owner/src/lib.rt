@@ -1,4 +1,6 @@
 // The owner's calls on a table in lent memory: make a fresh one, read a document, purge, and make it active.
+#![tactic(auto)]
+
 ghost use Rattle.std.specs.Prelude.{◌≡◌, ◌+◌, ◌*◌, ◌≤◌, length};
 ghost use Rattle.rows.specs.Table.{table_bytes, fresh};
 ghost use Rattle.owning.specs.Owner.{size_of, make_ok, make_outcome, made, read_of, purge_of, purged_bytes, activate_of, activated_bytes};

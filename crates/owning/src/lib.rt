@@ -1,9 +1,11 @@
 // What the owner's calls answer. What they mean is in specs/: definitions that the code and the theorems share.
+#![tactic(auto)]
+
 use numbers::{Left, Numbers};
 
 // Outcome 5; status 0x01, for an expired document with the seconds that are left; or the live document's four numbers, the time that
 // is left, and where its value stands: a place and a length.
-#[derive(Drop)]
+#[derive(Clone, Copy)]
 pub enum Document {
     Damaged,
     Missing,
@@ -12,14 +14,14 @@ pub enum Document {
 }
 
 // Outcome 5, or how many rows were freed.
-#[derive(Drop)]
+#[derive(Clone, Copy)]
 pub enum Purged {
     Damaged,
     Freed(usize),
 }
 
 // Outcome 5; status 0x07, for a dead table; or the table is active.
-#[derive(Drop)]
+#[derive(Clone, Copy)]
 pub enum Activated {
     Damaged,
     Dead,

@@ -1,5 +1,7 @@
 // Whether the keys of plain rows differ, by fingerprints: a key is compared with others only where theirs are the same, and the search for a
 // fingerprint vectorises.
+#![tactic(auto)]
+
 ghost use Rattle.std.specs.Prelude.{◌≡◌, ◌&&◌, map, ◌+◌, ◌*◌, ◌≤◌, length, drop};
 ghost use Rattle.octets.specs.Parts.{part};
 ghost use Rattle.rows.specs.Row.{row_of};

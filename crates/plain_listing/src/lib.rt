@@ -1,5 +1,7 @@
 // Listing the live keys of plain rows: their places are put in key order, with no key copied, and then the keys are written as
 // far as they fit.
+#![tactic(auto)]
+
 ghost use Rattle.std.specs.Prelude.{◌≡◌, ◌++◌, ◌∷◌, ◌+◌, ◌-◌, ◌≤◌, ◌<◌, length, take, drop};
 ghost use Rattle.octets.specs.Parts.{written};
 ghost use Rattle.keys.specs.Keys.{key_below};

@@ -1,5 +1,7 @@
 // What changes the plain engine's rows: an entry stored in the row at a place, and a purge. Every public function is total on
 // any bytes.
+#![tactic(auto)]
+
 ghost use Rattle.std.specs.Prelude.{◌≡◌, ◌++◌, ◌+◌, ◌*◌, ◌≤◌, length, take, drop};
 ghost use Rattle.octets.specs.Parts.{part, pasted};
 ghost use Rattle.document.specs.Stored.{gone_doc};

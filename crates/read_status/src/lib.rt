@@ -1,4 +1,6 @@
 // The status of the commands that store nothing: Get, Get Keys, Noop, Version.
+#![tactic(auto)]
+
 ghost use Rattle.std.specs.Prelude.{◌≡◌};
 ghost use Rattle.commands.specs.Rules.{get_rule, list_rule, noop_rule, status_by};
 

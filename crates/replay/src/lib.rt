@@ -1,5 +1,7 @@
 // Replaying the trace of a voyage on a fresh table: its frames are served and its purges made one by one, and each expected
 // reply is compared with what was sent. The table is sound from the start and stays so: nothing tests it for damage.
+#![tactic(auto)]
+
 ghost use Rattle.std.specs.Prelude.{◌≡◌, true, ◌+◌, ◌≤◌, eqb, length};
 ghost use Rattle.header.specs.Header.{header_of};
 ghost use Rattle.octets.specs.Compare.{same};
@@ -20,7 +22,7 @@ const ACTIVE: u8 = 1;
 
 // Outcome 5, where the lent memory is of another size. Else where the replay ended: at the place of an expected reply that was
 // not sent, at the place of what stopped it, or after so many frames.
-#[derive(Drop)]
+#[derive(Clone, Copy)]
 pub enum Ending {
     Damaged,
     Differs(usize),
@@ -29,7 +31,7 @@ pub enum Ending {
 }
 
 // Between two fields: the place of the next, the clock, the frames served, and how many bytes the last one's reply has.
-#[derive(Drop)]
+#[derive(Clone, Copy)]
 struct Progress {
     at: usize,
     clock: u32,
@@ -37,7 +39,7 @@ struct Progress {
     filled: usize,
 }
 
-#[derive(Drop)]
+#[derive(Clone, Copy)]
 enum Step {
     Goes(Progress),
     Ends(Ending),

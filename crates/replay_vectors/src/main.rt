@@ -9,6 +9,8 @@
 // Each trace is replayed on rows in key order, in memory filled with ee. Where it stops at 0, ` CHANGED` follows unless the memory is
 // as it was. ` ENGINES DIFFER` follows if the plain engine answers otherwise, or leaves other documents. If memory one byte short or
 // one too long isn't refused unchanged, `WRONG SIZE TAKEN` is the first line.
+#![tactic(auto)]
+
 mod alike;
 mod text;
 

@@ -2,9 +2,14 @@
 // it, or where the text can't be read, and then none that comes after moves it.
 use digits::Number;
 
+// Where the first such byte stands, or the text's length where there is none.
+fn find(s: &[u8], mark: u8) -> usize {
+    s.iter().position(|b| *b == mark).unwrap_or(s.len())
+}
+
 // What stands before the first such byte, or all of the text where there is none.
 pub(crate) fn before(s: &[u8], mark: u8) -> &[u8] {
-    octets::part(s, 0, bytes::scan::find(s, 0, s.len(), mark))
+    octets::part(s, 0, find(s, mark))
 }
 
 // The value of a hexadecimal digit, or 16 where it is none.

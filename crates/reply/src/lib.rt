@@ -1,4 +1,6 @@
 // A reply's bytes: written at the start of the reply area, from a decision or, for a frame that was refused, from its status alone.
+#![tactic(auto)]
+
 ghost use Rattle.std.specs.Prelude.{◌≡◌, cond, [], ◌++◌, ◌+◌, ◌≤◌, length};
 ghost use Rattle.octets.specs.Parts.{written};
 ghost use Rattle.octets.specs.BigEndian.{bytes_of};

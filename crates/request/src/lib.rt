@@ -1,5 +1,7 @@
 // Requests, read from received bytes. A frame is refused by the outcomes and statuses of document 01 that need no table;
 // else its fields are shown, with extras, key and value as parts of the caller's bytes.
+#![tactic(auto)]
+
 ghost use Rattle.std.specs.Prelude.{◌≡◌};
 ghost use Rattle.request.specs.Reading.{gate_of, extras_span, key_span, value_span, bytes_in, fields_of, frame_of, frame_status, whole_reading, reading};
 
@@ -9,7 +11,7 @@ use numbers::Cas;
 pub mod view;
 
 // The header fields that a sender chooses.
-#[derive(Drop)]
+#[derive(Clone, Copy)]
 pub struct Fields {
     pub opcode: u8,
     pub datatype: u8,
@@ -19,14 +21,14 @@ pub struct Fields {
 }
 
 // Bytes of a frame: a place counted from the frame's start, and a length.
-#[derive(Drop)]
+#[derive(Clone, Copy)]
 pub struct Span {
     pub at: usize,
     pub len: usize,
 }
 
 // A request that was read. Its value ends with `meta` bytes of extended meta.
-#[derive(Drop)]
+#[derive(Clone, Copy)]
 pub struct Frame {
     pub fields: Fields,
     pub extras: Span,
@@ -36,14 +38,14 @@ pub struct Frame {
 }
 
 // An outcome with the bytes needed from the frame's start, or the header of a frame that is there whole.
-#[derive(Drop)]
+#[derive(Clone, Copy)]
 pub enum Gate {
     Stop(u8, usize),
     Whole(Header),
 }
 
 // 01's outcome, 01's status, or the fields.
-#[derive(Drop)]
+#[derive(Clone, Copy)]
 pub enum Reading {
     Outcome(u8),
     Status(u8),

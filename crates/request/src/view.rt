@@ -6,7 +6,7 @@ ghost use Rattle.request.specs.View.{extras_shown, key_shown, value_shown};
 
 use crate::Reading;
 
-#[derive(Drop)]
+#[derive(Clone, Copy)]
 pub struct Request<'a> {
     pub received: &'a [u8],
     pub reading: Reading,

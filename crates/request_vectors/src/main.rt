@@ -7,6 +7,8 @@
 //
 // BYTES, EXTRAS, KEY and VALUE are hexadecimal, with blanks between bytes; 61*250 is the byte 61 250 times. The header's fields are
 // hexadecimal, each in its full width, and ROOM is decimal. Any other line is answered by `what?`.
+#![tactic(auto)]
+
 mod parts;
 mod reading;
 mod show;

@@ -1,14 +1,14 @@
 // What a line spells: bytes in hexadecimal, a decimal number, parts that a slash divides.
 
 // A number, and where its digits end.
-#[derive(Drop)]
+#[derive(Clone, Copy)]
 pub(crate) struct Number {
     pub(crate) value: usize,
     pub(crate) end: usize,
 }
 
 // A byte, how often it stands, and how much text says so: no text where none of this can be read.
-#[derive(Drop)]
+#[derive(Clone, Copy)]
 pub(crate) struct Run {
     pub(crate) byte: u8,
     pub(crate) times: usize,
@@ -16,24 +16,29 @@ pub(crate) struct Run {
 }
 
 // Where the bytes that a text spelled end, and whether it spelled nothing else.
-#[derive(Drop)]
+#[derive(Clone, Copy)]
 pub(crate) struct Spelled {
     pub(crate) end: usize,
     pub(crate) good: bool,
 }
 
+// Where the first such byte stands, or the text's length where there is none.
+fn find(s: &[u8], mark: u8) -> usize {
+    s.iter().position(|b| *b == mark).unwrap_or(s.len())
+}
+
 pub(crate) fn has(s: &[u8], mark: u8) -> bool {
-    bytes::scan::find(s, 0, s.len(), mark) < s.len()
+    find(s, mark) < s.len()
 }
 
 // What stands before the first such byte, or all of the text where there is none.
 pub(crate) fn before(s: &[u8], mark: u8) -> &[u8] {
-    octets::part(s, 0, bytes::scan::find(s, 0, s.len(), mark))
+    octets::part(s, 0, find(s, mark))
 }
 
 // What stands after the first such byte.
 pub(crate) fn after(s: &[u8], mark: u8) -> &[u8] {
-    let at = bytes::scan::find(s, 0, s.len(), mark);
+    let at = find(s, mark);
     if at < s.len() {
         return octets::rest(s, at + 1);
     }

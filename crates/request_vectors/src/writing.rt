@@ -10,7 +10,7 @@ use request_writer::Written;
 const FILL: u8 = 0xee;
 
 // Where extras, key and value end in the space, and whether the line spells them.
-#[derive(Drop)]
+#[derive(Clone, Copy)]
 struct Parts {
     extras: usize,
     key: usize,

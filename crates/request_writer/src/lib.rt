@@ -1,4 +1,6 @@
 // Writing a request: its frame is written where reading it would not refuse.
+#![tactic(auto)]
+
 ghost use Rattle.std.specs.Prelude.{◌≡◌, cond, ◌++◌, ◌+◌, ◌≤◌, length, leb};
 ghost use Rattle.octets.specs.Parts.{written};
 ghost use Rattle.header.specs.Header.{header_bytes};
@@ -9,7 +11,7 @@ use header::Header;
 use request::Fields;
 
 // Status 0x04, outcome 4, or the length of the frame that was written.
-#[derive(Drop)]
+#[derive(Clone, Copy)]
 pub enum Written {
     Refused,
     NoRoom,

@@ -1,6 +1,8 @@
 // The walk of the damage test: the size, the header, and each row by itself; where rows are in key order, each row also against
 // the one before it. It reads each byte once, and its zero checks vectorise. Both engines have the one walk: the test of a row is
 // inlined in it for having no other caller.
+#![tactic(auto)]
+
 ghost use Rattle.std.specs.Prelude.{◌≡◌, ◌&&◌, ◌+◌, ◌*◌, ◌≤◌, length, drop};
 ghost use Rattle.rows.specs.Row.{row_of};
 ghost use Rattle.rows.specs.Table.{chunks, rows_of};

@@ -1,4 +1,6 @@
 // Writing a table's head, and an entry over a row. Every public function is total on any bytes.
+#![tactic(auto)]
+
 ghost use Rattle.std.specs.Prelude.{◌≡◌, ◌+◌, ◌≤◌, length, leb};
 ghost use Rattle.octets.specs.Parts.{written};
 ghost use Rattle.octets.specs.BigEndian.{bytes_of};

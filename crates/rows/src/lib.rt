@@ -1,5 +1,7 @@
 // The bytes of a table, whatever the order of its rows: a header of 16 bytes and rows of 1,312. Every function is total on
 // any bytes. docs/LAYOUT.md has the layout.
+#![tactic(auto)]
+
 pub mod damage;
 pub mod row;
 
@@ -20,7 +22,7 @@ pub const FIXED: usize = 32;
 pub const SPACE: usize = 1280;
 
 // The fixed part of a row.
-#[derive(Drop)]
+#[derive(Clone, Copy)]
 pub struct Slot {
     // 0 free, 1 document, 2 tombstone
     pub kind: u16,

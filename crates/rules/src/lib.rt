@@ -1,5 +1,7 @@
 // The rules of document 01 that a request's parts must keep before any table is looked at: statuses 1 to 3, save those
 // that need mode or clock. Reader and writer share them.
+#![tactic(auto)]
+
 ghost use Rattle.std.specs.Prelude.{◌≡◌, ◌-◌, ◌≤◌, length, ltb};
 ghost use Rattle.with_meta.specs.WithMeta.{with_meta};
 ghost use Rattle.rules.specs.Rules.{extras_ok, form_ok, count_of, count_ok, meta_size, is_forced, form_status, meta_status, field_status, judged, status};

@@ -1,4 +1,6 @@
 // Frames one after another: a cursor over a run of received frames, and a call that serves a whole run with one damage test.
+#![tactic(auto)]
+
 ghost use Rattle.std.specs.Prelude.{◌≡◌, true};
 ghost use Rattle.engines.specs.Damage.{sound_by};
 ghost use Rattle.run.specs.Run.{seen, moved_by, begun, run_end, ran_of};
@@ -11,19 +13,19 @@ use engine::Config;
 use serving::Served;
 use tally::Tally;
 
-#[derive(Drop)]
+#[derive(Clone, Copy)]
 pub struct Cursor {
     pub at: usize,
 }
 
-#[derive(Drop)]
+#[derive(Clone, Copy)]
 pub struct Moved {
     pub cursor: Cursor,
     pub served: Served,
 }
 
 // cursor: past the last frame served; filled: the bytes of all replies; stop: why no further frame was served.
-#[derive(Drop)]
+#[derive(Clone, Copy)]
 pub struct Ran {
     pub cursor: Cursor,
     pub filled: usize,

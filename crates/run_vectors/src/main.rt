@@ -4,6 +4,8 @@
 // that replies otherwise.
 //
 // The expected output was worked out by hand from document 01.
+#![tactic(auto)]
+
 use engine::Config;
 use run::{Cursor, Ran};
 use serving::Served;

@@ -1,4 +1,6 @@
 // Serving one request from received bytes on a table in lent memory: the damage test, then a step.
+#![tactic(auto)]
+
 ghost use Rattle.serving.specs.Serves.{Serves};
 
 use engine::{Checked, Config};

@@ -1,7 +1,8 @@
 // What serving means: definitions alone, in specs/, shared by the code that serves and by what is promised of it.
+#![tactic(auto)]
 
 // An outcome with the bytes needed from the frame's start, or status, bytes consumed and reply length.
-#[derive(Drop)]
+#[derive(Clone, Copy)]
 pub enum Served {
     Refused(u8, usize),
     Done(u8, usize, usize),

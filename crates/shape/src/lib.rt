@@ -1,11 +1,13 @@
 // Every opcode's shape: which command it is, what stands between the header and the end of the body, and whether the
 // command is built.
+#![tactic(auto)]
+
 ghost use Rattle.std.specs.Prelude.{◌≡◌};
 ghost use Rattle.shape.specs.Shapes.{refused, bare, key_only, plain_write, counter, meta_write, key_listing, joining, touching, shape_by, shape_of};
 ghost use Rattle.shape.specs.Table.{numbered};
 
 // The command that an opcode is, its quiet form aside.
-#[derive(Drop)]
+#[derive(Clone, Copy)]
 pub enum Operation {
     Unknown,
     NotBuilt,
@@ -30,7 +32,7 @@ pub enum Operation {
 }
 
 // What the extras are, and so which sizes they may have.
-#[derive(Drop)]
+#[derive(Clone, Copy)]
 pub enum Extras {
     Nothing,
     FlagsExpiry,
@@ -40,7 +42,7 @@ pub enum Extras {
     Expiry,
 }
 
-#[derive(Drop)]
+#[derive(Clone, Copy)]
 pub struct Shape {
     // 0 where the command is built, 0x83 where it is not, 0x81 where there is no such command
     pub status: u8,

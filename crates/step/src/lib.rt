@@ -1,5 +1,7 @@
 // One request served on memory taken for a table that is not damaged: decision, reply, store. Nothing is tested for damage here, and every
 // function is total on any bytes; what a step is on a table that is not damaged is in serve/specs/Claims.antt.
+#![tactic(auto)]
+
 mod change;
 
 ghost use Rattle.std.specs.Prelude.{◌≡◌, true, ◌+◌, ◌≤◌, length};

@@ -165,7 +165,7 @@ fn store_entry(config: Config, g: Given, key: &[u8], value: &[u8], s: &mut [u8])
 }
 
 // Where the key and the value end in the space, and whether the line spells them.
-#[derive(Drop)]
+#[derive(Clone, Copy)]
 struct Parts {
     key: usize,
     value: usize,

@@ -32,6 +32,8 @@
 // decimal. Any other line is answered by `what?`.
 //
 // The expected output is the independent rendering's: `vectors` of tests/rust, which tests/run compares with the file.
+#![tactic(auto)]
+
 mod calls;
 mod frames;
 mod show;
@@ -42,7 +44,7 @@ use tally::Tally;
 use text::Given;
 
 // The engine, how much of the memory and of the reply area is lent, and the counts.
-#[derive(Drop)]
+#[derive(Clone, Copy)]
 struct Lent {
     config: Config,
     size: usize,

@@ -2,14 +2,14 @@
 use digits::Number;
 
 // How many numbers a line has, 9 where it has more than 8 or one that is none; and the numbers.
-#[derive(Drop)]
+#[derive(Clone, Copy)]
 pub(crate) struct Given {
     pub(crate) count: usize,
     pub(crate) numbers: [u64; 8],
 }
 
 // A byte, how often it stands, and how much text says so: no text where none of this can be read.
-#[derive(Drop)]
+#[derive(Clone, Copy)]
 struct Run {
     byte: u8,
     times: usize,
@@ -17,20 +17,25 @@ struct Run {
 }
 
 // Where the bytes that a text spelled end, and whether it spelled nothing else.
-#[derive(Drop)]
+#[derive(Clone, Copy)]
 pub(crate) struct Spelled {
     pub(crate) end: usize,
     pub(crate) good: bool,
 }
 
+// Where the first such byte stands, or the text's length where there is none.
+fn find(s: &[u8], mark: u8) -> usize {
+    s.iter().position(|b| *b == mark).unwrap_or(s.len())
+}
+
 // What stands before the first such byte, or all of the text where there is none.
 pub(crate) fn before(s: &[u8], mark: u8) -> &[u8] {
-    octets::part(s, 0, bytes::scan::find(s, 0, s.len(), mark))
+    octets::part(s, 0, find(s, mark))
 }
 
 // What stands after the first such byte.
 pub(crate) fn after(s: &[u8], mark: u8) -> &[u8] {
-    let at = bytes::scan::find(s, 0, s.len(), mark);
+    let at = find(s, mark);
     if at < s.len() {
         return octets::rest(s, at + 1);
     }

@@ -1,6 +1,8 @@
 // The six calls by which serving and the owner's calls reach a table's rows: checked, find, store, join, purge and put_keys. The engine
 // that a call is for is chosen here and nowhere above. Every function is total on any bytes; what it means on a table that is
 // not damaged is in specs/Claims.antt.
+#![tactic(auto)]
+
 ghost use Rattle.std.specs.Prelude.{◌≡◌, ◌≤◌, ◌<◌, length};
 ghost use Rattle.octets.specs.Parts.{written};
 ghost use Rattle.document.specs.Stored.{entry_of, gone_doc};
@@ -15,7 +17,7 @@ use numbers::Cas;
 use rows::{FIXED, HEADER, ROW};
 
 // What is found for a key.
-#[derive(Drop)]
+#[derive(Clone, Copy)]
 pub struct Lookup {
     // where a document for the key is stored
     pub place: Place,

@@ -1,11 +1,13 @@
 // Three counts of what serving did, kept by the caller.
+#![tactic(auto)]
+
 ghost use Rattle.std.specs.Prelude.{◌≡◌};
 ghost use Rattle.tally.specs.Counts.{more_if, counted_of};
 
 use serving::Served;
 
 #[repr(C)]
-#[derive(Drop)]
+#[derive(Clone, Copy)]
 pub struct Tally {
     // frames with status 0
     pub served: u64,

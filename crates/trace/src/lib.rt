@@ -1,4 +1,6 @@
 // The trace of a voyage: an opening of mode and vbucket, then fields, each a tag, a length and that many bytes.
+#![tactic(auto)]
+
 ghost use Rattle.std.specs.Prelude.{◌≡◌};
 ghost use Rattle.trace.specs.Trace.{opening_of, field_by, field_of, rule_by, is_rule, field_at, forcing_by, forcing_in};
 
@@ -14,7 +16,7 @@ pub const OPENING: usize = 3;
 pub const FRONT: usize = 3;
 
 // No trace that can be replayed, or the mode and the vbucket of its table.
-#[derive(Drop)]
+#[derive(Clone, Copy)]
 pub enum Opening {
     Broken,
     Opened(u8, u16),
@@ -22,7 +24,7 @@ pub enum Opening {
 
 // A clock, a request frame of so many bytes, an expected reply of so many, a purge's bound, the rule of force of the whole trace, by
 // which option 0x01 is taken or not, or what stops a replay.
-#[derive(Drop)]
+#[derive(Clone, Copy)]
 pub enum Field {
     Clock(u32),
     Frame(usize),

@@ -1,4 +1,6 @@
 // Writing a trace: its opening, and what each served frame adds to it. Every function is total: what doesn't fit changes nothing.
+#![tactic(auto)]
+
 ghost use Rattle.std.specs.Prelude.{◌≡◌, ◌+◌, ◌≤◌, leb, length};
 ghost use Rattle.octets.specs.Parts.{written};
 ghost use Rattle.trace_writer.specs.Writing.{opening_bytes, field_bytes, clock_fields, frame_fields, length_put};

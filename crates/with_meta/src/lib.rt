@@ -1,4 +1,6 @@
 // What a with-meta request carries in its extras and in its extended meta, and the rules that its fields must keep.
+#![tactic(auto)]
+
 ghost use Rattle.std.specs.Prelude.{◌≡◌};
 ghost use Rattle.with_meta.specs.WithMeta.{present_numbers, former_numbers, carried_numbers, options_of, section_of, with_meta};
 ghost use Rattle.with_meta.specs.Section.{field_ok, fields_ok, section_ok};
@@ -7,7 +9,7 @@ ghost use Rattle.with_meta.specs.FieldRules.{numbers_ok, body_ok, with_meta_ok};
 use numbers::{Cas, Numbers, Revision};
 
 // What the extras of a with-meta request carry.
-#[derive(Drop)]
+#[derive(Clone, Copy)]
 pub struct WithMeta {
     pub numbers: Numbers,
     pub options: u32,
