@@ -1,0 +1,15 @@
+-- `number` meets its contract: after i turns it has the number of the first i bytes.
+use Prim.Native.Nat.{◌-◌, ◌^◌, ◌≤◌, ◌<◌}
+use Rattle.octets.proofs.Numbers.{be-room, be-bound, num-suc}
+use Rattle.octets.specs.BigEndian.{be_from, be, num}
+use borrow.Author.Rules.{rules}
+use mathlib.Core.Path.{◌≡◌, refl, sym}
+use native.Mathlib.Omega.{arith}
+use Rattle.octets.proofs.number.Given as goal
+
+-- `number` meets its contract: after i turns it has the number of the first i bytes.
+abbrev pub invariant-loop-i : goal.invariant-loop-i
+invariant-loop-i l = (l.i ≤ l.n) × (l.v ≡ num l.s l.at l.i) × (l.v < 256 ^ l.i)
+
+abbrev pub decreases-loop-i : goal.decreases-loop-i
+decreases-loop-i l = l.n - l.i
