@@ -1,7 +1,6 @@
 use Rattle.std.proofs.Common.{◌≡◌, ℕ, ◌<◌, ◌≤◌, max, ap, arith}
 use Rattle.numbers.specs.declared.Cas.{Cas}
-use Rattle.numbers.proofs.Cas.larger.Statement.{statement}
-use Rattle.numbers.proofs.Cas.larger.Tie as tie
+use Rattle.numbers.proofs.Cas.larger.Goals as goal
 
 made : (x y : ℕ) → x ≡ y → ◌≡◌ {A = Cas} (record { 0 = x }) (record { 0 = y })
 made x y e = ap (λ (n : ℕ). record { 0 = n }) e
@@ -12,11 +11,8 @@ second a b l = omega arith
 first : (a b : ℕ) → b ≤ a → a ≡ max a b
 first a b l = omega arith
 
-returns : tie.Need-returns
-returns c = made _ _ (second _ _ c.if1.true)
+pub returns-then-self-other : goal.returns-then-self-other
+returns-then-self-other c = made _ _ (second _ _ c.if-self-other.true)
 
-returns-2 : tie.Need-returns-2
-returns-2 c = made _ _ (first _ _ c.if1.false)
-
-pub larger-spec : {M : Type 1} → statement M
-larger-spec = tie.close (tie.spec returns returns-2)
+pub returns-else-self-other : goal.returns-else-self-other
+returns-else-self-other c = made _ _ (first _ _ c.if-self-other.false)

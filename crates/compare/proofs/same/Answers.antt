@@ -1,0 +1,28 @@
+-- `same` meets its contract: slices that differ in length, in their last byte, their first or their last word differ.
+use Prim.Native.Nat.{ℕ, ◌-◌}
+use Rattle.octets.proofs.Tests.{same_len, same_stop}
+use Rattle.octets.specs.Words.{word_at}
+use borrow.Author.Rules.{rules}
+use lib.ListN.{length, get_or}
+use mathlib.Core.List.{List}
+use mathlib.Core.Path.{refl, sym}
+use Rattle.compare.proofs.same.Goals as goal
+
+-- `same` meets its contract: slices that differ in length, in their last byte, their first or their last word differ.
+pub returns-then-s-t : goal.returns-then-s-t
+returns-then-s-t c = let a = c.args in sym (same_len a.s.now a.t.now c.if-s-t.true)
+
+pub returns-then-s-last : goal.returns-then-s-last
+returns-then-s-last c =
+    let a = c.args in
+    sym (same_stop (λ (l : List ℕ). get_or l (length a.s.now - 1) 0) a.s.now a.t.now _ _ refl refl c.if-s-last.true)
+
+pub returns-then-s-t-2 : goal.returns-then-s-t-2
+returns-then-s-t-2 c =
+    let a = c.args in
+    sym (same_stop (λ (l : List ℕ). get_or l 0 0) a.s.now a.t.now _ _ refl refl c.if-s-t-2.true)
+
+pub returns-then-word : goal.returns-then-word
+returns-then-word c =
+    let a = c.args in
+    sym (same_stop (λ (l : List ℕ). word_at l (length a.s.now - 8)) a.s.now a.t.now _ _ c.word.ensures c.word-then-s-ge8.ensures c.if-word.true)

@@ -1,0 +1,7 @@
+use Rattle.numbers.specs.Expiry.{passes}
+use Rattle.std.proofs.Common.{refl, rules}
+use Rattle.numbers.proofs.passes.Goals as goal
+
+pub returns : goal.returns
+unfolding passes
+returns c = refl
