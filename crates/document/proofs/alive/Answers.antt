@@ -1,0 +1,5 @@
+use borrow.Author.Rules.{rules}
+use Rattle.document.proofs.alive.Goals as goal
+
+pub returns : goal.returns
+returns c = simp c.expired.ensures

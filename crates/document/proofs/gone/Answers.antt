@@ -1,0 +1,7 @@
+use Rattle.document.specs.Stored.{gone}
+use borrow.Author.Rules.{rules}
+use Rattle.document.proofs.gone.Goals as goal
+
+pub returns : goal.returns
+unfolding gone
+returns c = simp c.expired.ensures
