@@ -1,5 +1,4 @@
-use Rattle.std.proofs.Common.{◌≡◌, ◌-◌, ◌≤◌, ◌||◌, length, drop, sym, refl, ◌∙◌, arith, rules}
-use Rattle.fingerprint.specs.Fingerprint.{print_among}
+use Rattle.std.proofs.Common.{sym, refl, ◌∙◌, arith}
 use Rattle.fingerprint.proofs.Mixing.{among_next, among-end}
 use Rattle.fingerprint.proofs.among.Goals as goal
 

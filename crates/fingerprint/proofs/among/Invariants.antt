@@ -1,6 +1,5 @@
-use Rattle.std.proofs.Common.{◌≡◌, ◌-◌, ◌≤◌, ◌||◌, length, drop, sym, refl, ◌∙◌, arith, rules}
+use Rattle.std.proofs.Common.{◌≡◌, ◌-◌, ◌≤◌, ◌||◌, length, drop}
 use Rattle.fingerprint.specs.Fingerprint.{print_among}
-use Rattle.fingerprint.proofs.Mixing.{among_next, among-end}
 use Rattle.fingerprint.proofs.among.Given as goal
 
 abbrev pub invariant-loop-i : goal.invariant-loop-i

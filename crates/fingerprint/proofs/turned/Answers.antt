@@ -1,4 +1,4 @@
-use Rattle.std.proofs.Common.{refl, rules}
+use Rattle.std.proofs.Common.{refl}
 use Rattle.fingerprint.specs.Fingerprint.{turned}
 use Rattle.fingerprint.proofs.Mixing.{turned-fits}
 use Rattle.fingerprint.proofs.turned.Goals as goal
