@@ -1,9 +1,6 @@
-use Rattle.std.proofs.Common.{sym, refl, ◌∙◌, arith}
+use Rattle.std.proofs.Common.{sym, ◌∙◌, arith}
 use Rattle.fingerprint.proofs.Mixing.{among_next, among-end}
 use Rattle.fingerprint.proofs.among.Goals as goal
-
-pub loop-i-init : goal.loop-i-init
-loop-i-init c = (omega arith, refl)
 
 pub loop-i-preserved : goal.loop-i-preserved
 loop-i-preserved c = let l = c.loop-i in (omega arith, l.invariant.1 ∙ among_next _ _ l.i l.found (omega arith))

@@ -1,10 +1,7 @@
 use Rattle.keys.proofs.KeyLaws.{step_less, step-greater, step-equal, end-first, end-second, end-both}
 use native.Mathlib.Omega.{arith}
-use mathlib.Core.Path.{refl, sym, ◌∙◌}
+use mathlib.Core.Path.{sym, ◌∙◌}
 use Rattle.keys.proofs.side_bytes.Goals as goal
-
-pub loop-i-init : goal.loop-i-init
-loop-i-init c = ((omega arith, omega arith), refl)
 
 pub returns-then-i-t : goal.returns-then-i-t
 returns-then-i-t c =
