@@ -1,4 +1,3 @@
-pub mod Deciding
 pub mod Writing
 pub mod MergingLaws
 pub mod Stores

@@ -10,12 +10,9 @@ use lib.ListN.{length, length-append}
 use lib.Dec.{eqb, ltb}
 use borrow.Author.Tests.{eqb-true, ne_eqb, ltb-false, not-false}
 use Rattle.octets.proofs.Choices.{cases}
-use Rattle.digits.specs.declared.Number.{Number}
-use Rattle.digits.specs.Decimal.{number_of}
 use Rattle.digits.proofs.DecimalLaws.{digits-most}
 use Rattle.numbers.specs.Claims.{NumbersFit}
 use Rattle.numbers.specs.declared.Cas.{Cas}
-use Rattle.numbers.specs.Order.{mode_of}
 use Rattle.numbers.specs.Expiry.{absolute}
 use Rattle.document.specs.declared.Head.{Head}
 use Rattle.document.specs.declared.Metadata.{Metadata}
@@ -25,7 +22,7 @@ use Rattle.document.specs.declared.Stored.{Stored}
 use Rattle.document.specs.declared.Stored.TheVariants.{Nothing, Used}
 use Rattle.document.specs.Head.{marked}
 use Rattle.document.specs.Documents.{Doc, doc_value, joined}
-use Rattle.document.specs.Stored.{live, has_row, numbers_of, stored_of}
+use Rattle.document.specs.Stored.{live, has_row, numbers_of}
 use Rattle.commands.specs.declared.Context.{Context}
 use Rattle.commands.specs.declared.Meta.{Meta}
 use Rattle.commands.specs.declared.Tests.{Tests}

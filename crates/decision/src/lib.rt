@@ -196,6 +196,7 @@ fn touch(c: Context, i: Instruction, t: Touching) -> Decision
     )
 }
 
+#[tactic(auto, unfolding(crate::specs::Decision::decision, commands::specs::Rules::rule_of, effects::specs::Done::done_of))]
 pub fn decide(c: Context, i: Instruction) -> Decision
     ensures { result ≡ decision c i }
 {

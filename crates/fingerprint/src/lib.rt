@@ -12,6 +12,7 @@ fn turned(p: u64) -> u64
 }
 
 // p turned, and w added.
+#[tactic(auto, unfolding(crate::specs::Fingerprint::mixed))]
 fn mix(p: u64, w: u64) -> u64
     ensures { result ≡ mixed p w }
 {
@@ -26,6 +27,7 @@ struct Lane {
 }
 
 // A lane of one word.
+#[tactic(auto, unfolding(crate::specs::Fingerprint::lane_of))]
 fn begun(w: u64) -> Lane
     ensures { result ≡ lane_of w }
 {
@@ -33,6 +35,7 @@ fn begun(w: u64) -> Lane
 }
 
 // A lane with one word more.
+#[tactic(auto, unfolding(crate::specs::Fingerprint::lane_with))]
 fn further(l: Lane, w: u64) -> Lane
     ensures { result ≡ lane_with l w }
 {
@@ -42,6 +45,7 @@ fn further(l: Lane, w: u64) -> Lane
 }
 
 // Two lanes as one number.
+#[tactic(auto, unfolding(crate::specs::Fingerprint::both_lanes))]
 fn both_lanes(a: Lane, b: Lane) -> u64
     ensures { result ≡ both_lanes a b }
 {
@@ -49,6 +53,7 @@ fn both_lanes(a: Lane, b: Lane) -> u64
 }
 
 // The two halves added: 32 bits are quicker to compare.
+#[tactic(auto, unfolding(crate::specs::Fingerprint::folded))]
 fn folded(p: u64) -> u32
     ensures { result ≡ folded p }
 {
@@ -82,6 +87,7 @@ pub fn of_key(key: &[u8]) -> u32
 }
 
 // Which of 1,024 buckets a fingerprint falls in.
+#[tactic(auto, unfolding(crate::specs::Fingerprint::bucket_of))]
 pub fn bucket(p: u32) -> usize
     ensures { result ≡ bucket_of p }
 {

@@ -1,8 +1,8 @@
 -- A listing shows exactly the live keys, and depends on nothing but the documents: specs/Claims.antt.
 use Prim.Native.Nat.{ℕ}
 use mathlib.Core.Path.{◌≡◌, refl, sym, ap, ◌∙◌}
-use mathlib.Core.Logic.{◌⊎◌, inl, ⊎_elim}
-use mathlib.Core.Bool.{true, false, false≢true}
+use mathlib.Core.Logic.{inl, ⊎_elim}
+use mathlib.Core.Bool.{false≢true}
 use mathlib.Core.List.{List, [], ◌∷◌, ◌++◌}
 use Rattle.keys.specs.Keys.{key_below}
 use Rattle.keys.proofs.KeyLaws.{irreflexive}

@@ -1,6 +1,6 @@
 -- Demand 3 for any engine that meets the laws: a whole list of with-meta calls, each decided on the table as the one before left it.
 use Rattle.std.specs.Prelude.{◌≡◌, true, false, List, [], ◌∷◌, ◌++◌, map, ℕ, ◌≤◌, ltb}
-use Rattle.std.proofs.Math.Option.{Option, none, some}
+use Rattle.std.proofs.Math.Option.{Option, some}
 use Rattle.numbers.specs.declared.Mode.{Mode}
 use Rattle.numbers.specs.declared.Mode.TheVariants.{LastWrite}
 use Rattle.numbers.specs.Order.{mode_of}

@@ -3,10 +3,10 @@ use native.Mathlib.Omega.{arith}
 use mathlib.Core.Path.{◌≡◌, sym, ap, ◌∙◌}
 use mathlib.Core.Bool.{Bool, true, false, not, cond}
 use mathlib.Core.Logic.{◌⊎◌, ⊎_elim}
-use mathlib.Core.List.{List, [], ◌++◌, append_assoc, append-nil}
+use mathlib.Core.List.{List, ◌++◌, append_assoc}
 use Prim.Native.Nat.{ℕ, suc, ◌+◌, ◌-◌, ◌≤◌, ◌<◌}
-use lib.ListN.{length, take, drop, replicate, length-replicate, drop_of_length-le, take-append-drop}
-use lib.Seq.{drop-drop, take-length}
+use lib.ListN.{length, take, drop, replicate, length-replicate, take-append-drop}
+use lib.Seq.{drop-drop}
 use borrow.Author.Tests.{not-true, not-false}
 use Rattle.octets.specs.Parts.{part, pasted, written}
 use Rattle.octets.proofs.Lists.{part_length, pasted-self, take-pasted, drop-pasted, written-fits}
@@ -15,15 +15,14 @@ use Rattle.rows.specs.Table.{row_count}
 use Rattle.plain.specs.Lookup.{is_free}
 use Rattle.ordered_writer.specs.Gaps.{closed_bytes, gaps_closed}
 
--- a row copied by way of an array z
-pub copied : (s x z s' : List ℕ) (at to : ℕ) → at + 1312 ≤ length s → to + 1312 ≤ length s → length z ≡ 1312
-    → (let t = part s at (at + 1312 - at) in x ≡ take (length t) t ++ drop (length t) z) → s' ≡ written s to x → s' ≡ pasted s to (part s at 1312)
-copied s x z s' at to h l n p q =
+-- a row copied by way of an array x
+pub copied : (s x s' : List ℕ) (at to : ℕ) → at + 1312 ≤ length s → to + 1312 ≤ length s → x ≡ part s at (at + 1312 - at)
+    → s' ≡ written s to x → s' ≡ pasted s to (part s at 1312)
+copied s x s' at to h l p q =
     let w : at + 1312 - at ≡ 1312 = omega arith in
     let row = part s at 1312 in
     let k : length row ≡ 1312 = part_length s at 1312 h in
-    let none : drop (length row) z ≡ [] = drop_of_length-le z {i = length row} (omega arith) in
-    let f : x ≡ row = p ∙ rw (w, none, append-nil, take-length row) in
+    let f : x ≡ row = p ∙ rw w in
     q ∙ ap (written s to) f ∙ written-fits s to row (omega arith)
 
 module _ (s : List ℕ) (at to : ℕ) (h : to ≤ at) (l : at + 1312 ≤ length s) where

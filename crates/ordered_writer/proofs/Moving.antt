@@ -8,9 +8,9 @@ use Prim.Native.Nat.{ℕ, ◌+◌, ◌-◌, ◌*◌, ◌≤◌, ◌<◌}
 use lib.Dec.{leb}
 use lib.ListN.{length, drop, drop_of_length-le}
 use borrow.Author.Tests.{lt-ltb, le-ltb, le-leb, lt-leb}
-use Rattle.octets.specs.Parts.{part, pasted, written}
+use Rattle.octets.specs.Parts.{part, pasted}
 use Rattle.octets.specs.Compare.{zeros}
-use Rattle.octets.proofs.Lists.{part_length, length-pasted, pasted-before, written-fits}
+use Rattle.octets.proofs.Lists.{part_length, length-pasted, pasted-before}
 use Rattle.document.specs.Documents.{Entry}
 use Rattle.rows.specs.Row.{row_bytes}
 use Rattle.rows.specs.Table.{row_count, row_at}

@@ -6,9 +6,7 @@ use mathlib.Core.List.{List, [], ◌∷◌, ◌++◌}
 use mathlib.Core.Option.{none, some}
 use Prim.Native.Nat.{ℕ, zero, suc, ◌+◌, ◌*◌, ◌≤◌, ◌<◌}
 use lib.ListN.{length, set, replicate, length-set, length-replicate, replicate-append-replicate}
-use borrow.Author.Tests.{lt-ltb, le-leb}
 use Rattle.octets.specs.Parts.{pasted}
-use Rattle.octets.specs.BigEndian.{bytes_of}
 use Rattle.octets.proofs.Choices.{cases}
 use Rattle.octets.proofs.Lists.{pasted-skip, pasted-over}
 use Rattle.document.specs.Documents.{Key, Doc, Entry}
@@ -22,7 +20,7 @@ use Rattle.plain.proofs.PlainLaws.{plain-laws, length-purge}
 use Rattle.plain.proofs.Places.{at_place, place-room}
 use Rattle.rows.proofs.RowLaws.{RowGood, row-length}
 use Rattle.rows.proofs.Heads.{head-length}
-use Rattle.plain.proofs.TableLaws.{good-first, good_more, table-count}
+use Rattle.plain.proofs.TableLaws.{good-first, good_more}
 
 -- a higher mark keeps rows good
 entry-raise : (m mark : ℕ) (e : Entry) → m ≤ mark → EntryGood m e → EntryGood mark e

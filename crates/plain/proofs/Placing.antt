@@ -16,7 +16,7 @@ use Rattle.rows.specs.Good.{AllGood}
 use Rattle.plain.specs.declared.Found.{Found}
 use Rattle.plain.specs.declared.Found.TheVariants.{At, Nothing}
 use Rattle.plain.specs.Lookup.{find_in, free_in, free_place, found_place, key_row, place_by}
-use Rattle.plain.proofs.Places.{founds, nothing-at, nothing-find, find-place}
+use Rattle.plain.proofs.Places.{founds, nothing-find, find-place}
 use Rattle.plain.proofs.TableLaws.{no_key}
 
 not-over {ℓ} : {X : Type ℓ} (f : Found) (i : ℕ) → free_place f ≡ Over i → X

@@ -1,13 +1,11 @@
 -- What is claimed of tables: sound bytes are the bytes of a good table and the other way round, and every change that a table takes keeps it good. Proved in proofs/.
-use Rattle.std.specs.Prelude.{ℕ, ◌^◌, ◌≤◌, ◌<◌, ◌≡◌, List, Bool, true, length, set}
-use Rattle.std.proofs.Math.Option.{some}
+use Rattle.std.specs.Prelude.{ℕ, ◌^◌, ◌≤◌, ◌<◌, ◌≡◌, List, Bool, true, length}
 use Rattle.octets.specs.Parts.{Bytes}
-use Rattle.document.specs.Documents.{Key, Doc, Entry}
-use Rattle.plain.specs.declared.Found.TheVariants.{At}
-use Rattle.rows.specs.Good.{EntryGood, AllGood}
+use Rattle.document.specs.Documents.{Doc}
+use Rattle.rows.specs.Good.{AllGood}
 use Rattle.rows.specs.Table.{Table, table_of, table_bytes, fresh}
 use Rattle.plain.specs.Damage.{sound}
-use Rattle.plain.specs.Plain.{Distinct, put_row, purge_rows}
+use Rattle.plain.specs.Plain.{Distinct, purge_rows}
 
 pub record Good (t : Table) : Type 0 where
   pub least : 1 ≤ length t.rows

@@ -1,3 +1,2 @@
 pub mod Gated
 pub mod Outcomes
-pub mod OneCall

@@ -1,5 +1,5 @@
 -- What every row and the header keep, whatever the order of rows: document 01's damage rule, but for equal keys.
-use Rattle.std.specs.Prelude.{ℕ, ◌+◌, ◌*◌, List, [], ◌∷◌, Bool, true, ◌&&◌, ◌||◌, cond, length, drop, eqb, leb}
+use Rattle.std.specs.Prelude.{ℕ, ◌+◌, ◌*◌, List, [], ◌∷◌, Bool, true, ◌&&◌, ◌||◌, cond, drop, eqb, leb}
 use Rattle.octets.specs.Compare.{zeros}
 use Rattle.document.specs.declared.Head.{Head}
 use Rattle.rows.specs.declared.Slot.{Slot}

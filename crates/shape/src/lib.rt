@@ -445,6 +445,7 @@ fn touching(operation: Operation, quiet: bool) -> Shape
 }
 
 // The shape of the operation with this number.
+#[tactic(auto, unfolding(crate::specs::Table::numbered, crate::specs::Table::operations, crate::specs::Shapes::commands))]
 fn shape_by(number: u8, quiet: bool) -> Shape
     ensures { result ≡ numbered number quiet }
 {

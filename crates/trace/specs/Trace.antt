@@ -1,8 +1,8 @@
 -- Order 6, the trace of a voyage: "A trace opens with one byte of mode (1 revision, 2 last-write-wins) and two of vbucket, then is a run of fields, one-byte tag and two-byte length (numbers big-endian here and later)".
 -- Order 9, its rule of force: "a trace replays under the new rule exactly if its first field is tag 5 with one byte of 2; a 1 there means the old, which differs for option 0x01 alone. Any other tag 5 stops it."
-use Rattle.std.specs.Prelude.{ℕ, zero, suc, ◌+◌, List, [], ◌∷◌, ◌++◌, Bool, true, false, cond, not, ◌&&◌, ◌||◌, length, drop, ltb, eqb}
+use Rattle.std.specs.Prelude.{ℕ, zero, suc, ◌+◌, List, [], ◌∷◌, Bool, true, false, cond, not, ◌&&◌, ◌||◌, length, drop, ltb, eqb}
 use Rattle.octets.specs.Parts.{part}
-use Rattle.octets.specs.BigEndian.{num, bytes_of}
+use Rattle.octets.specs.BigEndian.{num}
 use Rattle.trace.specs.declared.Opening.{Opening}
 use Rattle.trace.specs.declared.Opening.TheVariants.{Broken as NotOpened, Opened}
 use Rattle.trace.specs.declared.Field.{Field}

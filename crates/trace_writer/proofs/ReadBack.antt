@@ -1,21 +1,20 @@
 -- The claims of specs/Claims.antt.
 use native.Mathlib.Omega.{arith}
 use Prim.Native.Nat.{ℕ, zero, suc, ◌+◌, ◌^◌, ◌≤◌, ◌<◌}
-use mathlib.Core.Path.{◌≡◌, refl, sym, ap, ◌∙◌}
-use mathlib.Core.Bool.{Bool, true, false, cond, ◌||◌}
+use mathlib.Core.Path.{◌≡◌, refl, ap, ◌∙◌}
+use mathlib.Core.Bool.{Bool, true, false, ◌||◌}
 use mathlib.Core.List.{List, [], ◌∷◌, ◌++◌}
 use lib.ListN.{length, take, drop, length-append}
 use lib.Seq.{take_at, drop_at}
-use lib.Dec.{ltb, eqb}
-use borrow.Author.Tests.{le-ltb, eq-eqb}
+use lib.Dec.{eqb}
+use borrow.Author.Tests.{le-ltb}
 use Rattle.octets.specs.Parts.{part}
 use Rattle.octets.specs.BigEndian.{be_from, be, num, bytes_of}
 use Rattle.octets.proofs.Numbers.{length-bytes, be-bytes}
-use Rattle.trace.specs.declared.Opening.{Opening}
 use Rattle.trace.specs.declared.Opening.TheVariants.{Opened}
 use Rattle.trace.specs.declared.Field.{Field}
 use Rattle.trace.specs.declared.Field.TheVariants.{Clock, Frame, Reply, Purge, Rule}
-use Rattle.trace.specs.Trace.{length_in, bytes_held, opening_of, field_by, field_of, forcing_by, forcing_in}
+use Rattle.trace.specs.Trace.{opening_of, field_by, field_of, forcing_by, forcing_in}
 use Rattle.trace_writer.specs.Writing.{field_bytes, rule_byte, rule_field, opening_bytes}
 use Rattle.trace_writer.specs.Claims.{FieldBack, ClockBack, FrameBack, ReplyBack, PurgeBack, RuleBack, OpensBack, OpeningBack}
 use Rattle.trace_writer.proofs.FieldLaws.{length-opening, length-field}

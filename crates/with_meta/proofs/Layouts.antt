@@ -1,16 +1,13 @@
 -- What each layout of the extras carries.
 use Prim.Native.Nat.{ℕ}
-use mathlib.Core.Path.{◌≡◌, refl, ap}
-use mathlib.Core.List.{List}
+use mathlib.Core.Path.{◌≡◌}
 use lib.ListN.{length}
 use lib.Dec.{eqb}
-use Rattle.octets.specs.Parts.{Bytes}
 use Rattle.octets.specs.BigEndian.{bytes_of}
 use Rattle.octets.proofs.Choices.{cases}
 use Rattle.octets.proofs.Numbers.{be-bytes, num-below}
 use Rattle.numbers.specs.declared.Numbers.{Numbers}
 use Rattle.numbers.specs.Claims.{NumbersFit}
-use Rattle.with_meta.specs.declared.WithMeta.{WithMeta}
 use Rattle.with_meta.specs.WithMeta.{present_numbers, former_numbers, carried_numbers, options_of, section_of, with_meta}
 use Rattle.with_meta.specs.Claims.{present_extras, former_extras, bare_write, EachLayoutCarries, CarriedFits}
 

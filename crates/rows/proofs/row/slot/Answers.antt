@@ -1,0 +1,6 @@
+use Rattle.rows.specs.Row.{slot_of}
+use Rattle.rows.proofs.row.slot.Goals as goal
+
+pub returns : goal.returns
+unfolding slot_of
+returns c = simp (c.be16.ensures, c.be16-2.ensures, c.be32.ensures, c.numbers_of.ensures)
