@@ -31,7 +31,7 @@ use Rattle.rows.specs.Table.{table_of, table_at, clock_at}
 use Rattle.serving.specs.Serve.{served_outcome, served_status, served_length, served_needed, gate_all}
 use Rattle.serving.specs.Serve.{reaches_decision, answer_by, table_by, reply_by, served, served_table, served_reply}
 use Rattle.serving.proofs.SameAsk.{SameAsk, same_effect, same-table, same-reply}
-use Rattle.promises.specs.Expiry.{opcode, extras_in, value_in, with_metas}
+use Rattle.promises.specs.Expiry.{extras_in, value_in, with_metas}
 use Rattle.promises.proofs.Asks.{at-opcode}
 use Rattle.layouts.specs.Layouts.{RightForm, OneWrite, ServedAlike, EitherLayout}
 

@@ -1,13 +1,13 @@
 -- The 2012 layout carries no option, and last-write-wins asks for one.
 use Prim.Native.Nat.{ℕ, ◌+◌, ◌≤◌}
-use mathlib.Core.Path.{◌≡◌, refl, sym, ap, ◌∙◌}
-use mathlib.Core.Bool.{true, false}
+use mathlib.Core.Path.{◌≡◌, refl, sym, ◌∙◌}
+use mathlib.Core.Bool.{true}
 use mathlib.Core.List.{List}
 use native.Mathlib.Omega.{arith}
 use lib.ListN.{length}
-use lib.Dec.{ltb, leb, eqb}
-use borrow.Author.Tests.{leb-true, le-ltb, eqb-true}
-use Rattle.octets.proofs.Choices.{cases, both}
+use lib.Dec.{eqb}
+use borrow.Author.Tests.{le-ltb, eqb-true}
+use Rattle.octets.proofs.Choices.{cases}
 use Rattle.octets.proofs.Lists.{part_length}
 use Rattle.numbers.specs.Order.{mode_of}
 use Rattle.numbers.specs.declared.Mode.TheVariants.{LastWrite}
@@ -17,19 +17,16 @@ use Rattle.header.specs.Header.{header_of}
 use Rattle.with_meta.specs.WithMeta.{options_of, with_meta}
 use Rattle.rules.specs.Rules.{form_ok, field_rules_ok}
 use Rattle.request.proofs.Gated.{whole-frame}
-use Rattle.request.specs.declared.Gate.TheVariants.{Whole}
-use Rattle.request.specs.Reading.{gate_of, extras_span, value_span, bytes_in}
+use Rattle.request.specs.Reading.{extras_span, value_span, bytes_in}
 use Rattle.commands.specs.declared.Context.{Context}
 use Rattle.commands.specs.Rules.{rule_of, tests_of, first_failure}
 use Rattle.decode.specs.Decode.{meta_command, request_of}
 use Rattle.engine.specs.declared.Config.{Config}
-use Rattle.engines.specs.Damage.{sound_by}
 use Rattle.rows.specs.Table.{Table, table_of, table_at, clock_at}
-use Rattle.rows.specs.Find.{find_row}
-use Rattle.serving.specs.Serve.{gate_all, context_on, decision_on, frame_effect, served}
-use Rattle.serving.specs.Statuses.{tests_on, statuses}
+use Rattle.serving.specs.Serve.{gate_all, decision_on, frame_effect, served}
+use Rattle.serving.specs.Statuses.{tests_on}
 use Rattle.serving.proofs.Statuses.{statuses-in-order}
-use Rattle.promises.specs.Expiry.{opcode, extras_in, with_metas}
+use Rattle.promises.specs.Expiry.{with_metas}
 use Rattle.promises.proofs.Asks.{tested, ask, carries}
 use Rattle.layouts.specs.Layouts.{FormerRefused}
 use Rattle.layouts.proofs.EitherLayout.{inside}

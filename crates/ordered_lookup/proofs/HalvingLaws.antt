@@ -29,7 +29,7 @@ use Rattle.plain.proofs.Rows.{is_free-row}
 use Rattle.plain.proofs.TableLaws.{count-rows}
 use Rattle.ordered.specs.Order.{follows, row_side}
 use Rattle.ordered.proofs.OrderLaws.{AllFollow, EachFollows, side_after}
-use Rattle.ordered_lookup.specs.Halving.{middle, halve, halved, key_place, place_number, last_free}
+use Rattle.ordered_lookup.specs.Halving.{middle, halve, halved, key_place, last_free}
 
 pub over-into {ℓ} : {X : Type ℓ} (i j : ℕ) → Over i ≡ Into j → X
 over-into i j e = let z : ◌≡◌ {A = ℕ} 0 1 = cc in absurd (omega arith)

@@ -1,5 +1,5 @@
 -- What is found by halving in rows that are in key order. Proved in proofs/.
-use Rattle.std.specs.Prelude.{ℕ, ◌≤◌, ◌<◌, ◌≡◌, Bool, true, false, ◌&&◌, cond, List, ◌∷◌, ◌++◌, ltb, length, take, drop, set, get_or}
+use Rattle.std.specs.Prelude.{ℕ, ◌<◌, ◌≡◌, Bool, true, false, ◌&&◌, cond, List, ◌∷◌, ◌++◌, ltb, length, take, drop, set, get_or}
 use Rattle.std.proofs.Math.Option.{none, some}
 use Rattle.document.specs.Documents.{Key, Doc, Entry}
 use Rattle.engine.specs.declared.Place.{Place}

@@ -1,6 +1,5 @@
 -- Two rows that aren't live, with one revision and one CAS, are decided alike by every command but the with-meta ones, and what is done neither shows nor stores their values.
 use Prim.Native.Nat.{ℕ}
-use native.Mathlib.Omega.{arith}
 use mathlib.Core.Path.{◌≡◌, refl, sym, ap, ◌∙◌}
 use mathlib.Core.Bool.{Bool, true, false, cond, ◌&&◌, true≢false}
 use mathlib.Core.List.{List, [], ◌∷◌}

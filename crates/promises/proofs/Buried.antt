@@ -22,7 +22,6 @@ use Rattle.header.specs.Header.{header_of}
 use Rattle.shape.specs.Shapes.{among}
 use Rattle.request.specs.declared.Gate.{Gate}
 use Rattle.request.specs.declared.Gate.TheVariants.{Stop, Whole}
-use Rattle.request.specs.Reading.{frame_status}
 use Rattle.decision.specs.declared.Decision.{Decision}
 use Rattle.decision.specs.Decision.{decision}
 use Rattle.decision.specs.Decide.{Effect, effect_of, context_of, instruction_of}

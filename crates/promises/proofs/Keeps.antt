@@ -11,7 +11,7 @@ use Rattle.octets.proofs.Choices.{cases}
 use Rattle.header.specs.declared.Header.{Header}
 use Rattle.request.specs.declared.Gate.{Gate}
 use Rattle.request.specs.declared.Gate.TheVariants.{Stop, Whole}
-use Rattle.request.specs.Reading.{frame_status, bytes_in, key_span}
+use Rattle.request.specs.Reading.{bytes_in, key_span}
 use Rattle.decision.specs.Decide.{decide}
 use Rattle.decision.proofs.Stores.{refused-keeps as decided-keeps}
 use Rattle.decode.specs.Decode.{request_of}

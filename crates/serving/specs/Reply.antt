@@ -1,5 +1,5 @@
 -- A reply's bytes: document 000's header with magic 0x81 and the status in place of the vbucket, then extras, key and value as 01 has them for each command.
-use Rattle.std.specs.Prelude.{ℕ, ◌+◌, cond, List, [], ◌++◌, length}
+use Rattle.std.specs.Prelude.{ℕ, cond, List, [], ◌++◌, length}
 use Rattle.numbers.specs.declared.Cas.{Cas}
 use Rattle.header.specs.declared.Header.{Header}
 use Rattle.header.specs.Header.{header_bytes}

@@ -35,6 +35,7 @@ pub fn none() -> Tally
 }
 
 // The counts after an answer.
+#[tactic(auto, unfolding(crate::specs::Counts::counted_of))]
 pub fn counted(t: Tally, r: Served) -> Tally
     ensures { result ≡ counted_of t r }
 {

@@ -1,0 +1,25 @@
+use Rattle.ordered_listing.proofs.Walking.{live_from, walked_none, walked_all}
+use Rattle.listing.specs.Listing.{taken, keys_bytes}
+use Rattle.listing.proofs.Writing.{nothing_written}
+use Rattle.octets.specs.Parts.{written}
+use lib.ListN.{length}
+use mathlib.Core.Path.{sym, ap, ◌∙◌}
+use Prim.Native.Nat.{ℕ}
+use Rattle.ordered_listing.proofs.put_keys.Goals as goal
+
+pub returns-then-out-lt-ROOM : goal.returns-then-out-lt-ROOM
+returns-then-out-lt-ROOM c =
+    let a = c.args in
+    let out = a.out.now in
+    let z = walked_none (length out) a.b.now a.clock a.start.now a.count c.if-out-lt-ROOM.true in
+    (sym (ap length z), sym (ap (written out 24) z ∙ nothing_written out 24))
+
+pub returns : goal.returns
+returns c =
+    let put = c.put_rows.ensures in
+    let a = c.args in
+    let b = a.b.now in
+    let out = a.out.now in
+    let f = ap (λ (i : ℕ). keys_bytes (taken a.count 1278 (live_from a.clock b i))) c.first_from.ensures
+    ∙ sym (walked_all (length out) b a.clock a.start.now a.count c.if-out-lt-ROOM.false) in
+    (put.0 ∙ ap length f, put.1 ∙ ap (written out 24) f)

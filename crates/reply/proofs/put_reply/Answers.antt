@@ -1,0 +1,12 @@
+use Rattle.reply.proofs.Replies.{within, unfit-reply}
+use Rattle.reply.proofs.put_reply.Goals as goal
+
+pub returns-then-out-key : goal.returns-then-out-key
+returns-then-out-key c =
+    let a = c.args in
+    unfit-reply a.op a.opaque a.d a.key.now a.old.now a.out.now c.if-out-key.true
+
+pub returns : goal.returns
+returns c =
+    let a = c.args in
+    within a.op a.opaque a.d a.key.now a.old.now a.out.now c.if-out-key.false _ _ c.put_fitting.ensures

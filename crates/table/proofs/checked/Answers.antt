@@ -1,0 +1,28 @@
+use mathlib.Core.Path.{sym, ◌∙◌}
+use Rattle.table.proofs.Damage.{walk-damaged, keyed-sound, keys-equal, keys-differ}
+use Rattle.table.proofs.checked.Goals as goal
+
+pub returns-then-keyed : goal.returns-then-keyed
+returns-then-keyed c =
+    let a = c.args in
+    let w = sym c.checked_rows.ensures ∙ c.in-Sound.is in
+    keyed-sound a.config a.b.now _ c.is_ordered-keyed.ensures _ w c.if-keyed.true
+
+pub returns-then-not-is_distinct : goal.returns-then-not-is_distinct
+returns-then-not-is_distinct c =
+    let a = c.args in
+    let w = sym c.checked_rows.ensures ∙ c.in-Sound.is in
+    keys-equal a.config a.b.now _ c.is_ordered-keyed.ensures _ w c.if-keyed.false
+    (sym c.is_distinct.ensures ∙ c.if-not-is_distinct.true)
+
+pub returns-in-Damaged : goal.returns-in-Damaged
+returns-in-Damaged c =
+    let a = c.args in
+    walk-damaged a.config a.b.now _ c.is_ordered-keyed.ensures (sym c.checked_rows.ensures ∙ c.in-Damaged.is)
+
+pub returns-else-not-is_distinct : goal.returns-else-not-is_distinct
+returns-else-not-is_distinct c =
+    let a = c.args in
+    let w = sym c.checked_rows.ensures ∙ c.in-Sound.is in
+    keys-differ a.config a.b.now _ c.is_ordered-keyed.ensures _ w c.if-keyed.false
+    (sym c.is_distinct.ensures ∙ c.if-not-is_distinct.false)
