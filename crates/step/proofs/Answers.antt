@@ -2,10 +2,7 @@
 use Prim.Native.Nat.{ℕ, ◌+◌, ◌≤◌}
 use mathlib.Core.Path.{◌≡◌, refl, sym, ap, subst, ◌∙◌}
 use mathlib.Core.Bool.{true, false, ◌||◌}
-use mathlib.Core.List.{List, [], ◌∷◌}
-use mathlib.Core.Logic.{⊎_elim}
-use denote.Enum.Declared
-use types.Run.{OneOf}
+use mathlib.Core.List.{List}
 use native.Mathlib.Omega.{arith}
 use lib.Dec.{ltb}
 use lib.ListN.{length, drop}
@@ -17,7 +14,6 @@ use Rattle.octets.proofs.Choices.{cases}
 use Rattle.header.specs.declared.Header.{Header}
 use Rattle.header.specs.Header.{header_bytes}
 use Rattle.document.specs.Documents.{Key}
-use Rattle.effects.specs.contracts.Reply.{the_type}
 use Rattle.effects.specs.declared.Reply.{Reply}
 use Rattle.effects.specs.declared.Reply.TheVariants.{Bare, Found, Counted, Version as VersionReply, Keys}
 use Rattle.decision.specs.declared.Decision.{Decision}
@@ -81,18 +77,18 @@ module _ (config : Config) (b : List ℕ) (clock : ℕ) (h : Header) (d : Decisi
       → ReplyWritten (reply_to config (length out) b clock h d key old) out n out'
   listed count n out' e w = subst (λ (r : Reply). wrote r n out') (sym e) w
 
-  -- by its tag, every reply but a listing
-  fitted : (r : Reply) → OneOf (0 ∷ (1 ∷ (2 ∷ (3 ∷ [])))) (Declared.tag_of the_type r)
+  -- every reply but a listing
+  fitted : (r : Reply) → ((n : ℕ) → r ≡ Keys n → ⊥)
       → fitting_reply (length out) h.opcode h.opaque d key old ≡ reply_as r config (length out) b clock h d key old
   fitted Bare e = refl
   fitted (Found flags keyed) e = refl
   fitted (Counted n) e = refl
   fitted VersionReply e = refl
-  fitted (Keys n) e = absurd (⊎_elim (λ z. omega arith) (⊎_elim (λ z. omega arith) (⊎_elim (λ z. omega arith) (λ z. omega arith))) e)
+  fitted (Keys n) e = absurd (e n refl)
 
-  pub unlisted : (n : ℕ) (out' : List ℕ) → OneOf (0 ∷ (1 ∷ (2 ∷ (3 ∷ [])))) (Declared.tag_of the_type d.done.reply)
+  pub unlisted : (n : ℕ) (out' : List ℕ) → ((m : ℕ) → d.done.reply ≡ Keys m → ⊥)
       → n ≡ length (fitting_reply (length out) h.opcode h.opaque d key old) → out' ≡ written out 0 (fitting_reply (length out) h.opcode h.opaque d key old)
       → ReplyWritten (reply_to config (length out) b clock h d key old) out n out'
-  unlisted n out' tag en eout =
-      let e = fitted d.done.reply tag in
+  unlisted n out' other en eout =
+      let e = fitted d.done.reply other in
       record { size = en ∙ ap length e; bytes = eout ∙ ap (written out 0) e }

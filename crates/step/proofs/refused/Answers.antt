@@ -1,0 +1,15 @@
+use Prim.Native.Nat.{ℕ}
+use mathlib.Core.Path.{ap, ◌∙◌}
+use Rattle.octets.specs.Parts.{written}
+use Rattle.octets.specs.BigEndian.{bytes_of}
+use Rattle.serving.specs.declared.Served.TheVariants.{Done}
+use Rattle.step.proofs.refused.Goals as goal
+
+pub returns : goal.returns
+returns c =
+    let a = c.args in
+    record {
+      answer = λ i. Done a.status (c.layout_of-frame.ensures i).end 24;
+      table = c.put_clock.ensures ∙ ap (λ (n : ℕ). written a.b.now 4 (bytes_of 4 n)) c.later.ensures;
+      reply = c.put_bare.ensures;
+    }
