@@ -1,6 +1,8 @@
 -- What a recorder stands at after each frame that was served. No contract can say what a file holds: `put_served`'s says what
 -- is handed to be written, and here the trace grows by exactly that.
-use Rattle.std.specs.Prelude.{ℕ, ◌+◌, ◌-◌, ◌≤◌, Bool, true, false, cond, ◌≡◌, List, ltb, length}
+use Rattle.std.specs.Prelude.{ℕ, ◌+◌, ◌-◌, ◌≤◌, Bool, true, false, cond, ◌≡◌, List, ltb, length, ⊤}
+use Rattle.std.specs.declared.option.Option.{Option}
+use Rattle.std.specs.Io.KnownBytes.{Appends, Keeps}
 use Rattle.numbers.specs.Growth.{next}
 use Rattle.serving.specs.declared.Served.{Served}
 use Rattle.serving.specs.declared.Served.TheVariants.{Refused, Done}
@@ -44,3 +46,15 @@ Short (Done status used len) frame reply = (length frame ≤ 1424) × (length re
 abbrev pub Records : Recorder → ℕ → Served → List ℕ → List ℕ → Recorder → Type 0
 Records r clock (Refused n need) frame reply x = x ≡ r
 Records r clock (Done status used len) frame reply x = Grows r clock (frame_fields r.clock clock frame reply) x
+
+-- the bytes were handed to the trace's writer, all of them, where the recording goes on, and none where it is full
+abbrev pub Hands : Recording → Option (List ℕ) → Option (List ℕ) → List ℕ → Type 0
+Hands Off old new bytes = ⊤
+Hands On old new bytes = Appends old new bytes
+Hands Full old new bytes = Keeps old new
+Hands Failed old new bytes = ⊤
+
+-- a call that served a frame
+abbrev pub HandsOn : Served → Recording → Option (List ℕ) → Option (List ℕ) → List ℕ → Type 0
+HandsOn (Refused n need) recording old new bytes = Keeps old new
+HandsOn (Done status used len) recording old new bytes = Hands recording old new bytes

@@ -1,7 +1,7 @@
 // Recording what is served as a trace, to a file.
 ghost use Rattle.std.specs.Prelude.{◌≡◌, ◌+◌, ◌≤◌, length};
-ghost use Rattle.trace_writer.specs.Writing.{frame_fields};
-ghost use Rattle.contact_box.specs.Recorder.{opened, is_on, stopped, grown, Grows, Short, Records};
+ghost use Rattle.trace_writer.specs.Writing.{opening_bytes, frame_fields};
+ghost use Rattle.contact_box.specs.Recorder.{opened, is_on, stopped, grown, Grows, Short, Records, Hands, HandsOn};
 
 use crate::{report, writing};
 use serving::Served;
@@ -102,7 +102,9 @@ fn opened(written: bool) -> Recorder
 }
 
 // Begins a trace by its opening and the rule of force that the box serves by.
-pub(crate) fn begin<T: Write>(trace: &mut T, mode: u8, vbucket: u16) -> Recorder {
+pub(crate) fn begin<T: Write>(trace: &mut T, mode: u8, vbucket: u16) -> Recorder
+    ensures fields { Hands result.recording (T.contents trace.old) (T.contents trace.new) (opening_bytes mode vbucket) }
+{
     let mut opening = [0u8; BEGINNING];
     trace_writer::put_opening(&mut opening, mode, vbucket);
     opened(writing::all(trace, &opening))
@@ -150,7 +152,9 @@ fn stopped(r: Recorder, recording: Recording) -> Recorder
 // Records a frame that was served at a clock, and its reply, which is empty for a silent frame.
 fn record<T: Write>(trace: &mut T, r: Recorder, clock: u32, frame: &[u8], reply: &[u8]) -> Recorder
     requires { (length frame.now ≤ 1424) × (length reply.now ≤ 1302) }
-    ensures { Grows r clock (frame_fields r.clock clock frame.now reply.now) result }
+    ensures fields { Hands result.recording (T.contents trace.old) (T.contents trace.new)
+        (frame_fields r.clock clock frame.now reply.now) }
+    ensures grows { Grows r clock (frame_fields r.clock clock frame.now reply.now) result }
 {
     let mut fields = [0u8; 2739];
     let n = trace_writer::put_served(&mut fields, r.clock, clock, frame, reply);
@@ -171,7 +175,9 @@ pub(crate) fn record_answer<T: Write>(
     reply: &[u8],
 ) -> Recorder
     requires { Short answer frame.now reply.now }
-    ensures { Records r clock answer frame.now reply.now result }
+    ensures fields { HandsOn answer result.recording (T.contents trace.old) (T.contents trace.new)
+        (frame_fields r.clock clock frame.now reply.now) }
+    ensures records { Records r clock answer frame.now reply.now result }
 {
     match answer {
         Served::Refused(_, _) => r,

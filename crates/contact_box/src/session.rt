@@ -1,8 +1,11 @@
 // Serving what comes on standard input, in pieces of any size.
-ghost use Rattle.std.specs.Prelude.{◌≡◌, cond, ◌+◌, ◌≤◌, ◌<◌, ◌^◌, length, take};
+ghost use Rattle.std.specs.Prelude.{◌≡◌, cond, ◌+◌, ◌≤◌, ◌<◌, ◌^◌, length, take, drop};
+ghost use Rattle.std.specs.Io.KnownBytes.{Consumes};
 ghost use Rattle.run.specs.Run.{begun, run_end};
 ghost use Rattle.serving.specs.Serve.{served_length};
-ghost use Rattle.contact_box.specs.Session.{held_of, past, Receives, next_of, Waits, Goes, first_frame, GoesOne};
+ghost use Rattle.trace_writer.specs.Writing.{frame_fields};
+ghost use Rattle.contact_box.specs.Recorder.{HandsOn};
+ghost use Rattle.contact_box.specs.Session.{held_of, past, Receives, next_of, Waits, Goes, SendsAll, first_frame, GoesOne, answer_to, reply_to, Sends};
 
 use crate::recorder::Recorder;
 use crate::{clock, recorder, writing};
@@ -55,7 +58,8 @@ fn past(h: Held, used: usize) -> Held
 // Reads once behind the bytes held, and answers how many came: none at the end of the input or where reading fails.
 fn receive<R: Read>(input: &mut R, received: &mut [u8], held: usize) -> usize
     requires { held ≤ length received.old }
-    ensures { (held + result ≤ length received.old) × (take held received.new ≡ take held received.old) }
+    ensures kept { (held + result ≤ length received.old) × (take held received.new ≡ take held received.old) }
+    ensures came { Consumes (R.remaining input.old) (R.remaining input.new) (take result (drop held received.new)) }
 {
     let space = &mut received[held..];
     match input.read(space) {
@@ -83,7 +87,9 @@ fn keep(received: &mut [u8], h: Held) -> usize
 // Reads on behind the bytes held. There is room for more, so where nothing comes the input has ended or can't be read.
 fn receive_on<R: Read>(input: &mut R, received: &mut [u8], s: Session) -> Session
     requires { (length (held_of s.held received.old) < 1424) × (1424 ≤ length received.old) }
-    ensures { Receives (held_of s.held received.old) received.new s result }
+    ensures kept { Receives (held_of s.held received.old) received.new s result }
+    ensures came { Consumes (R.remaining input.old) (R.remaining input.new)
+        (drop (length (held_of s.held received.old)) (held_of result.held received.new)) }
 {
     let tally = s.tally;
     let recorder = s.recorder;
@@ -136,9 +142,12 @@ fn serve_held<W: Write>(
     replies: &mut [u8],
     s: Session,
 ) -> Session
-    ensures { Goes
+    ensures goes { Goes
         (run_end config clock (held_of s.held received.now) (begun table.old replies.old s.tally))
         table.new received.now s result }
+    ensures sent { SendsAll config clock (held_of s.held received.now)
+        (run_end config clock (held_of s.held received.now) (begun table.old replies.old s.tally))
+        (W.contents output.old) (W.contents output.new) result.next }
 {
     let held = s.held;
     let recorder = s.recorder;
@@ -184,8 +193,15 @@ fn serve_first<W: Write, T: Write>(
     replies: &mut [u8],
     s: Session,
 ) -> Session
-    ensures { GoesOne config clock (held_of s.held received.now) table.old replies.old
+    ensures goes { GoesOne config clock (held_of s.held received.now) table.old replies.old
         table.new received.now s result }
+    ensures sent { Sends (answer_to config clock (held_of s.held received.now) table.old replies.old)
+        (reply_to config clock (held_of s.held received.now) table.old replies.old)
+        (W.contents output.old) (W.contents output.new) result.next }
+    ensures traced { HandsOn (answer_to config clock (held_of s.held received.now) table.old replies.old)
+        result.recorder.recording (T.contents trace.old) (T.contents trace.new)
+        (frame_fields s.recorder.clock clock (first_frame (held_of s.held received.now))
+        (reply_to config clock (held_of s.held received.now) table.old replies.old)) }
 {
     let held = s.held;
     let frame = first_frame(held_of(received, held));
