@@ -1,5 +1,5 @@
 -- The difference of two naturals as an integer: its size and its sign, and that the machine's numbers of 32 bits read as themselves.
-use Rattle.std.proofs.Common.{◌≡◌, ℕ, zero, suc, ◌+◌, ◌-◌, ◌^◌, ◌<◌, ◌≤◌, Bool, true, false, T, ltb, leb, ℤ, pos, negsuc, ◌-ℤ◌, nat_abs, refl, ap, ◌∙◌, arith, to_z-of_z, w64, Fits, SFits, to_z, of_z, ltb-false, ltb-true, lt-ltb, le-leb, leb-false, leb-true}
+use Rattle.std.proofs.Common.{◌≡◌, ℕ, zero, suc, ◌+◌, ◌-◌, ◌^◌, ◌<◌, ◌≤◌, Bool, true, false, T, ltb, leb, ℤ, pos, negsuc, ◌-ℤ◌, nat_abs, refl, ◌∙◌, arith, to_z-of_z, w64, Fits, SFits, to_z, of_z, ltb-false, ltb-true, lt-ltb, le-leb, leb-false, leb-true}
 use mathlib.Core.Bool.{false≢true}
 use lib.IntN.{sub_ℕ, +ℤ_comm, -ℤ_one}
 use lib.Signed.{mag, le_z, non_neg}

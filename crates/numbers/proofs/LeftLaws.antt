@@ -1,5 +1,5 @@
 -- The claims of specs/Claims.antt on the seconds left.
-use Rattle.std.proofs.Common.{◌≡◌, ℕ, zero, suc, ◌+◌, true, false, eqb, ℤ, pos, ◌+ℤ◌, ◌-ℤ◌, neg_ℤ, sym, refl, ap, ◌∙◌, arith, ne_eqb}
+use Rattle.std.proofs.Common.{eqb, ℤ, pos, ◌+ℤ◌, ◌-ℤ◌, neg_ℤ, sym, refl, ap, ◌∙◌, ne_eqb}
 use lib.IntN.{pos-+ℤ-pos, neg_ℤ-+ℤ, +ℤ_assoc, +ℤ_invr}
 use Rattle.numbers.specs.declared.Left.TheVariants.{Seconds}
 use Rattle.octets.proofs.Choices.{cases}

@@ -1,5 +1,5 @@
 -- What is claimed of the published order, that in both modes it is a strict total order on the four numbers, and of the seconds left. Proved in proofs/OrderLaws.antt and proofs/LeftLaws.antt.
-use Rattle.std.specs.Prelude.{◌≡◌, ℕ, ◌+◌, ◌^◌, ◌<◌, ◌≤◌, true, false, not, ◌&&◌, ℤ, pos, ◌-ℤ◌, ◌==◌, ◌≢◌, nat_le}
+use Rattle.std.specs.Prelude.{◌≡◌, ℕ, ◌+◌, ◌^◌, ◌<◌, true, false, not, ◌&&◌, pos, ◌-ℤ◌, ◌==◌, ◌≢◌, nat_le}
 use Rattle.numbers.specs.declared.Left.TheVariants.{Never, Seconds}
 use Rattle.numbers.specs.Expiry.{seconds_left, seconds_in, expired}
 use Rattle.numbers.specs.declared.Numbers.{Numbers}

@@ -1,11 +1,6 @@
 -- `all_same` meets its contract: no byte was apart and what is left is the same where all is.
-use Prim.Native.Nat.{◌≤◌, ◌-◌}
 use Rattle.octets.proofs.Tests.{same_next, same_end}
-use Rattle.octets.specs.Compare.{same}
-use borrow.Author.Rules.{rules}
-use lib.ListN.{length, drop}
-use mathlib.Core.Bool.{not, ◌&&◌}
-use mathlib.Core.Path.{◌≡◌, refl, sym, ◌∙◌}
+use mathlib.Core.Path.{refl, sym, ◌∙◌}
 use native.Mathlib.Omega.{arith}
 use Rattle.compare.proofs.all_same.Goals as goal
 

@@ -1,12 +1,9 @@
 -- `all_same` meets its contract: no byte was apart and what is left is the same where all is.
 use Prim.Native.Nat.{◌≤◌, ◌-◌}
-use Rattle.octets.proofs.Tests.{same_next, same_end}
 use Rattle.octets.specs.Compare.{same}
-use borrow.Author.Rules.{rules}
 use lib.ListN.{length, drop}
 use mathlib.Core.Bool.{not, ◌&&◌}
-use mathlib.Core.Path.{◌≡◌, refl, sym, ◌∙◌}
-use native.Mathlib.Omega.{arith}
+use mathlib.Core.Path.{◌≡◌}
 use Rattle.compare.proofs.all_same.Given as goal
 
 -- `all_same` meets its contract: no byte was apart and what is left is the same where all is.

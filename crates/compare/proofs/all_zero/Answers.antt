@@ -1,12 +1,6 @@
 -- `all_zero` meets its contract: what was seen and what is left are zero together where all is.
-use Prim.Native.Nat.{◌≤◌, ◌-◌}
 use Rattle.octets.proofs.Tests.{zeros-next, zeros-end}
-use Rattle.octets.specs.Compare.{zeros}
-use borrow.Author.Rules.{rules}
-use lib.Dec.{eqb}
-use lib.ListN.{length, drop}
-use mathlib.Core.Bool.{◌&&◌}
-use mathlib.Core.Path.{◌≡◌, refl, sym, ◌∙◌}
+use mathlib.Core.Path.{refl, sym, ◌∙◌}
 use native.Mathlib.Omega.{arith}
 use Rattle.compare.proofs.all_zero.Goals as goal
 

@@ -1,4 +1,3 @@
-use borrow.Author.Rules.{rules}
 use mathlib.Core.Path.{sym}
 use Rattle.octets.proofs.Tests.{same_len}
 use Rattle.compare.proofs.equal.Goals as goal

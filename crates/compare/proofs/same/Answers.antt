@@ -2,7 +2,6 @@
 use Prim.Native.Nat.{ℕ, ◌-◌}
 use Rattle.octets.proofs.Tests.{same_len, same_stop}
 use Rattle.octets.specs.Words.{word_at}
-use borrow.Author.Rules.{rules}
 use lib.ListN.{length, get_or}
 use mathlib.Core.List.{List}
 use mathlib.Core.Path.{refl, sym}

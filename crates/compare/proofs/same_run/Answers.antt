@@ -6,9 +6,8 @@ use Rattle.octets.specs.Compare.{same}
 use lib.ListN.{length, length-take}
 use lib.Seq.{length-take-le}
 use mathlib.Core.Bool.{◌&&◌}
-use mathlib.Core.Path.{sym, ap, ◌∙◌}
+use mathlib.Core.Path.{sym, ◌∙◌}
 use native.Mathlib.Omega.{arith}
-use borrow.Author.Rules.{rules}
 use Rattle.compare.proofs.same_run.Goals as goal
 
 pub slice_bounds-all_same-end : goal.slice_bounds-all_same-end

@@ -8,7 +8,6 @@ use lib.Seq.{length-take-le}
 use mathlib.Core.Bool.{◌&&◌}
 use mathlib.Core.Path.{sym, ap, ◌∙◌}
 use native.Mathlib.Omega.{arith}
-use borrow.Author.Rules.{rules}
 use Rattle.compare.proofs.zero_run.Goals as goal
 
 pub slice_bounds-all_zero-end : goal.slice_bounds-all_zero-end

@@ -1,7 +1,4 @@
-use Prim.Native.Nat.{◌+◌, ◌≤◌, ◌<◌}
 use native.Mathlib.Omega.{arith}
-use lib.ListN.{length, length-set}
-use Rattle.digits.specs.Decimal.{digits}
 use Rattle.digits.proofs.DecimalLaws.{length-one, length_more, put_one, put-more}
 use Rattle.digits.proofs.+put_digits.Goals as goal
 

@@ -1,9 +1,9 @@
 use borrow.Author.Rules.{rules}
 use native.Mathlib.Omega.{arith}
 use native.Mathlib.Numerals.{add-one}
-use Prim.Native.Nat.{◌≤◌, ◌<◌, ◌-◌, ◌^◌, suc}
-use mathlib.Core.Path.{◌≡◌, refl, ◌∙◌, sym, ap}
-use lib.ListN.{length, drop, drop_of_length-le}
+use Prim.Native.Nat.{suc}
+use mathlib.Core.Path.{refl, ◌∙◌, sym, ap}
+use lib.ListN.{drop, drop_of_length-le}
 use lib.Seq.{drop-cons}
 use Rattle.digits.specs.Decimal.{number_from}
 use Rattle.digits.proofs.DecimalLaws.{number-on, number-stops, number-ends}

@@ -1,12 +1,7 @@
-use borrow.Author.Rules.{rules}
-use native.Mathlib.Omega.{arith}
-use native.Mathlib.Numerals.{add-one}
-use Prim.Native.Nat.{◌≤◌, ◌<◌, ◌-◌, ◌^◌, suc}
-use mathlib.Core.Path.{◌≡◌, refl, ◌∙◌, sym, ap}
-use lib.ListN.{length, drop, drop_of_length-le}
-use lib.Seq.{drop-cons}
+use Prim.Native.Nat.{◌≤◌, ◌<◌, ◌-◌, ◌^◌}
+use mathlib.Core.Path.{◌≡◌}
+use lib.ListN.{length, drop}
 use Rattle.digits.specs.Decimal.{number_from}
-use Rattle.digits.proofs.DecimalLaws.{number-on, number-stops, number-ends}
 use Rattle.digits.proofs.parse_all.Given as goal
 
 abbrev pub invariant-loop-i : goal.invariant-loop-i

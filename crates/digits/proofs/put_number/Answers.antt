@@ -2,7 +2,6 @@ use Rattle.digits.proofs.DecimalLaws.{digits-most}
 use native.Mathlib.Omega.{arith}
 use borrow.Author.Tests.{le-leb, lt-leb}
 use mathlib.Core.Path.{refl, ◌∙◌}
-use borrow.Author.Rules.{rules}
 use Rattle.digits.proofs.put_number.Goals as goal
 
 pub returns-then-out-lt20 : goal.returns-then-out-lt20

@@ -1,10 +1,8 @@
-use Prim.Native.Nat.{◌-◌}
 use native.Mathlib.Omega.{arith}
 use mathlib.Core.Path.{sym}
 use borrow.Author.Tests.{lt-ltb, le-leb, lt-leb, le-ltb}
 use Rattle.digits.specs.Decimal.{is_digit}
 use Rattle.digits.proofs.DecimalLaws.{right-digit, no_digit, too_large}
-use borrow.Author.Rules.{rules}
 use Rattle.digits.proofs.with_digit.Goals as goal
 
 pub returns-then-c-lt48 : goal.returns-then-c-lt48

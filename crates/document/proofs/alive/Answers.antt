@@ -1,4 +1,3 @@
-use borrow.Author.Rules.{rules}
 use Rattle.document.proofs.alive.Goals as goal
 
 pub returns : goal.returns

@@ -1,5 +1,4 @@
 use Rattle.document.specs.Stored.{gone}
-use borrow.Author.Rules.{rules}
 use Rattle.document.proofs.gone.Goals as goal
 
 pub returns : goal.returns

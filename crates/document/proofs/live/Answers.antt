@@ -1,5 +1,4 @@
 use Rattle.document.specs.Stored.{live}
-use borrow.Author.Rules.{rules}
 use Rattle.document.proofs.live.Goals as goal
 
 pub returns-in-Nothing : goal.returns-in-Nothing

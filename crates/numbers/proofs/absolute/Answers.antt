@@ -1,4 +1,4 @@
-use Rattle.std.proofs.Common.{arith, rules}
+use Rattle.std.proofs.Common.{arith}
 use Rattle.numbers.specs.Expiry.{absolute}
 use Rattle.numbers.proofs.absolute.Goals as goal
 

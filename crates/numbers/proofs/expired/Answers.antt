@@ -1,4 +1,4 @@
-use Rattle.std.proofs.Common.{ap, ◌∙◌, rules}
+use Rattle.std.proofs.Common.{ap, ◌∙◌}
 use Rattle.numbers.specs.Expiry.{is_past, expired}
 use Rattle.numbers.proofs.expired.Goals as goal
 

@@ -1,5 +1,4 @@
-use Rattle.numbers.specs.Order.{above, lead, second, greater}
-use Rattle.std.proofs.Common.{rules}
+use Rattle.numbers.specs.Order.{above, greater}
 use Rattle.numbers.proofs.greater.Goals as goal
 
 pub returns : goal.returns

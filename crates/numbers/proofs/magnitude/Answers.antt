@@ -1,5 +1,5 @@
-use Rattle.std.proofs.Common.{◌≡◌, ℕ, ◌+◌, ℤ, pos, negsuc, ◌-ℤ◌, nat_abs, sym, ap, ◌∙◌, arith}
-use Rattle.numbers.proofs.Differences.{kept, cast-up, Below, below}
+use Rattle.std.proofs.Common.{pos, nat_abs, ap, arith}
+use Rattle.numbers.proofs.Differences.{kept, cast-up, below}
 use Rattle.numbers.proofs.magnitude.Goals as goal
 
 pub overflow_cast-result : goal.overflow_cast-result

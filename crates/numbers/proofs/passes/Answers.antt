@@ -1,5 +1,5 @@
 use Rattle.numbers.specs.Expiry.{passes}
-use Rattle.std.proofs.Common.{refl, rules}
+use Rattle.std.proofs.Common.{refl}
 use Rattle.numbers.proofs.passes.Goals as goal
 
 pub returns : goal.returns

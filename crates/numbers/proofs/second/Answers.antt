@@ -1,5 +1,4 @@
 use Rattle.numbers.specs.Order.{second}
-use Rattle.std.proofs.Common.{rules}
 use Rattle.numbers.proofs.second.Goals as goal
 
 pub returns-in-ByRevision : goal.returns-in-ByRevision

@@ -1,7 +1,4 @@
-use Rattle.std.proofs.Common.{rules}
-use Rattle.numbers.proofs.Differences.{kept}
 use Rattle.numbers.proofs.seconds_in.Goals as goal
 
 pub returns-in-Never : goal.returns-in-Never
 returns-in-Never c = rw c.in-Never.is
-

@@ -1,4 +1,4 @@
-use Rattle.std.proofs.Common.{ap, to_z-of_z, rules, eq-eqb, ne_eqb}
+use Rattle.std.proofs.Common.{ap, to_z-of_z, eq-eqb, ne_eqb}
 use Rattle.numbers.specs.declared.Left.TheVariants.{Seconds}
 use Rattle.numbers.specs.Expiry.{seconds_left}
 use Rattle.numbers.proofs.Differences.{small, sub-fits}

@@ -1,5 +1,4 @@
 use Rattle.octets.proofs.Lists.{room}
-use borrow.Author.Rules.{rules}
 use Rattle.octets.proofs.be64.Goals as goal
 
 pub halves-requires : goal.halves-requires

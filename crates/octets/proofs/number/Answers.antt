@@ -1,8 +1,6 @@
 -- `number` meets its contract: after i turns it has the number of the first i bytes.
-use Prim.Native.Nat.{◌-◌, ◌^◌, ◌≤◌, ◌<◌}
 use Rattle.octets.proofs.Numbers.{be-room, be-bound, num-suc}
-use Rattle.octets.specs.BigEndian.{be_from, be, num}
-use borrow.Author.Rules.{rules}
+use Rattle.octets.specs.BigEndian.{be_from, be}
 use mathlib.Core.Path.{◌≡◌, refl, sym}
 use native.Mathlib.Omega.{arith}
 use Rattle.octets.proofs.number.Goals as goal

@@ -1,10 +1,7 @@
 -- `number` meets its contract: after i turns it has the number of the first i bytes.
 use Prim.Native.Nat.{◌-◌, ◌^◌, ◌≤◌, ◌<◌}
-use Rattle.octets.proofs.Numbers.{be-room, be-bound, num-suc}
-use Rattle.octets.specs.BigEndian.{be_from, be, num}
-use borrow.Author.Rules.{rules}
-use mathlib.Core.Path.{◌≡◌, refl, sym}
-use native.Mathlib.Omega.{arith}
+use Rattle.octets.specs.BigEndian.{num}
+use mathlib.Core.Path.{◌≡◌}
 use Rattle.octets.proofs.number.Given as goal
 
 -- `number` meets its contract: after i turns it has the number of the first i bytes.

@@ -1,7 +1,6 @@
 -- `number_there` meets its contract: where fewer bytes are there, theirs is the number.
 use Rattle.octets.proofs.Lists.{room, part-most}
 use Rattle.octets.proofs.Numbers.{be-within}
-use borrow.Author.Rules.{rules}
 use lib.ListN.{length}
 use lib.Seq.{take-length}
 use mathlib.Core.Path.{ap, ◌∙◌}

@@ -1,6 +1,5 @@
 -- `rest` meets its contract.
 use Rattle.octets.proofs.Lists.{take_rest}
-use borrow.Author.Rules.{rules}
 use lib.ListN.{drop_of_length-le}
 use mathlib.Core.Path.{sym}
 use Rattle.octets.proofs.rest.Goals as goal
