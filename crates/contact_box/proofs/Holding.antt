@@ -1,10 +1,10 @@
 -- What is held where some of it is consumed, moved to the start, or read on behind.
 use native.Mathlib.Omega.{arith}
 use Prim.Native.Nat.{ℕ, zero, suc, ◌+◌, ◌-◌, ◌≤◌, ◌<◌, ◌^◌}
-use mathlib.Core.Path.{◌≡◌, refl, sym, ap, subst, ◌∙◌}
-use mathlib.Core.List.{List, [], ◌∷◌, ◌++◌}
+use mathlib.Core.Path.{◌≡◌, sym, ap, subst, ◌∙◌}
+use mathlib.Core.List.{List, ◌++◌}
 use lib.ListN.{length, take, drop, length-take, length-drop}
-use lib.Seq.{drop-drop, take_all, take_at, take-take}
+use lib.Seq.{drop-drop, take_at}
 use Rattle.octets.specs.Parts.{part, written}
 use Rattle.octets.proofs.Lists.{take-pasted, written-fits}
 use Rattle.header.specs.Header.{header_of}

@@ -1,6 +1,5 @@
 -- `record` hands on the fields where the trace has room for them.
-use mathlib.Core.Path.{refl, subst, ap, ◌∙◌}
-use mathlib.Core.List.{List}
+use mathlib.Core.Path.{refl}
 use Rattle.contact_box.proofs.Recording.{inside, goes_on, hands-grown}
 use Rattle.contact_box.proofs.recorder.record.Goals as goal
 

@@ -1,4 +1,4 @@
-use Rattle.std.proofs.Common.{length, ◌-◌, ◌≤◌}
+use Rattle.std.proofs.Common.{length, ◌-◌}
 use Rattle.contact_box.proofs.report.words_of.Given as goal
 
 abbrev pub decreases-loop-i : goal.decreases-loop-i

@@ -1,7 +1,6 @@
 -- `keep` has the bytes held at the start, by way of an array that has room for them.
 use native.Mathlib.Omega.{arith}
-use mathlib.Core.Path.{refl, ap}
-use lib.ListN.{length}
+use mathlib.Core.Path.{refl}
 use Rattle.contact_box.proofs.Holding.{some-kept}
 use Rattle.contact_box.proofs.session.keep.Goals as goal
 

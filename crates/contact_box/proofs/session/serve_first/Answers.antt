@@ -1,5 +1,6 @@
 -- `serve_first` serves the first frame that is held, hands its reply on, records both, and holds what stands behind it.
 use native.Mathlib.Omega.{arith}
+use Rattle.std.proofs.Common.{rules}
 use Prim.Native.Nat.{ℕ}
 use mathlib.Core.Bool.{Bool, cond}
 use mathlib.Core.List.{List}
@@ -90,11 +91,11 @@ module _ (config : Config) (clock : ℕ) (b b' run out out' y : List ℕ) (a : S
       subst (λ (r : Served). HandsOn r recording old new (frame_fields last clock (first_frame y) (reply_to config clock y b out))) answered
       (subst (HandsOn a recording old new) fields h)
 
-pub record_answer-requires : goal.record_answer-requires
-record_answer-requires g c =
+pub record_answer-recorder-requires : goal.record_answer-recorder-requires
+record_answer-recorder-requires g c =
     let a = c.args in
     short a.config a.table.now a.clock c.held_of.result.now _ c.first_frame-frame.result.now c.part-reply.result.now (length a.replies.now) c.length_of.result
-    c.serve_one-answer.result c.serve_one-answer.ensures.answer (λ k. (c.type_inv.table k).fits) c.first_frame-frame.ensures c.length_of.ensures c.part-reply.ensures
+    c.serve_one-answer.result c.serve_one-answer.ensures.answer (search rules) c.first_frame-frame.ensures c.length_of.ensures c.part-reply.ensures
 
 pub past-requires : goal.past-requires
 past-requires g c =

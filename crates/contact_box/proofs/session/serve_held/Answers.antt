@@ -10,8 +10,9 @@ use Rattle.std.specs.declared.option.Option.{Option}
 use Rattle.std.specs.Io.KnownBytes.{Appends}
 use Rattle.octets.specs.Parts.{part}
 use Rattle.engine.specs.declared.Config.{Config}
+use Rattle.tally.specs.declared.Tally.{Tally}
 use Rattle.run.specs.declared.Ran.{Ran}
-use Rattle.run.specs.Run.{Stand, called_on, begun, run_end, ran_of}
+use Rattle.run.specs.Run.{called_on, begun, run_end, ran_of}
 use Rattle.contact_box.specs.declared.session.Held.{Held}
 use Rattle.contact_box.specs.declared.session.Next.{Next}
 use Rattle.contact_box.specs.declared.session.Next.TheVariants.{Close}
@@ -44,13 +45,15 @@ goes config clock b b' s run out x r h next written e q w l f =
           (subst (Waits (cond written (next_of (called_on config clock y z)) Close)) (sym kept) (waits config z.table clock (drop z.at y) (length z.reply - z.filled) written));
     }
 
-sends : (config : Config) (clock : ℕ) (run out' p : List ℕ) (z : Stand) (r : Ran) (next : Next) (written : Bool) (old new : Option (List ℕ))
-    → r ≡ ran_of config clock run z → out' ≡ z.reply → p ≡ part out' 0 r.filled → next ≡ cond written (next_of r.stop) Close → (IsTrue written → Appends old new p)
-    → SendsAll config clock run z old new next
+sends : (config : Config) (clock : ℕ) (b out run y out' p : List ℕ) (t : Tally) (r : Ran) (next : Next) (written : Bool) (old new : Option (List ℕ)) → run ≡ y
+    → r ≡ ran_of config clock run (run_end config clock run (begun b out t)) → out' ≡ (run_end config clock run (begun b out t)).reply → p ≡ part out' 0 r.filled
+    → next ≡ cond written (next_of r.stop) Close → (IsTrue written → Appends old new p) → SendsAll config clock y (run_end config clock y (begun b out t)) old new next
 unfolding ran_of
-sends config clock run out' p z r next written old new q w u f h =
+sends config clock b out run y out' p t r next written old new e q w u f h =
+    let z = run_end config clock run (begun b out t) in
     let filled : r.filled ≡ z.filled = ap (λ (v : Ran). v.filled) q in
     let all : p ≡ take z.filled z.reply = u ∙ (λ i. take (filled i) (w i)) in
+    subst (λ (v : List ℕ). SendsAll config clock v (run_end config clock v (begun b out t)) old new next) e
     record {
       written = written;
       goes = f ∙ ap (λ (v : Ran). cond written (next_of v.stop) Close) q;
@@ -74,8 +77,6 @@ returns-clause-goes g c =
 pub returns-clause-sent : goal.returns-clause-sent
 returns-clause-sent g c =
     let a = c.args in
-    let run = c.held_of-run in
-    let stand = λ (v : List ℕ). run_end a.config a.clock v (begun a.table.now a.replies.now a.s.tally) in
-    subst (λ (v : List ℕ). SendsAll a.config a.clock v (stand v) _ _ c.next_after.result) run.ensures
-    (sends a.config a.clock run.result.now _ c.part.result.now (stand run.result.now) c.serve_run-ran.result c.next_after.result c.all-written.result _ _
-    c.serve_run-ran.ensures.0 c.serve_run-ran.ensures.1.1 c.part.ensures c.next_after.ensures c.all-written.ensures)
+    sends a.config a.clock a.table.now a.replies.now c.held_of-run.result.now (held_of a.s.held a.received.now) _ c.part.result.now a.s.tally c.serve_run-ran.result
+    c.next_after.result c.all-written.result _ _ c.held_of-run.ensures c.serve_run-ran.ensures.0 c.serve_run-ran.ensures.1.1 c.part.ensures c.next_after.ensures
+    c.all-written.ensures
