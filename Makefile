@@ -15,7 +15,8 @@ shared = $(library:.a=.so)
 
 # rt proves again only what has changed
 all:
-	rt staticlib contacts
+	cd crates/contacts && rt lib
+	install -D -m 644 crates/contacts/out/libcontacts.a $(library)
 
 shared: $(shared)
 

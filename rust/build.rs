@@ -1,4 +1,4 @@
-//! Links `libcontacts.a` from the directory in `CONTACTS_LIB_DIR`, or from where `rt staticlib contacts` writes it. A
+//! Links `libcontacts.a` from the directory in `CONTACTS_LIB_DIR`, or from where `make` writes it. A
 //! relative directory counts from this crate's. Without the library the crate can be checked and documented, not built.
 
 use std::env;
@@ -10,7 +10,7 @@ fn main() {
     let archive = dir.join("libcontacts.a");
     println!("cargo:rerun-if-changed={}", archive.display());
     if !archive.is_file() {
-        let how = "make it with `rt staticlib contacts`, or set CONTACTS_LIB_DIR to the directory that has it";
+        let how = "make it with `make` in the repository, or set CONTACTS_LIB_DIR to the directory that has it";
         println!("cargo:warning=there is no {}: {how}", archive.display());
     }
     println!("cargo:rustc-link-search=native={}", dir.display());

@@ -1,10 +1,10 @@
 -- What is held where some of it is consumed, moved to the start, or read on behind.
 use native.Mathlib.Omega.{arith}
 use Prim.Native.Nat.{ℕ, zero, suc, ◌+◌, ◌-◌, ◌≤◌, ◌<◌, ◌^◌}
-use mathlib.Core.Path.{◌≡◌, refl, sym, ap, subst, ◌∙◌}
-use mathlib.Core.List.{List, [], ◌∷◌, ◌++◌}
+use mathlib.Core.Path.{◌≡◌, sym, ap, subst, ◌∙◌}
+use mathlib.Core.List.{List, ◌++◌}
 use lib.ListN.{length, take, drop, length-take, length-drop}
-use lib.Seq.{drop-drop, take_all, take_at, take-take}
+use lib.Seq.{drop-drop, take_at}
 use Rattle.octets.specs.Parts.{part, written}
 use Rattle.octets.proofs.Lists.{take-pasted, written-fits}
 use Rattle.header.specs.Header.{header_of}
@@ -17,9 +17,7 @@ use Rattle.run.specs.declared.Ran.{Ran}
 use Rattle.run.specs.Run.{Stand, called_on, further, on_done, stand_after, begun, run_end, ran_of}
 use Rattle.run.proofs.Laws.{used-fits}
 use Rattle.contact_box.specs.declared.session.Held.{Held}
-use Rattle.contact_box.specs.declared.session.Next.{Next}
-use Rattle.contact_box.specs.declared.session.Session.{Session}
-use Rattle.contact_box.specs.Session.{held_of, past, Waits, Receives, first_frame}
+use Rattle.contact_box.specs.Session.{held_of, past, first_frame}
 
 -- ---- past what was consumed
 module _ (h : Held) (s : List ℕ) (used : ℕ) where
@@ -59,27 +57,12 @@ module _ (config : Config) (clock : ℕ) (run : List ℕ) where
   ran-inside b out t r e = subst (λ (x : Ran). x.cursor.at ≤ length run) (sym e) (stand-inside (length run) (begun b out t) (omega arith))
 
 -- ---- to the start
-pub none_kept : (held xs s : List ℕ) → held ≡ xs → length held ≡ 0 → (0 ≡ length xs) × (take 0 s ≡ xs)
-none_kept held [] s e z = (refl, refl)
-none_kept held (x ∷ xs) s e z = absurd (omega (arith, ap length e, z))
-
--- by way of an array
-pub some-kept : (held xs left left' p s s' : List ℕ) (n : ℕ) → held ≡ xs → length xs ≤ length s → n ≡ length held → left' ≡ take (length held) held ++ drop (length held) left
-    → p ≡ part left' 0 n → s' ≡ written s 0 p → (n ≡ length xs) × (take n s' ≡ xs)
-some-kept held xs left left' p s s' n e h l c q w =
+-- by way of an array, whose first n bytes are copied from them
+pub some-kept : (held xs copied rest p s s' : List ℕ) (n : ℕ) → held ≡ xs → length xs ≤ length s → n ≡ length held → copied ≡ held
+    → p ≡ part (copied ++ rest) 0 n → s' ≡ written s 0 p → (n ≡ length xs) × (take n s' ≡ xs)
+some-kept held xs copied rest p s s' n e h l c q w =
     let m : n ≡ length xs = l ∙ ap length e in
-    let f : left' ≡ xs ++ drop (length held) left = c ∙ ap (λ (ys : List ℕ). ys ++ drop (length held) left) (take_all (length held) held (omega arith) ∙ e) in
-    let y : p ≡ xs = q ∙ ap (take n) f ∙ take_at xs (drop (length held) left) n (sym m) in
+    let y : p ≡ xs = q ∙ ap (λ (ys : List ℕ). take n (ys ++ rest)) (c ∙ e) ∙ take_at xs rest n (sym m) in
     let k : n ≡ 0 + length xs = omega (arith, m) in
     let j : 0 + length xs ≤ length s = omega (arith, h) in
     (m, (λ i. take (k i) ((w ∙ ap (written s 0) y ∙ written-fits s 0 xs j) i)) ∙ take-pasted s 0 xs j)
-
--- ---- with what comes behind it
-pub receives : (x : Session) (xs s s' : List ℕ) (left came : ℕ) (next : Next) → (left ≡ length xs) × (take left s ≡ xs) → take left s' ≡ take left s
-    → Waits next (take (left + came) s') → Receives xs s' x (record { held = record { at = 0; end = left + came }; tally = x.tally; next = next; recorder = x.recorder })
-receives x xs s s' left came next k r w = record {
-  kept = ap (λ (n : ℕ). take n (take (left + came) s')) (sym k.0) ∙ take-take left (left + came) s' (omega arith) ∙ r ∙ k.1;
-  counted = refl;
-  recorded = refl;
-  waits = w;
-}

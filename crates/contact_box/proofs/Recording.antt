@@ -2,12 +2,16 @@
 use native.Mathlib.Omega.{arith}
 use Prim.Native.Nat.{ℕ, ◌+◌, ◌-◌, ◌≤◌, ◌<◌}
 use mathlib.Core.Path.{◌≡◌, refl, sym, ap, subst, ◌∙◌}
-use mathlib.Core.Bool.{Bool, false}
+use mathlib.Core.Bool.{Bool, true, false}
 use mathlib.Core.List.{List}
 use borrow.Author.Tests.{le-leb, lt-ltb, le-ltb}
-use lib.ListN.{length}
-use Rattle.octets.specs.Parts.{Bytes, part}
-use Rattle.octets.proofs.Lists.{part-most}
+use lib.ListN.{length, take}
+use lib.Seq.{take_all}
+use Rattle.std.specs.Prelude.{IsTrue}
+use Rattle.std.specs.declared.option.Option.{Option}
+use Rattle.std.specs.Io.KnownBytes.{Appends}
+use Rattle.octets.specs.Parts.{Bytes, part, pasted, written}
+use Rattle.octets.proofs.Lists.{part-most, take-pasted, written-fits, length-pasted}
 use Rattle.engine.specs.declared.Config.{Config}
 use Rattle.request.specs.declared.Gate.{Gate}
 use Rattle.request.specs.declared.Gate.TheVariants.{Stop, Whole}
@@ -17,11 +21,11 @@ use Rattle.serving.specs.declared.Served.{Served}
 use Rattle.serving.specs.declared.Served.TheVariants.{Refused, Done}
 use Rattle.serving.specs.Serve.{served_used, served_length, gate_all, answer_by, served}
 use Rattle.serving.proofs.Gated.{was-open}
-use Rattle.trace_writer.specs.Writing.{frame_fields, length_put}
-use Rattle.trace_writer.proofs.FieldLaws.{length-frame, frame-most}
+use Rattle.trace_writer.specs.Writing.{frame_fields, opening_bytes, length_put}
+use Rattle.trace_writer.proofs.FieldLaws.{length-frame, frame-most, length-opening}
 use Rattle.contact_box.specs.declared.recorder.Recorder.{Recorder}
 use Rattle.contact_box.specs.declared.recorder.Recording.TheVariants.{Full}
-use Rattle.contact_box.specs.Recorder.{stopped, grown, Grows, Short}
+use Rattle.contact_box.specs.Recorder.{opened, stopped, grown, Grows, Short, Hands}
 use Rattle.contact_box.specs.Session.{first_frame}
 use Rattle.contact_box.proofs.First.{first-whole}
 
@@ -46,14 +50,35 @@ short config b clock run out frame reply room len (Done st used k) e y f l q =
     let g = ap (λ (ys : List ℕ). served config b clock ys room) (sym f) ∙ sym e in
     (omega (arith, ap length f, first-whole run config b clock room st used k g, m.0), omega (arith, ap length q, part-most out 0 len, l, m.1))
 
+-- ---- what was handed to the trace's writer
+put-whole : (s s' xs : List ℕ) → length xs ≤ length s → s' ≡ written s 0 xs → take (length xs) s' ≡ xs
+put-whole s s' xs h w =
+    let j : 0 + length xs ≤ length s = omega (arith, h) in
+    let k : length xs ≡ 0 + length xs = omega arith in
+    ap (take (length xs)) (w ∙ written-fits s 0 xs j) ∙ ap (λ (n : ℕ). take n (pasted s 0 xs)) k ∙ take-pasted s 0 xs j
+
+pub hands-opened : (old new : Option (List ℕ)) (x : Recorder) (w : Bool) (s s' : List ℕ) (mode vbucket : ℕ) → length s ≡ 7
+    → s' ≡ written s 0 (opening_bytes mode vbucket) → x ≡ opened w → (IsTrue w → Appends old new s') → Hands x.recording old new (opening_bytes mode vbucket)
+hands-opened old new x true s s' mode vbucket l q e h =
+    let xs = opening_bytes mode vbucket in
+    let m : length xs ≤ length s = omega (arith, l, length-opening mode vbucket) in
+    let p : take (length xs) s' ≡ xs = put-whole s s' xs m q in
+    let n : length s' ≤ length xs = omega (arith, ap length (q ∙ written-fits s 0 xs (omega (arith, m))), length-pasted s 0 xs (omega (arith, m)), l, length-opening mode vbucket) in
+    subst (λ (v : Recorder). Hands v.recording old new xs) (sym e) (subst (Appends old new) (sym (take_all (length xs) s' n) ∙ p) (h refl))
+hands-opened old new x false s s' mode vbucket l q e h =
+    subst (λ (v : Recorder). Hands v.recording old new (opening_bytes mode vbucket)) (sym e) tt
+
 -- ---- the area has room, so a frame's fields are left out only where the trace would be too long
 module _ (r : Recorder) (clock : ℕ) (frame reply : List ℕ) (f : length frame ≤ 1424) (q : length reply ≤ 1302) (n m : ℕ)
     (put : n ≡ length_put 2739 (frame_fields r.clock clock frame reply)) (left : m ≡ 65536 - r.at) where
   abbrev fields : List ℕ
   fields = frame_fields r.clock clock frame reply
 
+  least : length fields ≤ 2739
+  least = omega (arith, frame-most r.clock clock frame reply, f, q)
+
   size : n ≡ length fields
-  size = put ∙ rw (le-leb (length fields) 2739 (omega (arith, frame-most r.clock clock frame reply, f, q)))
+  size = put ∙ rw (le-leb (length fields) 2739 least)
 
   pub is-full : (x : Recorder) → m < n → x ≡ stopped r Full → Grows r clock fields x
   is-full x h e = record { written = false; now = e ∙ rw (lt-ltb (65536 - r.at) (length fields) (omega (arith, size, left))) }
@@ -66,3 +91,10 @@ module _ (r : Recorder) (clock : ℕ) (frame reply : List ℕ) (f : length frame
     written = written;
     now = e ∙ ap (λ (k : ℕ). grown r clock k written) size ∙ rw (le-ltb (65536 - r.at) (length fields) (omega (arith, size, left)));
   }
+
+  pub hands-grown : (old new : Option (List ℕ)) (x : Recorder) (w : Bool) (s s' p : List ℕ) → length s ≡ 2739 → s' ≡ written s 0 fields → p ≡ part s' 0 n
+      → x ≡ grown r clock n w → (IsTrue w → Appends old new p) → Hands x.recording old new fields
+  hands-grown old new x true s s' p l t u e h =
+      let k : p ≡ fields = u ∙ ap (λ (i : ℕ). take i s') size ∙ put-whole s s' fields (omega (arith, l, least)) t in
+      subst (λ (v : Recorder). Hands v.recording old new fields) (sym e) (subst (Appends old new) k (h refl))
+  hands-grown old new x false s s' p l t u e h = subst (λ (v : Recorder). Hands v.recording old new fields) (sym e) tt

@@ -1,12 +1,14 @@
 -- What the frames that were held leave when they have been served.
-use Rattle.std.specs.Prelude.{ℕ, ◌+◌, ◌<◌, cond, ◌≡◌, List, eqb, length, take, drop}
+use Rattle.std.specs.Prelude.{ℕ, ◌+◌, ◌<◌, cond, ◌≡◌, List, eqb, length, take, drop, Bool, IsTrue}
+use Rattle.std.specs.declared.option.Option.{Option}
+use Rattle.std.specs.Io.KnownBytes.{Appends}
 use Rattle.header.specs.Header.{header_of}
 use Rattle.engine.specs.declared.Config.{Config}
 use Rattle.serving.specs.declared.Served.{Served}
 use Rattle.serving.specs.declared.Served.TheVariants.{Refused, Done}
 use Rattle.serving.specs.Serve.{served_used, served_length, served, served_table, served_reply}
 use Rattle.tally.specs.Counts.{counted_of}
-use Rattle.run.specs.Run.{Stand}
+use Rattle.run.specs.Run.{Stand, called_on}
 use Rattle.contact_box.specs.declared.session.Next.{Next}
 use Rattle.contact_box.specs.declared.session.Next.TheVariants.{Receive, Serve, Close}
 use Rattle.contact_box.specs.declared.session.Held.{Held}
@@ -39,6 +41,12 @@ pub record Receives (held received : List ℕ) (s r : Session) : Type 0 where
   pub recorded : r.recorder ≡ s.recorder
   pub waits : Waits r.next (held_of r.held received)
 
+-- replies were handed to the output, all of them, or the session ends; it ends also at an answer that has the caller close
+pub record Sends (answer : Served) (reply : List ℕ) (old new : Option (List ℕ)) (next : Next) : Type 0 where
+  pub written : Bool
+  pub goes : next ≡ cond written (next_of answer) Close
+  pub sent : IsTrue written → Appends old new reply
+
 -- the bytes that were held are served as a run, and those that no frame consumed are held still
 pub record Goes (end : Stand) (table received : List ℕ) (s r : Session) : Type 0 where
   pub stored : table ≡ end.table
@@ -48,9 +56,19 @@ pub record Goes (end : Stand) (table received : List ℕ) (s r : Session) : Type
   pub kept : held_of r.held received ≡ drop end.at (held_of s.held received)
   pub waits : Waits r.next (held_of r.held received)
 
+-- and its replies are handed on
+abbrev pub SendsAll : Config → ℕ → List ℕ → Stand → Option (List ℕ) → Option (List ℕ) → Next → Type 0
+SendsAll config clock run end old new next = Sends (called_on config clock run end) (take end.filled end.reply) old new next
+
 -- the first frame of a run, or as much of it as there is
 abbrev pub first_frame : List ℕ → List ℕ
 first_frame run = take (24 + (header_of run).body) run
+
+abbrev pub answer_to : Config → ℕ → List ℕ → List ℕ → List ℕ → Served
+answer_to config clock run b out = served config b clock (first_frame run) (length out)
+
+abbrev pub reply_to : Config → ℕ → List ℕ → List ℕ → List ℕ → List ℕ
+reply_to config clock run b out = take (served_length (answer_to config clock run b out)) (served_reply config b clock (first_frame run) out)
 
 -- the first frame of the bytes that were held is served and recorded, all of it, and the bytes behind it are held still
 pub record GoesOne (config : Config) (clock : ℕ) (run b out table received : List ℕ) (s r : Session) : Type 0 where

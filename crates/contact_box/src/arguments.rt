@@ -1,9 +1,11 @@
 // What the program's arguments ask for.
-ghost use Rattle.std.specs.Prelude.{◌≤◌};
+ghost use Rattle.std.specs.Prelude.{◌≤◌, length};
 ghost use Rattle.contact_box.specs.Arguments.{Allowed};
 
 use crate::report;
 use digits::Number;
+use std::env::{Env, FillError};
+use std::io::Write;
 
 const REVISION: u8 = 1;
 
@@ -27,19 +29,39 @@ pub(crate) enum Parsed {
     Wrong(Fault),
 }
 
+// Whether there is such an argument, of any length.
+fn is_there(args: &impl Env, i: usize) -> bool {
+    let mut word = [0u8; 1];
+    match args.arg(i, &mut word) {
+        Ok(_) => true,
+        Err(FillError::TooLong) => true,
+        Err(FillError::NotPresent) => false,
+    }
+}
+
+// Puts an argument at the start of a word and answers its length, or 0 where it isn't there or is longer.
+fn put_word(args: &impl Env, i: usize, word: &mut [u8]) -> usize
+    ensures { result ≤ length word.new }
+{
+    match args.arg(i, word) {
+        Ok(n) => n,
+        Err(_) => 0,
+    }
+}
+
 // The number that an argument spells.
-fn number_at(i: usize) -> Number {
+fn number_at(args: &impl Env, i: usize) -> Number {
     let mut word = [0u8; 32];
-    let n = os::arg(i, &mut word);
+    let n = put_word(args, i, &mut word);
     digits::parse(&word[..n])
 }
 
 // The mode that an argument names, or 0.
-fn mode_at(i: usize) -> u8
+fn mode_at(args: &impl Env, i: usize) -> u8
     ensures { result ≤ 2 }
 {
     let mut word = [0u8; 32];
-    let n = os::arg(i, &mut word);
+    let n = put_word(args, i, &mut word);
     if compare::same(&word[..n], b"revision") {
         return REVISION;
     }
@@ -97,29 +119,29 @@ fn recorded_of(asked: Parsed) -> Parsed
     Parsed::Recorded { vbucket, mode }
 }
 
-pub(crate) fn read() -> Parsed
+// The program's own name is argument 0.
+pub(crate) fn read(args: &impl Env) -> Parsed
     ensures { Allowed result }
 {
-    let count = os::arg_count();
-    if count < 4 {
+    if !is_there(args, 3) {
         return Parsed::Wrong(Fault::Count);
     }
-    if 5 < count {
+    if is_there(args, 5) {
         return Parsed::Wrong(Fault::Count);
     }
-    let asked = asked_of(number_at(1), number_at(2), mode_at(3));
-    if count == 5 {
+    let asked = asked_of(number_at(args, 1), number_at(args, 2), mode_at(args, 3));
+    if is_there(args, 4) {
         return recorded_of(asked);
     }
     asked
 }
 
-pub(crate) fn complain(f: Fault) {
+pub(crate) fn complain<W: Write>(to: &mut W, f: Fault) {
     match f {
-        Fault::Count => report::wrong(b"three or four arguments are wanted"),
-        Fault::Rows => report::wrong(b"ROWS is 1 to 256"),
-        Fault::Vbucket => report::wrong(b"VBUCKET is 0 to 65535"),
-        Fault::Mode => report::wrong(b"MODE is revision or last-write-wins"),
-        Fault::Recorded => report::wrong(b"with a TRACE, ROWS is 32"),
+        Fault::Count => report::wrong(to, b"three or four arguments are wanted"),
+        Fault::Rows => report::wrong(to, b"ROWS is 1 to 256"),
+        Fault::Vbucket => report::wrong(to, b"VBUCKET is 0 to 65535"),
+        Fault::Mode => report::wrong(to, b"MODE is revision or last-write-wins"),
+        Fault::Recorded => report::wrong(to, b"with a TRACE, ROWS is 32"),
     }
 }

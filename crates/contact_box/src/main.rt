@@ -15,8 +15,7 @@
 //
 // It ends where the input ends, at a frame with outcome 2 or 3, which have the caller close, and where reading or writing fails. Then it
 // says its tally and the kept clock on standard error, and how much it recorded or where it stopped to. Arguments that it can't serve by,
-// or a TRACE that can't be opened, get a line there and nothing else. The exit status is 0 in every
-// case, since a Rattle program has no other.
+// or a TRACE that can't be opened, get a line there and nothing else. The exit status is 0 in every case.
 #![tactic(auto)]
 
 mod arguments;
@@ -24,6 +23,7 @@ mod clock;
 mod recorder;
 mod report;
 mod session;
+mod writing;
 
 ghost use Rattle.std.specs.Prelude.{◌≡◌, length};
 ghost use Rattle.rows.specs.Table.{table_bytes, fresh};
@@ -32,6 +32,7 @@ ghost use Rattle.contact_box.specs.Arguments.{Makes};
 
 use arguments::Parsed;
 use recorder::Recorder;
+use std::io::Write;
 
 const ACTIVE: u8 = 1;
 
@@ -56,7 +57,15 @@ fn make_table(table: &mut [u8], rows: usize, vbucket: u16, mode: u8)
     owner::make(table, rows, ACTIVE, mode, vbucket);
 }
 
-fn serve(rows: usize, vbucket: u16, mode: u8, recorder: Recorder)
+// Serves standard input, and records to a trace where the recorder is on.
+fn serve<T: Write>(
+    rt: &HostRuntime,
+    rows: usize,
+    vbucket: u16,
+    mode: u8,
+    trace: &mut T,
+    recorder: Recorder,
+)
     requires { Makes rows mode }
 {
     let mut memory = memory();
@@ -65,33 +74,51 @@ fn serve(rows: usize, vbucket: u16, mode: u8, recorder: Recorder)
     let size = owner::size(rows);
     let table = &mut memory[..size];
     make_table(table, rows, vbucket, mode);
-    let end = session::serve_input(table, &mut received, &mut replies, recorder);
+    let mut input = rt.stdin();
+    let mut output = rt.stdout();
+    let end = session::serve_input(
+        rt,
+        &mut input,
+        &mut output,
+        trace,
+        table,
+        &mut received,
+        &mut replies,
+        recorder,
+    );
     let head = rows::head_of(table);
-    let tally = end.tally;
-    report::ended(tally, head.clock);
-    let recorded = end.recorder;
-    recorder::ended(recorded);
+    let mut said = rt.stderr();
+    report::ended(&mut said, end.tally, head.clock);
+    recorder::ended(&mut said, end.recorder);
 }
 
 // Serves and records, if the file that the fourth argument names can be opened.
-fn record(vbucket: u16, mode: u8)
+fn record(rt: &HostRuntime, vbucket: u16, mode: u8)
     requires { Makes 32 mode }
 {
-    let file = recorder::open(4);
-    if file < 0 {
+    let mut said = rt.stderr();
+    let Some(mut file) = recorder::open(rt, &mut said, 4) else {
         return;
-    }
-    serve(32, vbucket, mode, recorder::begin(file, mode, vbucket));
+    };
+    let recorder = recorder::begin(&mut file, mode, vbucket);
+    serve(rt, 32, vbucket, mode, &mut file, recorder);
 }
 
-fn main() {
-    match arguments::read() {
+fn main(rt: HostRuntime) {
+    match arguments::read(&rt) {
         Parsed::Table {
             rows,
             vbucket,
             mode,
-        } => serve(rows, vbucket, mode, recorder::none()),
-        Parsed::Recorded { vbucket, mode } => record(vbucket, mode),
-        Parsed::Wrong(why) => arguments::complain(why),
+        } => serve(
+            &rt,
+            rows,
+            vbucket,
+            mode,
+            &mut std::io::sink(),
+            recorder::none(),
+        ),
+        Parsed::Recorded { vbucket, mode } => record(&rt, vbucket, mode),
+        Parsed::Wrong(why) => arguments::complain(&mut rt.stderr(), why),
     }
 }

@@ -1,10 +1,14 @@
 // Recording what is served as a trace, to a file.
 ghost use Rattle.std.specs.Prelude.{◌≡◌, ◌+◌, ◌≤◌, length};
-ghost use Rattle.trace_writer.specs.Writing.{frame_fields};
-ghost use Rattle.contact_box.specs.Recorder.{opened, is_on, stopped, grown, Grows, Short, Records};
+ghost use Rattle.trace_writer.specs.Writing.{opening_bytes, frame_fields};
+ghost use Rattle.contact_box.specs.Recorder.{opened, is_on, stopped, grown, Grows, Short, Records, Hands, HandsOn};
 
-use crate::report;
+use crate::{report, writing};
 use serving::Served;
+use std::env::{Env, FillError};
+use std::fs::Files;
+use std::io::Write;
+use std::{fs, io};
 use trace::LONGEST;
 use trace_writer::BEGINNING;
 
@@ -21,7 +25,6 @@ pub(crate) enum Recording {
 // at: the trace's length, which is the place of its next field; clock: the one that it told last, 0 before any.
 #[derive(Clone, Copy)]
 pub(crate) struct Recorder {
-    file: i32,
     at: usize,
     frames: u64,
     clock: u32,
@@ -30,7 +33,6 @@ pub(crate) struct Recorder {
 
 pub(crate) fn none() -> Recorder {
     Recorder {
-        file: 0,
         at: 0,
         frames: 0,
         clock: 0,
@@ -38,28 +40,53 @@ pub(crate) fn none() -> Recorder {
     }
 }
 
-// Opens the file that an argument names, or says why it can't and answers a negative number.
-pub(crate) fn open(i: usize) -> i32 {
-    let mut name = io::buffer();
-    let n = os::arg(i, &mut name);
-    if os::errno() != 0 {
-        os::fail(b"contact_box: TRACE");
-        return -1;
+const NAME_TOO_LONG: i32 = 36;
+
+const NOT_THERE: i32 = 22;
+
+const NOT_TEXT: i32 = 84;
+
+// The system's error for an argument that can't be had.
+fn error_of(why: FillError) -> io::Error {
+    match why {
+        FillError::TooLong => io::Error::from_raw_os_error(NAME_TOO_LONG),
+        FillError::NotPresent => io::Error::from_raw_os_error(NOT_THERE),
     }
-    let file = os::open_overwrite(&name[..n]);
-    if file < 0 {
-        os::fail(&name[..n]);
+}
+
+// Opens the file of a name, which is empty then, or says why it can't.
+fn open_named<R: Files, W: Write>(files: &R, said: &mut W, name: &[u8]) -> Option<R::File> {
+    let Ok(path) = std::str::from_utf8(name) else {
+        report::failed(said, name, io::Error::from_raw_os_error(NOT_TEXT));
+        return None;
+    };
+    match fs::create(files, path) {
+        Ok(file) => Some(file),
+        Err(why) => {
+            report::failed(said, name, why);
+            None
+        }
     }
-    file
+}
+
+// Opens the file that an argument names, or says why it can't.
+pub(crate) fn open<R: Env + Files, W: Write>(rt: &R, said: &mut W, i: usize) -> Option<R::File> {
+    let mut name = [0u8; 4096];
+    match rt.arg(i, &mut name) {
+        Ok(n) => open_named(rt, said, &name[..n]),
+        Err(why) => {
+            report::failed(said, b"contact_box: TRACE", error_of(why));
+            None
+        }
+    }
 }
 
 // A recorder whose opening was written or not.
-fn opened(file: i32, written: bool) -> Recorder
-    ensures { result ≡ opened file written }
+fn opened(written: bool) -> Recorder
+    ensures { result ≡ opened written }
 {
     if written {
         return Recorder {
-            file,
             at: BEGINNING,
             frames: 0,
             clock: 0,
@@ -67,7 +94,6 @@ fn opened(file: i32, written: bool) -> Recorder
         };
     }
     Recorder {
-        file,
         at: 0,
         frames: 0,
         clock: 0,
@@ -76,10 +102,12 @@ fn opened(file: i32, written: bool) -> Recorder
 }
 
 // Begins a trace by its opening and the rule of force that the box serves by.
-pub(crate) fn begin(file: i32, mode: u8, vbucket: u16) -> Recorder {
+pub(crate) fn begin<T: Write>(trace: &mut T, mode: u8, vbucket: u16) -> Recorder
+    ensures fields { Hands result.recording (T.contents trace.old) (T.contents trace.new) (opening_bytes mode vbucket) }
+{
     let mut opening = [0u8; BEGINNING];
     trace_writer::put_opening(&mut opening, mode, vbucket);
-    opened(file, io::write_all(file, &opening))
+    opened(writing::all(trace, &opening))
 }
 
 pub(crate) fn is_on(r: Recorder) -> bool
@@ -101,7 +129,6 @@ fn grown(r: Recorder, clock: u32, n: usize, written: bool) -> Recorder
 {
     if written {
         return Recorder {
-            file: r.file,
             at: r.at + n,
             frames: numbers::next(r.frames),
             clock,
@@ -115,7 +142,6 @@ fn stopped(r: Recorder, recording: Recording) -> Recorder
     ensures { result ≡ stopped r recording }
 {
     Recorder {
-        file: r.file,
         at: r.at,
         frames: r.frames,
         clock: r.clock,
@@ -124,21 +150,24 @@ fn stopped(r: Recorder, recording: Recording) -> Recorder
 }
 
 // Records a frame that was served at a clock, and its reply, which is empty for a silent frame.
-fn record(r: Recorder, clock: u32, frame: &[u8], reply: &[u8]) -> Recorder
+fn record<T: Write>(trace: &mut T, r: Recorder, clock: u32, frame: &[u8], reply: &[u8]) -> Recorder
     requires { (length frame.now ≤ 1424) × (length reply.now ≤ 1302) }
-    ensures { Grows r clock (frame_fields r.clock clock frame.now reply.now) result }
+    ensures fields { Hands result.recording (T.contents trace.old) (T.contents trace.new)
+        (frame_fields r.clock clock frame.now reply.now) }
+    ensures grows { Grows r clock (frame_fields r.clock clock frame.now reply.now) result }
 {
     let mut fields = [0u8; 2739];
     let n = trace_writer::put_served(&mut fields, r.clock, clock, frame, reply);
     if octets::minus(LONGEST, r.at) < n {
         return stopped(r, Recording::Full);
     }
-    let written = io::write_all(r.file, octets::part(&fields, 0, n));
+    let written = writing::all(trace, octets::part(&fields, 0, n));
     grown(r, clock, n, written)
 }
 
 // Records what a call answered, if it served a frame.
-pub(crate) fn record_answer(
+pub(crate) fn record_answer<T: Write>(
+    trace: &mut T,
     r: Recorder,
     clock: u32,
     answer: Served,
@@ -146,21 +175,24 @@ pub(crate) fn record_answer(
     reply: &[u8],
 ) -> Recorder
     requires { Short answer frame.now reply.now }
-    ensures { Records r clock answer frame.now reply.now result }
+    ensures fields { HandsOn answer result.recording (T.contents trace.old) (T.contents trace.new)
+        (frame_fields r.clock clock frame.now reply.now) }
+    ensures records { Records r clock answer frame.now reply.now result }
 {
     match answer {
         Served::Refused(_, _) => r,
-        Served::Done(_, _, _) => record(r, clock, frame, reply),
+        Served::Done(_, _, _) => record(trace, r, clock, frame, reply),
     }
 }
 
 // Says what was recorded, or where the recording stopped.
-pub(crate) fn ended(r: Recorder) {
+pub(crate) fn ended<W: Write>(said: &mut W, r: Recorder) {
     let recording = r.recording;
     let at = r.at as u64;
     match recording {
         Recording::Off => {}
         Recording::On => report::counts(
+            said,
             b"contact_box: recorded ",
             r.frames,
             b" frames, ",
@@ -168,6 +200,7 @@ pub(crate) fn ended(r: Recorder) {
             b" bytes\n",
         ),
         Recording::Full => report::counts(
+            said,
             b"contact_box: recording stopped at ",
             at,
             b" after ",
@@ -175,6 +208,7 @@ pub(crate) fn ended(r: Recorder) {
             b" frames: the trace is full\n",
         ),
         Recording::Failed => report::counts(
+            said,
             b"contact_box: recording stopped at ",
             at,
             b" after ",

@@ -1,14 +1,18 @@
 // Serving what comes on standard input, in pieces of any size.
-ghost use Rattle.std.specs.Prelude.{◌≡◌, cond, ◌+◌, ◌≤◌, ◌<◌, ◌^◌, length, take};
+ghost use Rattle.std.specs.Prelude.{◌≡◌, cond, ◌+◌, ◌≤◌, ◌<◌, ◌^◌, length, take, drop};
+ghost use Rattle.std.specs.Io.KnownBytes.{Consumes};
 ghost use Rattle.run.specs.Run.{begun, run_end};
 ghost use Rattle.serving.specs.Serve.{served_length};
-ghost use Rattle.contact_box.specs.Session.{held_of, past, Receives, next_of, Waits, Goes, first_frame, GoesOne};
+ghost use Rattle.trace_writer.specs.Writing.{frame_fields};
+ghost use Rattle.contact_box.specs.Recorder.{HandsOn};
+ghost use Rattle.contact_box.specs.Session.{held_of, past, Receives, next_of, Waits, Goes, SendsAll, first_frame, GoesOne, answer_to, reply_to, Sends};
 
 use crate::recorder::Recorder;
-use crate::{clock, recorder};
+use crate::{clock, recorder, writing};
 use engine::Config;
-use libc::{STDIN_FILENO, STDOUT_FILENO};
 use serving::Served;
+use std::io::{Read, Write};
+use std::time::Clock;
 use tally::Tally;
 
 // What is next: read on, serve on with the reply area free again, or end.
@@ -52,13 +56,16 @@ fn past(h: Held, used: usize) -> Held
 }
 
 // Reads once behind the bytes held, and answers how many came: none at the end of the input or where reading fails.
-fn receive(received: &mut [u8], held: usize) -> usize
+fn receive<R: Read>(input: &mut R, received: &mut [u8], held: usize) -> usize
     requires { held ≤ length received.old }
-    ensures { (held + result ≤ length received.old) × (take held received.new ≡ take held received.old) }
+    ensures kept { (held + result ≤ length received.old) × (take held received.new ≡ take held received.old) }
+    ensures came { Consumes (R.remaining input.old) (R.remaining input.new) (take result (drop held received.new)) }
 {
     let space = &mut received[held..];
-    let got = libc::read(STDIN_FILENO, space);
-    io::count(got, space)
+    match input.read(space) {
+        Ok(n) => n,
+        Err(_) => 0,
+    }
 }
 
 // Moves the bytes held to the start, and answers how many they are. They go by an array, which the compiler knows to be apart from them.
@@ -71,20 +78,23 @@ fn keep(received: &mut [u8], h: Held) -> usize
         return 0;
     }
     let mut left = [0u8; 1424];
-    let n = bytes::copy(held, &mut left);
+    let n = held.len();
+    left[..n].copy_from_slice(held);
     octet_writer::put_bytes(received, 0, octets::part(&left, 0, n));
     n
 }
 
 // Reads on behind the bytes held. There is room for more, so where nothing comes the input has ended or can't be read.
-fn receive_on(received: &mut [u8], s: Session) -> Session
+fn receive_on<R: Read>(input: &mut R, received: &mut [u8], s: Session) -> Session
     requires { (length (held_of s.held received.old) < 1424) × (1424 ≤ length received.old) }
-    ensures { Receives (held_of s.held received.old) received.new s result }
+    ensures kept { Receives (held_of s.held received.old) received.new s result }
+    ensures came { Consumes (R.remaining input.old) (R.remaining input.new)
+        (drop (length (held_of s.held received.old)) (held_of result.held received.new)) }
 {
     let tally = s.tally;
     let recorder = s.recorder;
     let left = keep(received, s.held);
-    let came = receive(received, left);
+    let came = receive(input, received, left);
     let held = Held {
         at: 0,
         end: left + came,
@@ -123,23 +133,27 @@ fn next_after(answer: Served, written: bool) -> Next
 }
 
 // Serves the frames that are held, and writes their replies.
-fn serve_held(
+fn serve_held<W: Write>(
     config: Config,
+    output: &mut W,
     table: &mut [u8],
     clock: u32,
     received: &[u8],
     replies: &mut [u8],
     s: Session,
 ) -> Session
-    ensures { Goes
+    ensures goes { Goes
         (run_end config clock (held_of s.held received.now) (begun table.old replies.old s.tally))
         table.new received.now s result }
+    ensures sent { SendsAll config clock (held_of s.held received.now)
+        (run_end config clock (held_of s.held received.now) (begun table.old replies.old s.tally))
+        (W.contents output.old) (W.contents output.new) result.next }
 {
     let held = s.held;
     let recorder = s.recorder;
     let run = held_of(received, held);
     let ran = run::serve_run(config, table, clock, run, replies, s.tally);
-    let written = io::write_all(STDOUT_FILENO, octets::part(replies, 0, ran.filled));
+    let written = writing::all(output, octets::part(replies, 0, ran.filled));
     let cursor = ran.cursor;
     let tally = ran.tally;
     let stop = ran.stop;
@@ -169,24 +183,33 @@ fn length_of(answer: Served) -> usize
 }
 
 // Serves the first of the frames that are held, without what stands behind it, writes its reply, and records both.
-fn serve_first(
+fn serve_first<W: Write, T: Write>(
     config: Config,
+    output: &mut W,
+    trace: &mut T,
     table: &mut [u8],
     clock: u32,
     received: &[u8],
     replies: &mut [u8],
     s: Session,
 ) -> Session
-    ensures { GoesOne config clock (held_of s.held received.now) table.old replies.old
+    ensures goes { GoesOne config clock (held_of s.held received.now) table.old replies.old
         table.new received.now s result }
+    ensures sent { Sends (answer_to config clock (held_of s.held received.now) table.old replies.old)
+        (reply_to config clock (held_of s.held received.now) table.old replies.old)
+        (W.contents output.old) (W.contents output.new) result.next }
+    ensures traced { HandsOn (answer_to config clock (held_of s.held received.now) table.old replies.old)
+        result.recorder.recording (T.contents trace.old) (T.contents trace.new)
+        (frame_fields s.recorder.clock clock (first_frame (held_of s.held received.now))
+        (reply_to config clock (held_of s.held received.now) table.old replies.old)) }
 {
     let held = s.held;
     let frame = first_frame(held_of(received, held));
     let answer = serve::serve_one(config, table, clock, frame, replies);
     let used = run::used_of(answer);
     let reply = octets::part(replies, 0, length_of(answer));
-    let written = io::write_all(STDOUT_FILENO, reply);
-    let recorder = recorder::record_answer(s.recorder, clock, answer, frame, reply);
+    let written = writing::all(output, reply);
+    let recorder = recorder::record_answer(trace, s.recorder, clock, answer, frame, reply);
     Session {
         held: past(held, used),
         tally: tally::counted(s.tally, answer),
@@ -196,24 +219,42 @@ fn serve_first(
 }
 
 // Serves what is held, on rows in key order: all frames at once, or one by one where they are recorded.
-fn serve_some(table: &mut [u8], received: &[u8], replies: &mut [u8], s: Session) -> Session
+fn serve_some<C: Clock, W: Write, T: Write>(
+    clock: &C,
+    output: &mut W,
+    trace: &mut T,
+    table: &mut [u8],
+    received: &[u8],
+    replies: &mut [u8],
+    s: Session,
+) -> Session
     ensures { Waits result.next (held_of result.held received.now) }
 {
     let config = engine::config_for(false);
+    let now = clock::now(clock);
     if recorder::is_on(s.recorder) {
-        return serve_first(config, table, clock::now(), received, replies, s);
+        return serve_first(config, output, trace, table, now, received, replies, s);
     }
-    serve_held(config, table, clock::now(), received, replies, s)
+    serve_held(config, output, table, now, received, replies, s)
 }
 
-fn turn(table: &mut [u8], received: &mut [u8], replies: &mut [u8], s: Session) -> Session
+fn turn<C: Clock, R: Read, W: Write, T: Write>(
+    clock: &C,
+    input: &mut R,
+    output: &mut W,
+    trace: &mut T,
+    table: &mut [u8],
+    received: &mut [u8],
+    replies: &mut [u8],
+    s: Session,
+) -> Session
     requires { (1424 ≤ length received.old) × Waits s.next (held_of s.held received.old) }
     ensures { Waits result.next (held_of result.held received.new) }
 {
     let next = s.next;
     match next {
-        Next::Receive => receive_on(received, s),
-        Next::Serve => serve_some(table, received, replies, s),
+        Next::Receive => receive_on(input, received, s),
+        Next::Serve => serve_some(clock, output, trace, table, received, replies, s),
         Next::Close => s,
     }
 }
@@ -229,7 +270,11 @@ fn is_open(s: Session) -> bool {
 
 // Serves the input to its end. A proved loop has to end, and nothing says that an input does, so the turns are counted down from a number
 // that no input uses up.
-pub(crate) fn serve_input(
+pub(crate) fn serve_input<C: Clock, R: Read, W: Write, T: Write>(
+    clock: &C,
+    input: &mut R,
+    output: &mut W,
+    trace: &mut T,
     table: &mut [u8],
     received: &mut [u8],
     replies: &mut [u8],
@@ -250,7 +295,7 @@ pub(crate) fn serve_input(
     };
     let mut turns = u64::MAX;
     while 0 < turns && is_open(s) {
-        s = turn(table, received, replies, s);
+        s = turn(clock, input, output, trace, table, received, replies, s);
         turns -= 1;
     }
     s

@@ -2,21 +2,21 @@
 use native.Mathlib.Omega.{arith}
 use Prim.Native.Nat.{ℕ, ◌+◌, ◌≤◌, ◌<◌}
 use mathlib.Core.Path.{◌≡◌, refl, sym, ap, subst, ◌∙◌}
-use mathlib.Core.Bool.{Bool, true, false, cond}
-use mathlib.Core.List.{List, [], ◌∷◌}
+use mathlib.Core.Bool.{false, cond}
+use mathlib.Core.List.{List, []}
 use lib.ListN.{length, drop, drop_of_length-le, length-drop}
 use lib.Seq.{drop-drop}
 use Rattle.engine.specs.declared.Config.{Config}
 use Rattle.trace.specs.declared.Field.{Field}
 use Rattle.trace.specs.declared.Field.TheVariants.{Clock, Frame, Reply, Purge, Rule, Broken}
-use Rattle.trace.specs.Trace.{Placed, length_in, bytes_held, field_at, is_broken, placed_at, placed_from, fields_from}
+use Rattle.trace.specs.Trace.{length_in, bytes_held, field_at, is_broken, placed_from, fields_from}
 use Rattle.trace.proofs.Fields.{field-inside, fields-on}
 use Rattle.replay.specs.declared.Ending.{Ending}
 use Rattle.replay.specs.declared.Ending.TheVariants.{Replayed}
 use Rattle.replay.specs.declared.Progress.{Progress}
 use Rattle.replay.specs.declared.Step.{Step}
 use Rattle.replay.specs.declared.Step.TheVariants.{Goes, Ends}
-use Rattle.replay.specs.Replay.{Voyage, Turn, On, End, on_field, on_turn, After, walked}
+use Rattle.replay.specs.Replay.{Voyage, On, End, on_field, on_turn, After, walked}
 use Rattle.replay.specs.Turns.{voyage_of, Turns}
 
 -- a field that leads on isn't broken
