@@ -1,0 +1,10 @@
+-- `digest` is safe and ends: each turn adds a byte.
+use Prim.Native.Nat.{◌-◌}
+use lib.ListN.{length}
+use Rattle.store_vectors.proofs.show.digest.Given as goal
+
+abbrev pub invariant-loop-i : goal.invariant-loop-i
+invariant-loop-i l = Unit {0}
+
+abbrev pub decreases-loop-i : goal.decreases-loop-i
+decreases-loop-i l = length l.s - l.i
