@@ -15,7 +15,7 @@
 //
 // It ends where the input ends, at a frame with outcome 2 or 3, which have the caller close, and where reading or writing fails. Then it
 // says its tally and the kept clock on standard error, and how much it recorded or where it stopped to. Arguments that it can't serve by,
-// or a TRACE that can't be opened, get a line there and nothing else. The exit status is 0 in every case.
+// or a TRACE that can't be opened, as where its name isn't UTF-8, get a line there and nothing else. The exit status is 0 in every case.
 #![tactic(auto)]
 
 mod arguments;

@@ -1,4 +1,5 @@
-// What is said on standard error: lines, each written at once, since the boxes of several connections may share it.
+// What is said on standard error: lines, each written at once, since the boxes of several connections may share it; the system's errors
+// go there in parts.
 ghost use Rattle.std.specs.Prelude.{◌+◌, ◌≤◌, length};
 
 use crate::writing;

@@ -147,6 +147,7 @@ pub fn find(config: Config, b: &[u8], key: &[u8], new: bool) -> Lookup
 }
 
 // Stores a document for a key in a new row at a place.
+#[tactic(auto, unfolding(crate::specs::Calls::stored_new))]
 fn store_new(config: Config, b: &mut [u8], i: usize, key: &[u8], m: Metadata, value: &[u8])
     ensures { b.new ≡ stored_new config b.old i (entry_of key.now m value.now) }
 {
