@@ -64,11 +64,11 @@ SendsAll config clock run end old new next = Sends (called_on config clock run e
 abbrev pub first_frame : List ℕ → List ℕ
 first_frame run = take (24 + (header_of run).body) run
 
-abbrev pub answer_to : Config → ℕ → List ℕ → List ℕ → List ℕ → Served
-answer_to config clock run b out = served config b clock (first_frame run) (length out)
+abbrev pub first_answer : Config → ℕ → List ℕ → List ℕ → List ℕ → Served
+first_answer config clock run b out = served config b clock (first_frame run) (length out)
 
-abbrev pub reply_to : Config → ℕ → List ℕ → List ℕ → List ℕ → List ℕ
-reply_to config clock run b out = take (served_length (answer_to config clock run b out)) (served_reply config b clock (first_frame run) out)
+abbrev pub first_reply : Config → ℕ → List ℕ → List ℕ → List ℕ → List ℕ
+first_reply config clock run b out = take (served_length (first_answer config clock run b out)) (served_reply config b clock (first_frame run) out)
 
 -- the first frame of the bytes that were held is served and recorded, all of it, and the bytes behind it are held still
 pub record GoesOne (config : Config) (clock : ℕ) (run b out table received : List ℕ) (s r : Session) : Type 0 where

@@ -5,7 +5,7 @@ ghost use Rattle.run.specs.Run.{begun, run_end};
 ghost use Rattle.serving.specs.Serve.{served_length};
 ghost use Rattle.trace_writer.specs.Writing.{frame_fields};
 ghost use Rattle.contact_box.specs.Recorder.{HandsOn};
-ghost use Rattle.contact_box.specs.Session.{held_of, past, Receives, next_of, Waits, Goes, SendsAll, first_frame, GoesOne, answer_to, reply_to, Sends};
+ghost use Rattle.contact_box.specs.Session.{held_of, past, Receives, next_of, Waits, Goes, SendsAll, first_frame, GoesOne, first_answer, first_reply, Sends};
 
 use crate::recorder::Recorder;
 use crate::{clock, recorder, writing};
@@ -195,13 +195,13 @@ fn serve_first<W: Write, T: Write>(
 ) -> Session
     ensures goes { GoesOne config clock (held_of s.held received.now) table.old replies.old
         table.new received.now s result }
-    ensures sent { Sends (answer_to config clock (held_of s.held received.now) table.old replies.old)
-        (reply_to config clock (held_of s.held received.now) table.old replies.old)
+    ensures sent { Sends (first_answer config clock (held_of s.held received.now) table.old replies.old)
+        (first_reply config clock (held_of s.held received.now) table.old replies.old)
         (W.contents output.old) (W.contents output.new) result.next }
-    ensures traced { HandsOn (answer_to config clock (held_of s.held received.now) table.old replies.old)
+    ensures traced { HandsOn (first_answer config clock (held_of s.held received.now) table.old replies.old)
         result.recorder.recording (T.contents trace.old) (T.contents trace.new)
         (frame_fields s.recorder.clock clock (first_frame (held_of s.held received.now))
-        (reply_to config clock (held_of s.held received.now) table.old replies.old)) }
+        (first_reply config clock (held_of s.held received.now) table.old replies.old)) }
 {
     let held = s.held;
     let frame = first_frame(held_of(received, held));

@@ -24,7 +24,7 @@ use Rattle.contact_box.specs.declared.recorder.Recorder.{Recorder}
 use Rattle.contact_box.specs.declared.recorder.Recording.{Recording}
 use Rattle.trace_writer.specs.Writing.{frame_fields}
 use Rattle.contact_box.specs.Recorder.{Records, HandsOn}
-use Rattle.contact_box.specs.Session.{held_of, past, next_of, Waits, first_frame, GoesOne, answer_to, reply_to, Sends}
+use Rattle.contact_box.specs.Session.{held_of, past, next_of, Waits, first_frame, GoesOne, first_answer, first_reply, Sends}
 use Rattle.contact_box.proofs.First.{first-cut, first-whole}
 use Rattle.contact_box.proofs.Holding.{held-past, past_fits, used-inside}
 use Rattle.contact_box.proofs.Recording.{short}
@@ -67,16 +67,16 @@ module _ (config : Config) (clock : ℕ) (b b' run out out' y : List ℕ) (a : S
   framed : frame ≡ first_frame y
   framed = f ∙ ap first_frame e
 
-  answered : a ≡ answer_to config clock y b out
+  answered : a ≡ first_answer config clock y b out
   answered = q.answer ∙ ap (λ (ys : List ℕ). served config b clock ys (length out)) framed
 
-  replied : reply ≡ reply_to config clock y b out
+  replied : reply ≡ first_reply config clock y b out
   replied =
       sent ∙ (λ i. take (l i) (q.reply i)) ∙ ap (λ (r : Served). take (served_length r) (served_reply config b clock frame out)) answered
-      ∙ ap (λ (ys : List ℕ). take (served_length (answer_to config clock y b out)) (served_reply config b clock ys out)) framed
+      ∙ ap (λ (ys : List ℕ). take (served_length (first_answer config clock y b out)) (served_reply config b clock ys out)) framed
 
   pub sends : (next : Next) (written : Bool) (old new : Option (List ℕ)) → next ≡ cond written (next_of a) Close → (IsTrue written → Appends old new reply)
-      → Sends (answer_to config clock y b out) (reply_to config clock y b out) old new next
+      → Sends (first_answer config clock y b out) (first_reply config clock y b out) old new next
   sends next written old new z h = record {
     written = written;
     goes = z ∙ ap (λ (r : Served). cond written (next_of r) Close) answered;
@@ -84,11 +84,11 @@ module _ (config : Config) (clock : ℕ) (b b' run out out' y : List ℕ) (a : S
   }
 
   pub traced : (recording : Recording) (last : ℕ) (old new : Option (List ℕ)) → HandsOn a recording old new (frame_fields last clock frame reply)
-      → HandsOn (answer_to config clock y b out) recording old new (frame_fields last clock (first_frame y) (reply_to config clock y b out))
+      → HandsOn (first_answer config clock y b out) recording old new (frame_fields last clock (first_frame y) (first_reply config clock y b out))
   traced recording last old new h =
-      let fields : frame_fields last clock frame reply ≡ frame_fields last clock (first_frame y) (reply_to config clock y b out) =
+      let fields : frame_fields last clock frame reply ≡ frame_fields last clock (first_frame y) (first_reply config clock y b out) =
       (λ i. frame_fields last clock (framed i) (replied i)) in
-      subst (λ (r : Served). HandsOn r recording old new (frame_fields last clock (first_frame y) (reply_to config clock y b out))) answered
+      subst (λ (r : Served). HandsOn r recording old new (frame_fields last clock (first_frame y) (first_reply config clock y b out))) answered
       (subst (HandsOn a recording old new) fields h)
 
 pub record_answer-recorder-requires : goal.record_answer-recorder-requires
