@@ -1,5 +1,5 @@
 // The status of the with-meta writes.
-#![tactic(auto, unfolding(commands::specs::Rules::tests_of))]
+#![tactic(auto)]
 
 ghost use Rattle.std.specs.Prelude.{◌≡◌};
 ghost use Rattle.commands.specs.Rules.{is_last, meta_rule, status_by};

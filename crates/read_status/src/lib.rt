@@ -1,5 +1,5 @@
 // The status of the commands that store nothing: Get, Get Keys, Noop, Version.
-#![tactic(auto, unfolding(commands::specs::Rules::tests_of, commands::specs::Rules::first_status, commands::specs::Rules::first_failure))]
+#![tactic(auto)]
 
 ghost use Rattle.std.specs.Prelude.{◌≡◌};
 ghost use Rattle.commands.specs.Rules.{get_rule, list_rule, noop_rule, status_by};

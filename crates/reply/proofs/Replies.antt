@@ -19,6 +19,7 @@ use Rattle.header.proofs.HeaderLaws.{length-header}
 use Rattle.effects.specs.declared.Reply.{Reply}
 use Rattle.effects.specs.declared.Reply.TheVariants.{Bare, Found, Counted, Version as VersionReply, Keys}
 use Rattle.decision.specs.declared.Decision.{Decision}
+use Rattle.decision.specs.Decide.{reply_key}
 use Rattle.document.specs.Documents.{Key, doc_value}
 use Rattle.listing.proofs.Taken.{listing-short}
 use Rattle.rows.specs.Row.{Row}
@@ -31,6 +32,16 @@ use Rattle.reply.specs.Fitting.{unfit, fitting_reply}
 shown-most : (keyed : Bool) (key : List ℕ) → length (cond keyed key []) ≤ length key
 shown-most true key = omega arith
 shown-most false key = omega arith
+
+pub shown-fits : {r : Reply} {flags : ℕ} {keyed : Bool} {shown : List ℕ} (key : List ℕ) → r ≡ Found flags keyed → shown ≡ cond keyed key [] → length shown ≤ length key
+shown-fits {r} {flags} {keyed} key e s = rw s (shown-most keyed key)
+
+pub key-most : (r : Reply) (key : List ℕ) → length (reply_key r key) ≤ length key
+key-most Bare key = omega arith
+key-most (Found flags keyed) key = shown-most keyed key
+key-most (Counted n) key = omega arith
+key-most VersionReply key = omega arith
+key-most (Keys n) key = omega arith
 
 found-size : (flags : ℕ) (shown old : List ℕ) → length (bytes_of 4 flags ++ (shown ++ old)) ≡ 4 + length shown + length old
 unfolding bytes_of

@@ -61,7 +61,6 @@ fn put_body(out: &mut [u8], r: Reply, key: &[u8], shown: &[u8]) -> usize
     }
 }
 
-#[tactic(auto, unfolding(octets::specs::BigEndian::bytes_of))]
 fn extras_size(r: Reply) -> u8
     ensures { result ≡ length (reply_extras r) }
 {

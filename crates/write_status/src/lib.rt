@@ -1,5 +1,5 @@
 // The status of the plain writes: Set, Add, Replace, Delete, the counters, Append, Prepend, the touches.
-#![tactic(auto, unfolding(commands::specs::Rules::tests_of))]
+#![tactic(auto)]
 
 ghost use Rattle.std.specs.Prelude.{◌≡◌, false, ◌+◌, ltb};
 ghost use Rattle.commands.specs.Rules.{is_number, plain_rule, count_rule, join_rule, touch_rule, status_by};

@@ -1,8 +1,12 @@
 use Rattle.serving.specs.Reply.{header_with, reply_header}
-use Rattle.reply.proofs.Replies.{body-most}
+use Rattle.reply.proofs.Replies.{key-most, body-most}
 use native.Mathlib.Omega.{arith}
 use mathlib.Core.Path.{◌∙◌}
 use Rattle.reply.proofs.reply_header.Goals as goal
+
+pub overflow_cast-k : goal.overflow_cast-k
+overflow_cast-k c =
+    omega (arith, c.key_size-k.ensures, key-most c.args.d.done.reply c.args.key.now, c.requires)
 
 pub overflow_cast-body : goal.overflow_cast-body
 overflow_cast-body c =

@@ -1,0 +1,6 @@
+use Rattle.commands.specs.Rules.{tests_of}
+use Rattle.read_status.proofs.list_status.Goals as goal
+
+pub returns : goal.returns
+unfolding tests_of
+returns c = simp (c.first_status.ensures, c.is_here-here.ensures)

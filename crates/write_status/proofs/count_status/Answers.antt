@@ -1,0 +1,15 @@
+use Rattle.commands.specs.Rules.{tests_of}
+use Rattle.write_status.proofs.count_status.Goals as goal
+
+pub returns : goal.returns
+unfolding tests_of
+returns c =
+    simp (
+      c.first_status.ensures,
+      c.is_number-said.ensures,
+      c.has_row-used.ensures,
+      c.numbers_of-old.ensures,
+      c.live-live.ensures,
+      c.is_here-here.ensures,
+      c.passes-fault.ensures,
+    )
