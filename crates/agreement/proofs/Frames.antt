@@ -3,7 +3,7 @@ use Prim.Native.Nat.{ℕ, ◌+◌, ◌^◌, ◌≤◌, ◌<◌}
 use mathlib.Core.Path.{◌≡◌, refl, sym, ap, subst, ◌∙◌}
 use mathlib.Core.Bool.{cond}
 use mathlib.Core.List.{List}
-use mathlib.Core.Option.{Option, none, some}
+use Rattle.std.specs.Prelude.{Option, Some, None}
 use lib.ListN.{length}
 use lib.Dec.{ltb}
 use Rattle.octets.specs.Parts.{Bytes, written}
@@ -73,8 +73,8 @@ module _ (config other : Config) (t u : Table) (w : Twin config other t u) (now 
     store = (frame_effect config t now s h).store
 
     stored : (o : Option Doc) → store ≡ o → Alike (engine_of config) (engine_of other) (store_row (engine_of config) t.rows key o) (store_row (engine_of other) u.rows key o)
-    stored none e = w.alike
-    stored (some d) e = (engines-alike config other).put t.rows u.rows key d w.alike ((changing config t now s h w.good.good y inside).stores d e).room
+    stored None e = w.alike
+    stored (Some d) e = (engines-alike config other).put t.rows u.rows key d w.alike ((changing config t now s h w.good.good y inside).stores d e).room
 
     pub change-twin : Twin config other (frame_change config t now s h) (frame_change other u now s h)
     change-twin = record {

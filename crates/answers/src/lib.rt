@@ -5,7 +5,7 @@
 ghost use Rattle.std.specs.Prelude.{◌≡◌};
 ghost use Rattle.answers.specs.Answers.{served_answer, ran_answer, part_of, lifetime_of, live_answer, no_document, document_answer, purged_answer, activated_answer, request_refused, request_shown, request_answer, written_answer, replayed_answer};
 
-use numbers::{Left, Numbers};
+use numbers::Numbers;
 use owning::{Activated, Document, Purged};
 use replay::Ending;
 use request::{Frame, Reading, Span};
@@ -156,16 +156,16 @@ fn part_of(p: Span) -> Part
     }
 }
 
-fn lifetime_of(left: Left) -> u8
+fn lifetime_of(left: Option<i64>) -> u8
     ensures { result ≡ lifetime_of left }
 {
     match left {
-        Left::Never => 1,
-        Left::Seconds(_) => 2,
+        None => 1,
+        Some(_) => 2,
     }
 }
 
-fn live_answer(n: Numbers, left: Left, at: usize, len: usize) -> DocumentAnswer
+fn live_answer(n: Numbers, left: Option<i64>, at: usize, len: usize) -> DocumentAnswer
     ensures { result ≡ live_answer n left at len }
 {
     DocumentAnswer {

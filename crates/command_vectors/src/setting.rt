@@ -2,8 +2,7 @@
 use crate::text;
 use crate::text::Fields;
 use commands::Context;
-use digits::Number;
-use document::{Head, Metadata, Stored};
+use document::{Head, Metadata};
 use numbers::Cas;
 
 // The setting after a line, and whether the line sets something: else it is the one before.
@@ -24,10 +23,10 @@ pub(crate) fn first() -> Context {
     };
     Context {
         head,
-        row: Stored::Nothing,
+        row: None,
         free: true,
         clock: 0,
-        number: Number::NoNumber,
+        number: None,
         size: 0,
     }
 }
@@ -59,7 +58,7 @@ fn with_head(t: Context, head: Head) -> Context {
 }
 
 // value: the stored one
-fn with_row(t: Context, row: Stored, value: &[u8]) -> Context {
+fn with_row(t: Context, row: Option<Metadata>, value: &[u8]) -> Context {
     let head = t.head;
     Context {
         head,
@@ -124,22 +123,22 @@ fn head_of(f: Fields) -> Head {
     }
 }
 
-fn document(f: Fields) -> Stored {
+fn document(f: Fields) -> Option<Metadata> {
     let numbers = text::numbers(
         text::field(f, 0),
         text::field(f, 1),
         text::field(f, 2),
         text::field(f, 3),
     );
-    Stored::Used(Metadata {
+    Some(Metadata {
         tomb: false,
         numbers,
     })
 }
 
-fn tombstone(f: Fields) -> Stored {
+fn tombstone(f: Fields) -> Option<Metadata> {
     let numbers = text::numbers(0, 0, text::field(f, 0), text::field(f, 1));
-    Stored::Used(Metadata {
+    Some(Metadata {
         tomb: true,
         numbers,
     })
@@ -159,7 +158,7 @@ fn change_row(line: &[u8], t: Context) -> Changed {
     }
     if_good(
         compare::same(line, b"none"),
-        with_row(t, Stored::Nothing, b""),
+        with_row(t, None, b""),
         t,
     )
 }

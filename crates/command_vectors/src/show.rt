@@ -1,6 +1,6 @@
 // What is printed of a decision.
 use decision::Decision;
-use document::{Head, Metadata, Side, Stored};
+use document::{Head, Metadata, Side};
 use effects::{Reply, Source};
 use numbers::Numbers;
 
@@ -56,10 +56,10 @@ fn held(d: Metadata) {
     numbers(n);
 }
 
-fn store(s: Stored, from: Source) {
+fn store(s: Option<Metadata>, from: Source) {
     match s {
-        Stored::Nothing => (),
-        Stored::Used(d) => {
+        None => (),
+        Some(d) => {
             held(d);
             source(from);
         }

@@ -1,5 +1,4 @@
 // What a line spells: words that blanks divide, and numbers.
-use digits::Number;
 use numbers::{Cas, Numbers, Revision};
 
 // The numbers that a text spells, as many as there is room for, and whether it spells nothing else.
@@ -39,25 +38,25 @@ fn digit(c: u8) -> u8 {
 }
 
 // The number that hexadecimal digits say, where it is under 2^64.
-fn hexadecimal(s: &[u8]) -> Number {
+fn hexadecimal(s: &[u8]) -> Option<u64> {
     let mut value: u64 = 0;
     let mut i: usize = 0;
     while i < s.len() {
         let d = digit(s[i]);
         if 15 < d {
-            return Number::NoNumber;
+            return None;
         }
         if 0xfffffffffffffff < value {
-            return Number::NoNumber;
+            return None;
         }
         value = value * 16 + d as u64;
         i += 1;
     }
-    Number::Value(value)
+    Some(value)
 }
 
 // Decimal, or hexadecimal after 0x.
-fn number(word: &[u8]) -> Number {
+fn number(word: &[u8]) -> Option<u64> {
     if compare::same(octets::part(word, 0, 2), b"0x") & (2 < word.len()) {
         return hexadecimal(octets::rest(word, 2));
     }
@@ -69,7 +68,7 @@ fn with_field(f: Fields, word: &[u8]) -> Fields {
     let mut values = f.values;
     let count = f.count;
     if count < 8 {
-        if let Number::Value(v) = n {
+        if let Some(v) = n {
             values[count] = v;
             return Fields {
                 values,

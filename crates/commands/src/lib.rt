@@ -8,8 +8,7 @@ pub mod status;
 ghost use Rattle.std.specs.Prelude.{◌≡◌};
 ghost use Rattle.commands.specs.Writes.{is_mutation};
 
-use digits::Number;
-use document::{Head, Side, Stored};
+use document::{Head, Side};
 use numbers::{Cas, Numbers};
 
 #[derive(Clone, Copy)]
@@ -96,10 +95,10 @@ pub struct Instruction {
 #[derive(Clone, Copy)]
 pub struct Context {
     pub head: Head,
-    pub row: Stored,
+    pub row: Option<Metadata>,
     pub free: bool,
     pub clock: u32,
-    pub number: Number,
+    pub number: Option<u64>,
     pub size: usize,
 }
 

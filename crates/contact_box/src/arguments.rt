@@ -3,7 +3,6 @@ ghost use Rattle.std.specs.Prelude.{◌≤◌, length};
 ghost use Rattle.contact_box.specs.Arguments.{Allowed};
 
 use crate::report;
-use digits::Number;
 use std::env::{Env, FillError};
 use std::io::Write;
 
@@ -50,7 +49,7 @@ fn put_word(args: &impl Env, i: usize, word: &mut [u8]) -> usize
 }
 
 // The number that an argument spells.
-fn number_at(args: &impl Env, i: usize) -> Number {
+fn number_at(args: &impl Env, i: usize) -> Option<u64> {
     let mut word = [0u8; 32];
     let n = put_word(args, i, &mut word);
     digits::parse(&word[..n])
@@ -71,11 +70,11 @@ fn mode_at(args: &impl Env, i: usize) -> u8
     0
 }
 
-fn asked_of(rows: Number, vbucket: Number, mode: u8) -> Parsed
+fn asked_of(rows: Option<u64>, vbucket: Option<u64>, mode: u8) -> Parsed
     requires { mode ≤ 2 }
     ensures { Allowed result }
 {
-    let Number::Value(r) = rows else {
+    let Some(r) = rows else {
         return Parsed::Wrong(Fault::Rows);
     };
     if r < 1 {
@@ -84,7 +83,7 @@ fn asked_of(rows: Number, vbucket: Number, mode: u8) -> Parsed
     if 256 < r {
         return Parsed::Wrong(Fault::Rows);
     }
-    let Number::Value(v) = vbucket else {
+    let Some(v) = vbucket else {
         return Parsed::Wrong(Fault::Vbucket);
     };
     if 65535 < v {

@@ -115,22 +115,15 @@ fn instruction_with(
     }
 }
 
-// A frame's field rules are broken, or what it asks for.
-#[derive(Clone, Copy)]
-pub enum Decoded {
-    Broken,
-    Whole(Instruction),
-}
-
 // A listing, unless its count is 0.
-fn list_decoded(shape: Shape, h: Header, extras: &[u8], size: usize) -> Decoded
+fn list_decoded(shape: Shape, h: Header, extras: &[u8], size: usize) -> Option<Instruction>
     ensures { result ≡ list_decoded shape h extras.now size }
 {
     let count = rules::count_of(extras);
     if count == 0 {
-        return Decoded::Broken;
+        return None;
     }
-    Decoded::Whole(instruction_with(shape, h, Command::GetKeys(count), size, false))
+    Some(instruction_with(shape, h, Command::GetKeys(count), size, false))
 }
 
 // A with-meta command, unless its fields break the rules. forcing: option 0x01 is taken.
@@ -141,14 +134,14 @@ fn meta_decoded(
     kind: MetaKind,
     extras: &[u8],
     value: &[u8],
-) -> Decoded
+) -> Option<Instruction>
     ensures { result ≡ meta_decoded forcing shape h kind extras.now value.now }
 {
     let w = with_meta::read(extras);
     if !with_meta::with_meta_ok(shape.meta, w, value) {
-        return Decoded::Broken;
+        return None;
     }
-    Decoded::Whole(instruction_with(
+    Some(instruction_with(
         shape,
         h,
         meta_of(kind, w),
@@ -160,21 +153,21 @@ fn meta_decoded(
 // Field rules and command by one reading of the extras, from a frame's header, its opcode's shape, its extras and what
 // follows its key. Each kind of command is made at one place, so that the compiler puts it there, and its extras are read
 // only once the kind is known: each read past their end is a slow one.
-pub fn decoded_by(forcing: bool, shape: Shape, h: Header, extras: &[u8], value: &[u8]) -> Decoded
+pub fn decoded_by(forcing: bool, shape: Shape, h: Header, extras: &[u8], value: &[u8]) -> Option<Instruction>
     ensures { result ≡ decoded_by forcing shape h extras.now value.now }
 {
     let size = value.len();
     let operation = shape.operation;
     match family_of(operation) {
-        Family::Bare(c) => Decoded::Whole(instruction_with(shape, h, c, size, false)),
-        Family::Stored(k) => Decoded::Whole(instruction_with(
+        Family::Bare(c) => Some(instruction_with(shape, h, c, size, false)),
+        Family::Stored(k) => Some(instruction_with(
             shape,
             h,
             plain_of(k, extras),
             size,
             false,
         )),
-        Family::Counted(u) => Decoded::Whole(instruction_with(
+        Family::Counted(u) => Some(instruction_with(
             shape,
             h,
             counter_of(u, extras),
@@ -183,7 +176,7 @@ pub fn decoded_by(forcing: bool, shape: Shape, h: Header, extras: &[u8], value: 
         )),
         Family::Carried(k) => meta_decoded(forcing, shape, h, k, extras, value),
         Family::Listed => list_decoded(shape, h, extras, size),
-        Family::Touched(s) => Decoded::Whole(instruction_with(
+        Family::Touched(s) => Some(instruction_with(
             shape,
             h,
             touch_of(s, extras),

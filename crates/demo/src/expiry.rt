@@ -1,7 +1,7 @@
 // The first failure: one command forgot that contacts expire.
 use crate::frames::Call;
 use crate::{frames, tell};
-use numbers::{Cas, Left};
+use numbers::Cas;
 use owning::{Document, Purged};
 
 const SET_AT: u32 = 1000000;
@@ -177,7 +177,7 @@ fn put_left(line: &mut [u8], at: usize, d: Document) -> usize {
     match d {
         Document::Damaged => tell::put_outcome(line, at, 5),
         Document::Missing => tell::put_status(line, at, 0x01),
-        Document::Expired(n) => tell::put_left(line, at, Left::Seconds(n)),
+        Document::Expired(n) => tell::put_left(line, at, Some(n)),
         Document::Live(_, left, _, _) => tell::put_left(line, at, left),
     }
 }

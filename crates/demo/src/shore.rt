@@ -1,7 +1,7 @@
 // Copies that shore sends with their own revision and CAS, and what a boat then answers and holds, a line for each.
 use crate::frames::Call;
 use crate::{frames, tell};
-use document::{Metadata, Stored};
+use document::Metadata;
 use numbers::{Cas, Numbers, Revision};
 use serving::Served;
 
@@ -136,8 +136,8 @@ fn put_held(line: &mut [u8], boat: &[u8], key: &[u8]) -> usize {
     let l = table::find(frames::config(), boat, key, false);
     let stored = l.stored;
     match stored {
-        Stored::Used(m) => put_row(line, m, octets::part(boat, l.at, l.len)),
-        Stored::Nothing => tell::put(line, VALUE_COLUMN, b"nothing"),
+        Some(m) => put_row(line, m, octets::part(boat, l.at, l.len)),
+        None => tell::put(line, VALUE_COLUMN, b"nothing"),
     }
 }
 

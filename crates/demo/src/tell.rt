@@ -1,6 +1,5 @@
 // What is printed: texts, and lines whose parts stand in columns.
 use header::Header;
-use numbers::Left;
 use serving::Served;
 
 pub(crate) fn text(s: &[u8]) {
@@ -77,10 +76,10 @@ pub(crate) fn put_found(line: &mut [u8], at: usize, found: &[u8]) -> usize {
 }
 
 // How long a contact is still good, or how long ago it expired.
-pub(crate) fn put_left(line: &mut [u8], at: usize, left: Left) -> usize {
+pub(crate) fn put_left(line: &mut [u8], at: usize, left: Option<i64>) -> usize {
     match left {
-        Left::Never => put(line, at, b"never expires"),
-        Left::Seconds(n) => {
+        None => put(line, at, b"never expires"),
+        Some(n) => {
             let end = put_number(line, at, numbers::magnitude(n));
             if n <= 0 {
                 return put(line, end, b" s past");

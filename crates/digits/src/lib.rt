@@ -5,12 +5,6 @@ ghost use Rattle.std.specs.Prelude.{◌≡◌, cond, [], ◌∷◌, ◌+◌, ◌
 ghost use Rattle.octets.specs.Parts.{pasted};
 ghost use Rattle.digits.specs.Decimal.{digits, number_of, number_from};
 
-#[derive(Clone, Copy)]
-pub enum Number {
-    Value(u64),
-    NoNumber,
-}
-
 // The digit n as a byte.
 fn digit(n: u64) -> u8
     requires { n < 10 }
@@ -46,50 +40,50 @@ pub fn put_number(out: &mut [u8], n: u64) -> usize
 }
 
 // The number a with one more digit.
-fn with_digit(a: u64, c: u8) -> Number
+fn with_digit(a: u64, c: u8) -> Option<u64>
     ensures { result ≡ number_from a (c ∷ []) }
 {
     if c < 48 {
-        return Number::NoNumber;
+        return None;
     }
     if 58 <= c {
-        return Number::NoNumber;
+        return None;
     }
     let d = (c - 48) as u64;
     if 1844674407370955161 < a {
-        return Number::NoNumber;
+        return None;
     }
     let t = a * 10;
     if 18446744073709551615 - t < d {
-        return Number::NoNumber;
+        return None;
     }
-    Number::Value(t + d)
+    Some(t + d)
 }
 
-fn parse_all(s: &[u8]) -> Number
+fn parse_all(s: &[u8]) -> Option<u64>
     ensures { result ≡ number_from 0 s.now }
 {
     let mut a: u64 = 0;
     let mut i = 0;
     while i < s.len() {
-        let Number::Value(b) = with_digit(a, s[i]) else {
-            return Number::NoNumber;
+        let Some(b) = with_digit(a, s[i]) else {
+            return None;
         };
         a = b;
         i += 1;
     }
-    Number::Value(a)
+    Some(a)
 }
 
 // The number that 1 to 20 decimal digits say, where it is under 2^64.
-pub fn parse(s: &[u8]) -> Number
+pub fn parse(s: &[u8]) -> Option<u64>
     ensures { result ≡ number_of s.now }
 {
     if s.len() < 1 {
-        return Number::NoNumber;
+        return None;
     }
     if 20 < s.len() {
-        return Number::NoNumber;
+        return None;
     }
     parse_all(s)
 }

@@ -28,12 +28,6 @@ pub struct Metadata {
     pub numbers: Numbers,
 }
 
-#[derive(Clone, Copy)]
-pub enum Stored {
-    Nothing,
-    Used(Metadata),
-}
-
 // The side of a stored value at which another is joined to it.
 #[derive(Clone, Copy)]
 pub enum Side {
@@ -77,56 +71,56 @@ pub fn alive(tomb: bool, expiry: u32, clock: u32) -> bool
 }
 
 // Whether a key's row is a document that is not expired.
-pub fn live(s: Stored, clock: u32) -> bool
+pub fn live(s: Option<Metadata>, clock: u32) -> bool
     ensures { result ≡ live s clock }
 {
     match s {
-        Stored::Nothing => false,
-        Stored::Used(d) => alive(d.tomb, d.numbers.expiry, clock),
+        None => false,
+        Some(d) => alive(d.tomb, d.numbers.expiry, clock),
     }
 }
 
 // Whether a key's row is a document, expired or not.
-pub fn is_document(s: Stored) -> bool
+pub fn is_document(s: Option<Metadata>) -> bool
     ensures { result ≡ is_document s }
 {
     match s {
-        Stored::Nothing => false,
-        Stored::Used(d) => !d.tomb,
+        None => false,
+        Some(d) => !d.tomb,
     }
 }
 
-pub fn has_row(s: Stored) -> bool
+pub fn has_row(s: Option<Metadata>) -> bool
     ensures { result ≡ has_row s }
 {
     match s {
-        Stored::Nothing => false,
-        Stored::Used(_) => true,
+        None => false,
+        Some(_) => true,
     }
 }
 
 // The numbers of a key's row, all 0 without one.
-pub fn numbers_of(s: Stored) -> Numbers
+pub fn numbers_of(s: Option<Metadata>) -> Numbers
     ensures { result ≡ numbers_of s }
 {
     match s {
-        Stored::Nothing => Numbers {
+        None => Numbers {
             flags: 0,
             expiry: 0,
             revision: Revision(0),
             cas: Cas(0),
         },
-        Stored::Used(d) => d.numbers,
+        Some(d) => d.numbers,
     }
 }
 
 // Whether a with-meta write of these numbers wins over a key's row.
-pub fn accepted(m: Mode, s: Stored, n: Numbers) -> bool
+pub fn accepted(m: Mode, s: Option<Metadata>, n: Numbers) -> bool
     ensures { result ≡ accepted m s n }
 {
     match s {
-        Stored::Nothing => true,
-        Stored::Used(d) => {
+        None => true,
+        Some(d) => {
             let e = d.numbers;
             numbers::greater(m, n, e)
         }

@@ -6,8 +6,7 @@ ghost use Rattle.std.specs.Prelude.{◌≡◌, cond, false};
 ghost use Rattle.effects.specs.Done.{nothing, storing, plain_numbers, found, write_done, delete_done, sum, counted, count_done, meta_numbers, meta_done, join_done, touch_done};
 
 use commands::{Context, Counter, Meta, Plain, Touching};
-use digits::Number;
-use document::{Head, Metadata, Side, Stored};
+use document::{Head, Metadata, Side};
 use numbers::{Cas, Numbers};
 
 // Where a stored value comes from.
@@ -36,7 +35,7 @@ pub enum Reply {
 
 #[derive(Clone, Copy)]
 pub struct Done {
-    pub store: Stored,
+    pub store: Option<Metadata>,
     pub source: Source,
     pub reply: Reply,
     pub cas: Cas,
@@ -48,7 +47,7 @@ pub fn nothing(h: Head, reply: Reply, cas: Cas) -> Done
     ensures { result ≡ nothing h reply cas }
 {
     Done {
-        store: Stored::Nothing,
+        store: None,
         source: Source::Empty,
         reply,
         cas,
@@ -63,7 +62,7 @@ fn storing(h: Head, row: Metadata, source: Source, reply: Reply) -> Done
     let cas = row.numbers.cas;
     let head = document::raised(h, cas);
     Done {
-        store: Stored::Used(row),
+        store: Some(row),
         source,
         reply,
         cas,
@@ -129,18 +128,18 @@ pub fn delete_done(c: Context) -> Done
     )
 }
 
-fn sum(n: Number, k: Counter) -> u64
+fn sum(n: Option<u64>, k: Counter) -> u64
     ensures { result ≡ sum n k }
 {
     match n {
-        Number::Value(v) => {
+        Some(v) => {
             if k.up {
                 numbers::increment(v, k.delta)
             } else {
                 numbers::decrement(v, k.delta)
             }
         }
-        Number::NoNumber => 0,
+        None => 0,
     }
 }
 

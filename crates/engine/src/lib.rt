@@ -17,13 +17,6 @@ pub enum Place {
     Full,
 }
 
-// The head of a table that is not damaged.
-#[derive(Clone, Copy)]
-pub enum Checked {
-    Damaged,
-    Sound(Head),
-}
-
 // Which engine keeps a table's rows. The table's memory doesn't say it.
 #[derive(Clone, Copy)]
 pub enum EngineKind {

@@ -18,12 +18,12 @@ use Rattle.octets.proofs.Choices.{cases, both}
 use Rattle.octets.proofs.Tests.{same_true, same_refl}
 use Rattle.octets.proofs.Lists.{bytes-part, part_length}
 use Rattle.octets.proofs.Words.{word-there}
-use Rattle.keys.specs.declared.Side.{Side}
-use Rattle.keys.specs.declared.Side.TheVariants.{Less, Equal, Greater}
+use Rattle.std.specs.declared.cmp.Ordering.{Ordering}
+use Rattle.std.specs.declared.cmp.Ordering.TheVariants.{Less, Equal, Greater}
 use Rattle.keys.specs.Keys.{side_of, by_side, key_below}
 
 -- by a side, with its equation
-pub sides {ℓ} : {X : Type ℓ} (o : Side) → (o ≡ Less → X) → (o ≡ Equal → X) → (o ≡ Greater → X) → X
+pub sides {ℓ} : {X : Type ℓ} (o : Ordering) → (o ≡ Less → X) → (o ≡ Equal → X) → (o ≡ Greater → X) → X
 sides Less l e g = l refl
 sides Equal l e g = e refl
 sides Greater l e g = g refl

@@ -6,13 +6,7 @@ ghost use Rattle.std.specs.Prelude.{◌≡◌, ◌≤◌, length, take, drop};
 ghost use Rattle.octets.specs.Compare.{same};
 ghost use Rattle.keys.specs.Keys.{side_of};
 
-// On which side of another key a key stands.
-#[derive(Clone, Copy)]
-pub enum Side {
-    Less,
-    Equal,
-    Greater,
-}
+use std::cmp::Ordering;
 
 // Whether 96 bytes are the same. With no way out of its loop it is compiled to vector code, here and below.
 fn same_run(s: &[u8], t: &[u8]) -> bool
@@ -89,31 +83,31 @@ fn alike_words(s: &[u8], t: &[u8], at: usize) -> usize
 }
 
 // The side of s by the bytes from a place on, one by one.
-fn side_bytes(s: &[u8], t: &[u8], at: usize) -> Side
+fn side_bytes(s: &[u8], t: &[u8], at: usize) -> Ordering
     requires { (at ≤ length s.now) × (at ≤ length t.now) }
     ensures { result ≡ side_of (drop at s.now) (drop at t.now) }
 {
     let mut i = at;
     while i < s.len() {
         if i >= t.len() {
-            return Side::Greater;
+            return Ordering::Greater;
         }
         if s[i] < t[i] {
-            return Side::Less;
+            return Ordering::Less;
         }
         if t[i] < s[i] {
-            return Side::Greater;
+            return Ordering::Greater;
         }
         i += 1;
     }
     if i < t.len() {
-        return Side::Less;
+        return Ordering::Less;
     }
-    Side::Equal
+    Ordering::Equal
 }
 
 // The side of s by the bytes from a place on: by one big-endian word where that decides.
-fn side_from(s: &[u8], t: &[u8], at: usize) -> Side
+fn side_from(s: &[u8], t: &[u8], at: usize) -> Ordering
     requires { (at ≤ length s.now) × (at ≤ length t.now) }
     ensures { result ≡ side_of (drop at s.now) (drop at t.now) }
 {
@@ -121,17 +115,17 @@ fn side_from(s: &[u8], t: &[u8], at: usize) -> Side
         let a = octets::be64(s, at);
         let b = octets::be64(t, at);
         if a < b {
-            return Side::Less;
+            return Ordering::Less;
         }
         if b < a {
-            return Side::Greater;
+            return Ordering::Greater;
         }
     }
     side_bytes(s, t, at)
 }
 
 // On which side of t the key s stands.
-pub fn compare(s: &[u8], t: &[u8]) -> Side
+pub fn compare(s: &[u8], t: &[u8]) -> Ordering
     ensures { result ≡ side_of s.now t.now }
 {
     side_from(

@@ -81,39 +81,32 @@ pub fn later(kept: u32, clock: u32) -> u32
     if kept < clock { clock } else { kept }
 }
 
-// The time that is left to a document: it never expires, or so many seconds, none or fewer once it has expired.
-#[derive(Clone, Copy)]
-pub enum Left {
-    Never,
-    Seconds(i64),
-}
-
 // The time that is left from a clock on. Every command, listing, purge and the owner's read decide from it.
-pub fn seconds_left(expiry: u32, clock: u32) -> Left
+pub fn seconds_left(expiry: u32, clock: u32) -> Option<i64>
     ensures { result ≡ seconds_left expiry clock }
 {
     if expiry == 0 {
-        return Left::Never;
+        return None;
     }
-    Left::Seconds(expiry as i64 - clock as i64)
+    Some(expiry as i64 - clock as i64)
 }
 
-pub fn is_past(left: Left) -> bool
+pub fn is_past(left: Option<i64>) -> bool
     ensures { result ≡ is_past left }
 {
     match left {
-        Left::Never => false,
-        Left::Seconds(n) => n <= 0,
+        None => false,
+        Some(n) => n <= 0,
     }
 }
 
 // The seconds that are left, 0 where there is no end.
-pub fn seconds_in(left: Left) -> i64
+pub fn seconds_in(left: Option<i64>) -> i64
     ensures { result ≡ seconds_in left }
 {
     match left {
-        Left::Never => 0,
-        Left::Seconds(n) => n,
+        None => 0,
+        Some(n) => n,
     }
 }
 

@@ -5,7 +5,7 @@ use Prim.Native.Nat.{ℕ, ◌+◌, ◌-◌, ◌*◌, ◌≤◌, ◌<◌}
 use mathlib.Core.Path.{◌≡◌, refl, sym, ap, ◌∙◌}
 use mathlib.Core.Bool.{true, false, not, ◌&&◌, false≢true}
 use mathlib.Core.List.{List, [], ◌∷◌}
-use mathlib.Core.Option.{none, some}
+use Rattle.std.specs.Prelude.{Some, None}
 use lib.Dec.{eqb}
 use lib.ListN.{length, drop, drop_of_length-le}
 use lib.Seq.{drop-cons}
@@ -41,8 +41,8 @@ module _ (clock : ℕ) where
         (λ f. let u = row-used r (eqb-false (num r 0 2) 0 f) in let l = sym (ap (is_live clock) u) ∙ e in rw (u, l))
 
   row-dead : (w : Row) (ws : List Row) → is_live clock w ≡ false → keys_live clock (w ∷ ws) ≡ keys_live clock ws
-  row-dead none ws e = refl
-  row-dead (some x) ws e = rw e
+  row-dead None ws e = refl
+  row-dead (Some x) ws e = rw e
 
   -- the rows of memory from a place on
   module _ (b : List ℕ) where
@@ -62,7 +62,7 @@ module _ (clock : ℕ) where
       row_here : drop i (table_of b).rows ≡ row_of row_cut ∷ drop (i + 1) (table_of b).rows
       row_here =
           let k : i < length (table_of b).rows = omega (arith, count-rows b) in
-          rw (row_read b i h, add-one) (drop-cons (table_of b).rows i none k)
+          rw (row_read b i h, add-one) (drop-cons (table_of b).rows i None k)
 
       pub passed_over : is_live clock (row_of row_cut) ≡ false → live_from i ≡ live_from (i + 1)
       passed_over e = ap (keys_live clock) row_here ∙ row-dead (row_of row_cut) (drop (i + 1) (table_of b).rows) e

@@ -5,7 +5,9 @@ use native.Mathlib.Nat.{add-zero}
 use mathlib.Core.Path.{◌≡◌, refl, sym, ap, ◌∙◌}
 use mathlib.Core.Bool.{true, false}
 use mathlib.Core.List.{List, [], ◌∷◌}
-use mathlib.Core.Option.{none}
+use Rattle.std.specs.Prelude.{None}
+use Rattle.std.specs.declared.cmp.Ordering.{Ordering}
+use Rattle.std.specs.declared.cmp.Ordering.TheVariants.{Less, Equal, Greater}
 use Prim.Native.Nat.{ℕ, zero, suc, ◌+◌, ◌-◌, ◌*◌, ◌≤◌, ◌<◌}
 use lib.Dec.{ltb, eqb}
 use lib.ListN.{length, drop, get_or, drop_of_length-le}
@@ -14,8 +16,6 @@ use borrow.Author.Tests.{lt-ltb, le-ltb, ltb-true, ltb-false}
 use Rattle.octets.specs.Parts.{part}
 use Rattle.octets.specs.BigEndian.{num}
 use Rattle.octets.proofs.Choices.{cases}
-use Rattle.keys.specs.declared.Side.{Side}
-use Rattle.keys.specs.declared.Side.TheVariants.{Less, Equal, Greater}
 use Rattle.keys.specs.Keys.{side_of, by_side}
 use Rattle.keys.proofs.KeyLaws.{sides}
 use Rattle.document.specs.Documents.{Key}
@@ -37,7 +37,7 @@ over-into i j e = let z : ◌≡◌ {A = ℕ} 0 1 = cc in absurd (omega arith)
 pub over-same : (i j : ℕ) → Over i ≡ Over j → i ≡ j
 over-same i j e = cc
 
-module _ (side : ℕ → Side) where
+module _ (side : ℕ → Ordering) where
   -- more steps than there are places change nothing
   enough : (m k lo hi : ℕ) → hi - lo ≤ m → hi - lo ≤ k → halve m side lo hi ≡ halve k side lo hi
   unfolding halve
@@ -84,7 +84,7 @@ module _ (side : ℕ → Side) where
         let below = enough n (mid - lo) lo mid (omega arith) (omega arith) in
         ap (λ (k : ℕ). halve k side lo hi) e ∙ rw (lt-ltb lo hi h) (λ i. by_side (side mid) (above i) (Over mid) (below i))
 
-    module _ (h : lo < hi) (o : Side) (e : o ≡ side (middle lo hi)) where
+    module _ (h : lo < hi) (o : Ordering) (e : o ≡ side (middle lo hi)) where
       pub halved-less : o ≡ Less → halved side lo hi ≡ halved side (middle lo hi + 1) hi
       halved-less l = halved-step h ∙ rw (sym e ∙ l)
 
@@ -96,14 +96,14 @@ module _ (side : ℕ → Side) where
 
 -- the rows of memory, as a step reads them
 module _ (b : List ℕ) where
-  pub row_read : (i : ℕ) → i < row_count b → row_of (part b (16 + i * 1312) (16 + i * 1312 + 1312 - (16 + i * 1312))) ≡ get_or (table_of b).rows i none
+  pub row_read : (i : ℕ) → i < row_count b → row_of (part b (16 + i * 1312) (16 + i * 1312 + 1312 - (16 + i * 1312))) ≡ get_or (table_of b).rows i None
   row_read i h =
       let e : 16 + i * 1312 + 1312 - (16 + i * 1312) ≡ 1312 = omega arith in
       rw e (ap row_of (sym (row-there b i h)) ∙ sym (row-at b i))
 
   -- the side of the key on which the row at a place stands
-  abbrev pub side_at : Key → ℕ → Side
-  side_at key i = row_side key (get_or (table_of b).rows i none)
+  abbrev pub side_at : Key → ℕ → Ordering
+  side_at key i = row_side key (get_or (table_of b).rows i None)
 
   pub side-read : (key : Key) (i : ℕ) → i < row_count b → row_side key (row_of (part b (16 + i * 1312) (16 + i * 1312 + 1312 - (16 + i * 1312)))) ≡ side_at key i
   side-read key i h = ap (row_side key) (row_read i h)
@@ -116,17 +116,17 @@ module _ (b : List ℕ) where
   unfolding table_of
   last_none z = rw z
 
-  pub last-kind : (n : ℕ) → n ≡ row_count b → 0 < n → (r : List ℕ) → row_of r ≡ get_or (table_of b).rows (n - 1) none → eqb (num r 0 2) 0 ≡ last_free (table_of b).rows
+  pub last-kind : (n : ℕ) → n ≡ row_count b → 0 < n → (r : List ℕ) → row_of r ≡ get_or (table_of b).rows (n - 1) None → eqb (num r 0 2) 0 ≡ last_free (table_of b).rows
   last-kind n e h r q =
       let l : length (table_of b).rows ≡ n = count-rows b ∙ sym e in
-      sym (is_free-row r) ∙ ap is_free (q ∙ ap (λ (m : ℕ). get_or (table_of b).rows (m - 1) none) (sym l)) ∙ last-there (table_of b).rows (omega (arith, l))
+      sym (is_free-row r) ∙ ap is_free (q ∙ ap (λ (m : ℕ). get_or (table_of b).rows (m - 1) None) (sym l)) ∙ last-there (table_of b).rows (omega (arith, l))
     where
-      last-there : (ws : List Row) → 1 ≤ length ws → is_free (get_or ws (length ws - 1) none) ≡ last_free ws
+      last-there : (ws : List Row) → 1 ≤ length ws → is_free (get_or ws (length ws - 1) None) ≡ last_free ws
       last-there [] k = absurd (omega arith)
       last-there (w ∷ []) k = refl
       last-there (w ∷ v ∷ ws) k =
           let z : suc (suc (length ws)) - 1 ≡ suc (suc (length ws) - 1) = omega arith in
-          ap (λ (m : ℕ). is_free (get_or (w ∷ v ∷ ws) m none)) z ∙ last-there (v ∷ ws) (omega arith)
+          ap (λ (m : ℕ). is_free (get_or (w ∷ v ∷ ws) m None)) z ∙ last-there (v ∷ ws) (omega arith)
 
 -- a row's side, by its kind and its key
 module _ (r key : List ℕ) where
@@ -138,12 +138,12 @@ module _ (r key : List ℕ) where
   used-side n = rw (row-used r n)
 
 -- rows in order, any two of them
-pub all-at : (w : Row) (ws : List Row) → AllFollow w ws → (i : ℕ) → i < length ws → follows w (get_or ws i none) ≡ true
+pub all-at : (w : Row) (ws : List Row) → AllFollow w ws → (i : ℕ) → i < length ws → follows w (get_or ws i None) ≡ true
 all-at w [] a i h = absurd (omega arith)
 all-at w (v ∷ ws) a zero h = a.0
 all-at w (v ∷ ws) a (suc i) h = all-at w ws a.1 i (omega arith)
 
-each_at : (ws : List Row) → EachFollows ws → (i j : ℕ) → j < i → i < length ws → follows (get_or ws j none) (get_or ws i none) ≡ true
+each_at : (ws : List Row) → EachFollows ws → (i j : ℕ) → j < i → i < length ws → follows (get_or ws j None) (get_or ws i None) ≡ true
 each_at [] c i j h k = absurd (omega arith)
 each_at (w ∷ ws) c zero j h k = absurd (omega arith)
 each_at (w ∷ ws) c (suc i) zero h k = all-at w ws c.0 i (omega arith)
@@ -163,16 +163,16 @@ module _ (key : Key) where
       (λ g. absurd (n (side_after key w v p (λ l. let z : ◌≡◌ {A = ℕ} 0 1 = cc in omega arith))))
 
   module _ (ws : List Row) (c : EachFollows ws) where
-    abbrev at : ℕ → Side
-    at i = row_side key (get_or ws i none)
+    abbrev at : ℕ → Ordering
+    at i = row_side key (get_or ws i None)
 
     -- a row before one that isn't above is below
     below : (i : ℕ) → i < length ws → (at i ≡ Greater → ⊥) → (j : ℕ) → j < i → at j ≡ Less
-    below i h n j l = side_before (get_or ws j none) (get_or ws i none) (each_at ws c i j l h) n
+    below i h n j l = side_before (get_or ws j None) (get_or ws i None) (each_at ws c i j l h) n
 
     module _ (i : ℕ) (h : i < length ws) where
       walk_step : walked i (drop i ws) ≡ by_side (at i) (walked (i + 1) (drop (i + 1) ws)) (Over i) (Into i)
-      walk_step = rw (drop-cons ws i none h, add-one)
+      walk_step = rw (drop-cons ws i None h, add-one)
 
       walk-equal : at i ≡ Equal → walked i (drop i ws) ≡ Over i
       walk-equal e = walk_step ∙ rw e

@@ -8,16 +8,16 @@ ghost use Rattle.rows.specs.Table.{table_of};
 ghost use Rattle.ordered.specs.Order.{row_side};
 ghost use Rattle.ordered_lookup.specs.Halving.{key_place, last_free, with_room, place_ordered, first_from};
 
+use std::cmp::Ordering;
 use engine::Place;
-use keys::Side;
 use rows::{FIXED, HEADER, ROW};
 
 // On which side of a key a row stands. A free row is above every key.
-fn row_side(r: &[u8], key: &[u8]) -> Side
+fn row_side(r: &[u8], key: &[u8]) -> Ordering
     ensures { result ≡ row_side key.now (row_of r.now) }
 {
     if octets::be16(r, 0) == 0 {
-        return Side::Greater;
+        return Ordering::Greater;
     }
     keys::compare(octets::part(r, FIXED, octets::be16(r, 2) as usize), key)
 }
@@ -33,13 +33,13 @@ fn key_place(b: &[u8], key: &[u8]) -> Place
         let at = HEADER + mid * ROW;
         let end = at + ROW;
         match row_side(&b[at..end], key) {
-            Side::Less => {
+            Ordering::Less => {
                 lo = mid + 1;
             }
-            Side::Equal => {
+            Ordering::Equal => {
                 return Place::Over(mid);
             }
-            Side::Greater => {
+            Ordering::Greater => {
                 hi = mid;
             }
         }

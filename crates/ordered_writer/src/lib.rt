@@ -13,7 +13,6 @@ ghost use Rattle.ordered_writer.specs.Gaps.{closed_bytes, gaps_closed};
 
 use document::Metadata;
 use numbers::Cas;
-use plain::Found;
 use rows::{HEADER, ROW, SPACE};
 
 // Copies a row to a place, through an array: where it is copied to may be among its own bytes.
@@ -64,8 +63,8 @@ pub fn insert(b: &mut [u8], i: usize, key: &[u8], m: Metadata, value: &[u8])
     ensures { b.new ≡ inserted b.old i (record { key = key.entry.now; doc = record { tomb = m.tomb; value = value.now; numbers = m.numbers } }) }
 {
     match plain::lookup::free(b) {
-        Found::At(free) => insert_row(b, i, free, key, m, value),
-        Found::Nothing => {}
+        Some(free) => insert_row(b, i, free, key, m, value),
+        None => {}
     }
 }
 

@@ -8,7 +8,7 @@ ghost use Rattle.owner.specs.Shown.{shown_by, activation_of};
 ghost use Rattle.owner.specs.Purging.{purge_step};
 
 use document::Head;
-use engine::{Checked, Config};
+use engine::Config;
 use numbers::Cas;
 use owning::{Activated, Document, Purged};
 use rows::{HEADER, ROW};
@@ -80,8 +80,8 @@ pub fn read(config: Config, s: &[u8], clock: u32, key: &[u8]) -> Document
     ensures { result ≡ read_of config s.now clock key.now }
 {
     match table::checked(config, s) {
-        Checked::Damaged => Document::Damaged,
-        Checked::Sound(head) => shown(
+        None => Document::Damaged,
+        Some(head) => shown(
             table::find(config, s, key, false),
             numbers::later(head.clock, clock),
         ),
@@ -103,17 +103,17 @@ pub fn purge(config: Config, s: &mut [u8], clock: u32, bound: Cas) -> Purged
     ensures { (result ≡ purge_of config s.old clock bound.0) × (s.new ≡ purged_bytes config s.old clock bound.0) }
 {
     match table::checked(config, s) {
-        Checked::Damaged => Purged::Damaged,
-        Checked::Sound(_) => Purged::Freed(purge_step(config, s, clock, bound)),
+        None => Purged::Damaged,
+        Some(_) => Purged::Freed(purge_step(config, s, clock, bound)),
     }
 }
 
-fn activation(c: Checked) -> Activated
+fn activation(c: Option<Head>) -> Activated
     ensures { result ≡ activation_of c }
 {
     match c {
-        Checked::Damaged => Activated::Damaged,
-        Checked::Sound(head) => {
+        None => Activated::Damaged,
+        Some(head) => {
             if head.state == 4 {
                 return Activated::Dead;
             }

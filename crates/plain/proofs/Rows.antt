@@ -1,9 +1,9 @@
 -- One row of a run of rows: what each search over rows makes of it, and what a row's first bytes say.
+use Rattle.std.specs.Prelude.{is_some, Some, None}
 use Prim.Native.Nat.{ℕ, ◌+◌, ◌-◌, ◌<◌}
 use mathlib.Core.Path.{◌≡◌, refl, ap}
 use mathlib.Core.Bool.{◌&&◌, not, cond}
 use mathlib.Core.List.{List, [], ◌∷◌, map}
-use mathlib.Core.Option.{none, some}
 use lib.Dec.{eqb}
 use lib.ListN.{drop}
 use borrow.Author.Tests.{eqb-true, eqb-false}
@@ -11,19 +11,17 @@ use Rattle.octets.specs.Parts.{part}
 use Rattle.octets.specs.BigEndian.{num}
 use Rattle.octets.specs.Compare.{same}
 use Rattle.octets.proofs.Choices.{cases}
-use Rattle.plain.specs.declared.Found.TheVariants.{At}
 use Rattle.rows.specs.Row.{Row, slot_of, key_of, row_of}
 use Rattle.rows.specs.Find.{find_row}
-use Rattle.engine.specs.Engine.{is_some}
 use Rattle.rows.specs.Table.{rows_of}
 use Rattle.plain.specs.Lookup.{holds, is_free, find_in, free_in, missing}
 use Rattle.rows.proofs.OneRow.{one-row, row-free, row-used}
 
 module _ (s : List ℕ) (at n : ℕ) (h : 0 < n) where
-  pub find-row : (key : List ℕ) (i : ℕ) → find_in key i (rows_of n (drop at s)) ≡ cond (holds key (row_of (part s at 1312))) (At i) (find_in key (i + 1) (rows_of (n - 1) (drop (at + 1312) s)))
+  pub find-row : (key : List ℕ) (i : ℕ) → find_in key i (rows_of n (drop at s)) ≡ cond (holds key (row_of (part s at 1312))) (Some i) (find_in key (i + 1) (rows_of (n - 1) (drop (at + 1312) s)))
   find-row key i = ap (λ (l : List (List ℕ)). find_in key i (map row_of l)) (one-row s at n h)
 
-  pub free-row : (i : ℕ) → free_in i (rows_of n (drop at s)) ≡ cond (is_free (row_of (part s at 1312))) (At i) (free_in (i + 1) (rows_of (n - 1) (drop (at + 1312) s)))
+  pub free-row : (i : ℕ) → free_in i (rows_of n (drop at s)) ≡ cond (is_free (row_of (part s at 1312))) (Some i) (free_in (i + 1) (rows_of (n - 1) (drop (at + 1312) s)))
   free-row i = ap (λ (l : List (List ℕ)). free_in i (map row_of l)) (one-row s at n h)
 
 module _ (r : List ℕ) where
@@ -43,5 +41,5 @@ module _ (r : List ℕ) where
 -- a key has no place where it has no document
 pub missing-found : (key : List ℕ) (i : ℕ) (ws : List Row) → missing (find_in key i ws) ≡ not (is_some (find_row ws key))
 missing-found key i [] = refl
-missing-found key i (none ∷ ws) = missing-found key (i + 1) ws
-missing-found key i (some x ∷ ws) = cases (same x.key key) (λ t. rw t) (λ f. rw f (missing-found key (i + 1) ws))
+missing-found key i (None ∷ ws) = missing-found key (i + 1) ws
+missing-found key i (Some x ∷ ws) = cases (same x.key key) (λ t. rw t) (λ f. rw f (missing-found key (i + 1) ws))

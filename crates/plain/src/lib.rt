@@ -4,8 +4,3 @@
 
 pub mod lookup;
 
-#[derive(Clone, Copy)]
-pub enum Found {
-    At(usize),
-    Nothing,
-}

@@ -4,7 +4,6 @@ ghost use Rattle.rows.specs.Row.{row_of};
 ghost use Rattle.rows.specs.Table.{rows_of, table_of};
 ghost use Rattle.plain.specs.Lookup.{holds, run_rows, find_in, free_in, free_place, key_row, place_by};
 
-use crate::Found;
 use engine::Place;
 use rows::{FIXED, HEADER, ROW};
 
@@ -18,7 +17,7 @@ fn row_holds(r: &[u8], key: &[u8]) -> bool
 }
 
 // The first of the left rows from at that holds the key, counted from i.
-fn find_from(s: &[u8], key: &[u8], at: usize, left: usize, i: usize) -> Found
+fn find_from(s: &[u8], key: &[u8], at: usize, left: usize, i: usize) -> Option<usize>
     requires { (at + left * 1312 ≤ length s.now) × (i ≤ at) }
     ensures { result ≡ find_in key.now i (rows_of left (drop at s.now)) }
 {
@@ -28,17 +27,17 @@ fn find_from(s: &[u8], key: &[u8], at: usize, left: usize, i: usize) -> Found
     while 0 < n {
         let end = a + ROW;
         if row_holds(&s[a..end], key) {
-            return Found::At(k);
+            return Some(k);
         }
         a += ROW;
         n -= 1;
         k += 1;
     }
-    Found::Nothing
+    None
 }
 
 // The first free one of the left rows from at, counted from i.
-fn free_from(s: &[u8], at: usize, left: usize, i: usize) -> Found
+fn free_from(s: &[u8], at: usize, left: usize, i: usize) -> Option<usize>
     requires { (at + left * 1312 ≤ length s.now) × (i ≤ at) }
     ensures { result ≡ free_in i (rows_of left (drop at s.now)) }
 {
@@ -48,62 +47,62 @@ fn free_from(s: &[u8], at: usize, left: usize, i: usize) -> Found
     while 0 < n {
         let end = a + ROW;
         if octets::be16(&s[a..end], 0) == 0 {
-            return Found::At(k);
+            return Some(k);
         }
         a += ROW;
         n -= 1;
         k += 1;
     }
-    Found::Nothing
+    None
 }
 
 // The first row of a run of rows that holds the key.
-pub fn find_in(s: &[u8], key: &[u8]) -> Found
+pub fn find_in(s: &[u8], key: &[u8]) -> Option<usize>
     ensures { result ≡ find_in key.now 0 (run_rows s.now) }
 {
     find_from(s, key, 0, s.len() / ROW, 0)
 }
 
 // The place of the row that holds the key.
-pub fn find(s: &[u8], key: &[u8]) -> Found
+pub fn find(s: &[u8], key: &[u8]) -> Option<usize>
     ensures { result ≡ find_in key.now 0 (table_of s.now).rows }
 {
     if s.len() < HEADER {
-        return Found::Nothing;
+        return None;
     }
     find_from(s, key, HEADER, rows::rows_in(s.len()), 0)
 }
 
 // The place of the lowest free row.
-pub fn free(s: &[u8]) -> Found
+pub fn free(s: &[u8]) -> Option<usize>
     ensures { result ≡ free_in 0 (table_of s.now).rows }
 {
     if s.len() < HEADER {
-        return Found::Nothing;
+        return None;
     }
     free_from(s, HEADER, rows::rows_in(s.len()), 0)
 }
 
 // The key's row. No sound row has an empty key, so that there is nothing to look for.
-fn find_key(s: &[u8], key: &[u8]) -> Found
+fn find_key(s: &[u8], key: &[u8]) -> Option<usize>
     ensures { result ≡ key_row key.now (table_of s.now).rows }
 {
     if key.len() == 0 {
-        return Found::Nothing;
+        return None;
     }
     find(s, key)
 }
 
 // A new row's place: the lowest free one, which is looked for only where a new row is asked for.
 fn free_place(s: &[u8], new: bool) -> Place
-    ensures { result ≡ free_place (cond new (free_in 0 (table_of s.now).rows) Found.Nothing) }
+    ensures { result ≡ free_place (cond new (free_in 0 (table_of s.now).rows) None) }
 {
     if !new {
         return Place::Full;
     }
     match free(s) {
-        Found::At(i) => Place::Into(i),
-        Found::Nothing => Place::Full,
+        Some(i) => Place::Into(i),
+        None => Place::Full,
     }
 }
 
@@ -112,7 +111,7 @@ pub fn place(s: &[u8], key: &[u8], new: bool) -> Place
     ensures { result ≡ place_by new key.now (table_of s.now).rows }
 {
     match find_key(s, key) {
-        Found::At(i) => Place::Over(i),
-        Found::Nothing => free_place(s, new),
+        Some(i) => Place::Over(i),
+        None => free_place(s, new),
     }
 }

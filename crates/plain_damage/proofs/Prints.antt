@@ -3,7 +3,7 @@ use Prim.Native.Nat.{ℕ, zero, suc, ◌+◌, ◌-◌, ◌≤◌, ◌<◌}
 use mathlib.Core.Path.{◌≡◌, refl, sym, ap, ◌∙◌}
 use mathlib.Core.Bool.{Bool, true, false, ◌&&◌, and_comm}
 use mathlib.Core.List.{List, [], ◌∷◌, map}
-use mathlib.Core.Option.{none, some}
+use Rattle.std.specs.Prelude.{Some, None}
 use native.Mathlib.Omega.{arith}
 use lib.Dec.{eqb}
 use lib.ListN.{length, take, drop, get_or, set}
@@ -36,8 +36,8 @@ module _ (r : List ℕ) where
 pub not-among : (key : List ℕ) (i : ℕ) (ws : List Row) → print_among (fingerprint key) (map row_print ws) ≡ false → missing (find_in key i ws) ≡ true
 unfolding print_among
 not-among key i [] e = refl
-not-among key i (none ∷ ws) e = not-among key (i + 1) ws (neither (eqb 0 (fingerprint key)) _ e).1
-not-among key i (some x ∷ ws) e =
+not-among key i (None ∷ ws) e = not-among key (i + 1) ws (neither (eqb 0 (fingerprint key)) _ e).1
+not-among key i (Some x ∷ ws) e =
     let n = neither (eqb (fingerprint x.key) (fingerprint key)) _ e in
     cases (same x.key key)
     (λ t.
@@ -57,8 +57,8 @@ distinct-unprinted s at later u e =
 
 -- one row alone has no other's key
 alone : (w : Row) → distinct (w ∷ []) ≡ true
-alone none = refl
-alone (some x) = refl
+alone None = refl
+alone (Some x) = refl
 
 pub few-distinct : (n : ℕ) (b : List ℕ) → n < 2 → distinct (rows_of n b) ≡ true
 few-distinct zero b h = refl
@@ -96,9 +96,9 @@ module _ (s : List ℕ) (at later : ℕ) (h : 1312 ≤ at) where
     apart-unseen z =
         let a : at - 1312 + 1312 ≡ at = omega arith in
         let r = part s (at - 1312) 1312 in
-        let none : print_among (row_print (row_of r)) (map row_print (rows_of later (drop at s))) ≡ false =
+        let None : print_among (row_print (row_of r)) (map row_print (rows_of later (drop at s))) ≡ false =
         unseen (row_print (row_of r)) _ ((λ i. get_or (sym g i) (sym (e ∙ ap bucket_of f) i) 0) ∙ z) in
         sym (ap (λ (m : ℕ). distinct (rows_of later (drop m s))) a)
         ∙ cases (eqb (num r 0 2) 0)
         (λ t. distinct-free s (at - 1312) later (eqb-true (num r 0 2) 0 t))
-        (λ t. distinct-unprinted s (at - 1312) later (eqb-false (num r 0 2) 0 t) (ap (λ (m : ℕ). print_among (row_print (row_of r)) (map row_print (rows_of later (drop m s)))) a ∙ none))
+        (λ t. distinct-unprinted s (at - 1312) later (eqb-false (num r 0 2) 0 t) (ap (λ (m : ℕ). print_among (row_print (row_of r)) (map row_print (rows_of later (drop m s)))) a ∙ None))

@@ -11,15 +11,14 @@ ghost use Rattle.plain.specs.Lookup.{missing};
 ghost use Rattle.plain.specs.Damage.{distinct};
 ghost use Rattle.plain_damage.specs.Distinct.{keys_distinct};
 
-use plain::Found;
 use rows::{FIXED, HEADER, ROW};
 
-fn is_missing(f: Found) -> bool
+fn is_missing(f: Option<usize>) -> bool
     ensures { result ≡ missing f }
 {
     match f {
-        Found::At(_) => false,
-        Found::Nothing => true,
+        Some(_) => false,
+        None => true,
     }
 }
 

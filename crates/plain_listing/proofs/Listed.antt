@@ -3,7 +3,7 @@ use Prim.Native.Nat.{ℕ, ◌+◌, ◌-◌, ◌*◌, ◌≤◌, ◌<◌}
 use mathlib.Core.Path.{◌≡◌, refl, sym, ap, ◌∙◌}
 use mathlib.Core.Bool.{Bool, true, false, not, ◌||◌, false≢true}
 use mathlib.Core.List.{List, [], ◌∷◌}
-use mathlib.Core.Option.{none, some}
+use Rattle.std.specs.Prelude.{Some, None}
 use native.Mathlib.Omega.{arith}
 use lib.Dec.{eqb, ltb}
 use lib.ListN.{length, drop}
@@ -89,10 +89,10 @@ module _ (clock : ℕ) (start : Key) where
   -- those are the live keys from the start key on
   pub listed-from : (ws : List Row) → sort_keys (keys_listed clock start ws) ≡ from_key start (sort_keys (live_keys clock (used_rows ws)))
   listed-from [] = refl
-  listed-from (none ∷ ws) = listed-from ws
-  listed-from (some e ∷ ws) =
+  listed-from (None ∷ ws) = listed-from ws
+  listed-from (Some e ∷ ws) =
       let ks = sort_keys (live_keys clock (used_rows ws)) in
-      cases (live (stored_of (some e.doc)) clock)
+      cases (live (stored_of (Some e.doc)) clock)
       (λ t. cases (key_below e.key start)
       (λ u. rw (t, u) (listed-from ws ∙ sym (from-insert start e.key ks ∙ rw u)))
       (λ f. rw (t, f) (ap (insert_key e.key) (listed-from ws) ∙ sym (from-insert start e.key ks ∙ rw f))))

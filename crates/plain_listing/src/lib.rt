@@ -11,7 +11,7 @@ ghost use Rattle.listing.specs.Listing.{insert_key, sort_keys, taken, keys_bytes
 ghost use Rattle.listing.specs.Order.{InOrder};
 ghost use Rattle.plain_listing.specs.Places.{key_at, keys_of, Within, is_listed, with_key, keys_listed, fitting_keys};
 
-use keys::Side;
+use std::cmp::Ordering;
 use listing::LIMIT;
 use rows::{FIXED, HEADER, ROW};
 
@@ -34,9 +34,9 @@ fn is_below(s: &[u8], t: &[u8]) -> bool
     ensures { result ≡ key_below s.now t.now }
 {
     match keys::compare(s, t) {
-        Side::Less => true,
-        Side::Equal => false,
-        Side::Greater => false,
+        Ordering::Less => true,
+        Ordering::Equal => false,
+        Ordering::Greater => false,
     }
 }
 

@@ -3,7 +3,7 @@ use Prim.Native.Nat.{ℕ}
 use native.Mathlib.Omega.{arith}
 use mathlib.Core.Path.{◌≡◌, refl, sym, ap, ◌∙◌}
 use mathlib.Core.List.{List}
-use mathlib.Core.Option.{none}
+use Rattle.std.specs.Prelude.{None}
 use lib.Dec.{ltb}
 use Rattle.engine.specs.declared.Config.{Config}
 use Rattle.octets.specs.Parts.{Bytes}
@@ -30,7 +30,7 @@ refused-keeps config = call-keeps config
 
 -- ---- another status than 0: nothing is stored, and the head stays
 pub nothing_stored : (config : Config) (t : Table) (clock : ℕ) (s : List ℕ) (h : Header) → ((frame_effect config t clock s h).status ≡ 0 → ⊥)
-    → ((frame_effect config t clock s h).store ≡ none) × ((frame_effect config t clock s h).head ≡ t.head)
+    → ((frame_effect config t clock s h).store ≡ None) × ((frame_effect config t clock s h).head ≡ t.head)
 unfolding frame_effect decision_on decide
 nothing_stored config t clock s h n =
     cases (reaches_decision s h)

@@ -4,7 +4,7 @@ use Prim.Native.Nat.{ℕ, suc, ◌+◌, ◌≤◌}
 use mathlib.Core.Path.{◌≡◌, refl, sym, ap, ◌∙◌}
 use mathlib.Core.Bool.{Bool, true, false, cond}
 use mathlib.Core.List.{List, [], ◌∷◌, ◌++◌}
-use mathlib.Core.Option.{some}
+use Rattle.std.specs.Prelude.{Some}
 use lib.ListN.{length, drop, length-append}
 use borrow.Author.Tests.{eq-eqb, ne_eqb}
 use Rattle.engine.specs.declared.Config.{Config}
@@ -176,7 +176,7 @@ module _ (config : Config) (b : List ℕ) (y : Bytes b) (undamaged : sound_by co
   few-docs : length (docs_in b) ≤ 256
   few-docs = omega (arith, (engines-laws config).count (table_of b).rows good.kept, good.good.most)
 
-  short-key : (k : Key) (d : Doc) → find_entry (docs_in b) k ≡ some d → length k ≤ 250
+  short-key : (k : Key) (d : Doc) → find_entry (docs_in b) k ≡ Some d → length k ≤ 250
   short-key k d e = (found-good (table_of b).head.mark.0 (table_of b).rows k d good.good.rows (found k ∙ e)).key-most
 
   -- what is listed by the tests, and by 01's words

@@ -1,4 +1,5 @@
 -- The worked list meets the premises and gives what specs/Worked.antt says.
+use Rattle.std.specs.Prelude.{is_some}
 use Prim.Native.Nat.{ℕ, ◌^◌}
 use mathlib.Core.Path.{◌≡◌, refl, sym, ap, ◌∙◌}
 use mathlib.Core.Bool.{Bool, true, cond, ◌&&◌, ◌||◌}
@@ -20,7 +21,6 @@ use Rattle.numbers.specs.declared.Mode.{Mode}
 use Rattle.numbers.specs.declared.Numbers.{Numbers}
 use Rattle.numbers.specs.Order.{greater}
 use Rattle.document.specs.Documents.{Key, Doc}
-use Rattle.engine.specs.Engine.{is_some}
 use Rattle.document.specs.Stored.{accepted}
 use Rattle.shape.specs.Shapes.{among, shape_of}
 use Rattle.header.specs.Header.{header_of}

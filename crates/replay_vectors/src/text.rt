@@ -1,6 +1,5 @@
 // The trace that a line spells. Where the bytes end is answered as a place in the space for them: the space's end where they fill
 // it, or where the text can't be read, and then none that comes after moves it.
-use digits::Number;
 
 // Where the first such byte stands, or the text's length where there is none.
 fn find(s: &[u8], mark: u8) -> usize {
@@ -71,12 +70,12 @@ fn put_times(out: &mut [u8], from: usize, s: &[u8], times: u64) -> usize {
 }
 
 // How many times a segment's digits stand: what its text says after them, 1 where that is nothing.
-fn times_of(s: &[u8]) -> Number {
+fn times_of(s: &[u8]) -> Option<u64> {
     if s.len() == 0 {
-        return Number::Value(1);
+        return Some(1);
     }
     if 6 < s.len() {
-        return Number::NoNumber;
+        return None;
     }
     digits::parse(octets::rest(s, 1))
 }
@@ -87,7 +86,7 @@ fn put_segment(out: &mut [u8], from: usize, s: &[u8]) -> usize {
     if !is_hex(word) {
         return out.len();
     }
-    let Number::Value(times) = times_of(octets::rest(s, word.len())) else {
+    let Some(times) = times_of(octets::rest(s, word.len())) else {
         return out.len();
     };
     put_times(out, from, word, times)

@@ -5,7 +5,7 @@ use mathlib.Core.Bool.{Bool, true, false, ◌&&◌}
 use mathlib.Core.List.{List}
 use lib.ListN.{length, drop}
 use Rattle.document.specs.declared.Head.{Head}
-use Rattle.engine.specs.declared.Checked.TheVariants.{Damaged, Sound}
+use Rattle.std.specs.Prelude.{Some, None}
 use Rattle.rows.specs.Table.{head_of, chunks, row_count, rows_of}
 use Rattle.rows.specs.RowRules.{size_ok, head_ok, all_sound}
 use Rattle.plain.proofs.Checks.{tells-damaged, tells-sound}
@@ -20,18 +20,18 @@ module _ (keyed : Bool) (b : List ℕ) where
   unfolding rows_ok
   rows-ok-is n h e f = sym (λ i. ok_with (e i) (f i))
 
-  pub damaged-rows : rows_ok keyed b ≡ false → checked_rows keyed b ≡ Damaged
+  pub damaged-rows : rows_ok keyed b ≡ false → checked_rows keyed b ≡ None
   unfolding checked_rows
   damaged-rows e = rw e
 
-  pub sound-rows : (h : Head) → h ≡ head_of b → rows_ok keyed b ≡ true → checked_rows keyed b ≡ Sound h
+  pub sound-rows : (h : Head) → h ≡ head_of b → rows_ok keyed b ≡ true → checked_rows keyed b ≡ Some h
   unfolding checked_rows
-  sound-rows h f e = rw e (ap Sound (sym f))
+  sound-rows h f e = rw e (ap Some (sym f))
 
-  pub rows-damaged : checked_rows keyed b ≡ Damaged → rows_ok keyed b ≡ false
+  pub rows-damaged : checked_rows keyed b ≡ None → rows_ok keyed b ≡ false
   unfolding checked_rows
   rows-damaged e = tells-damaged (rows_ok keyed b) (head_of b) e
 
-  pub rows-sound : (h : Head) → checked_rows keyed b ≡ Sound h → (rows_ok keyed b ≡ true) × (h ≡ head_of b)
+  pub rows-sound : (h : Head) → checked_rows keyed b ≡ Some h → (rows_ok keyed b ≡ true) × (h ≡ head_of b)
   unfolding checked_rows
   rows-sound h e = tells-sound (rows_ok keyed b) (head_of b) h e

@@ -5,7 +5,7 @@ use mathlib.Core.Bool.{true, false}
 use mathlib.Core.List.{List}
 use Rattle.octets.specs.Parts.{part}
 use Rattle.octets.specs.BigEndian.{num}
-use Rattle.keys.specs.declared.Side.{Side}
+use Rattle.std.specs.declared.cmp.Ordering.{Ordering}
 use Rattle.keys.specs.Keys.{side_of, by_side}
 use Rattle.rows.specs.Row.{slot_of, key_of, row_of}
 use Rattle.rows.proofs.OneRow.{row-free, row-used}
@@ -22,4 +22,4 @@ module _ (v w : List ℕ) where
     pub used-follows : (num v 0 2 ≡ 0 → ⊥) → (o : Side) → o ≡ side_of (part v 32 (num v 2 2)) (part w 32 (num w 2 2))
         → follows (row_of v) (row_of w) ≡ by_side o true false false
     unfolding key_of slot_of
-    used-follows n o e = rw (row-used v n, row-used w u) (ap (λ (d : Side). by_side d true false false) (sym e))
+    used-follows n o e = rw (row-used v n, row-used w u) (ap (λ (d : Ordering). by_side d true false false) (sym e))

@@ -10,8 +10,7 @@ ghost use Rattle.rows.specs.RowRules.{all_sound};
 ghost use Rattle.ordered.specs.Order.{follows};
 ghost use Rattle.row_damage.specs.Walk.{in_order, checked_rows};
 
-use engine::Checked;
-use keys::Side;
+use std::cmp::Ordering;
 use rows::{FIXED, HEADER, ROW};
 
 // Whether a row may stand right after another: a free row after any, a used one only after a used one with a smaller key.
@@ -27,9 +26,9 @@ fn row_follows(v: &[u8], w: &[u8]) -> bool
     let a = octets::part(v, FIXED, octets::be16(v, 2) as usize);
     let b = octets::part(w, FIXED, octets::be16(w, 2) as usize);
     match keys::compare(a, b) {
-        Side::Less => true,
-        Side::Equal => false,
-        Side::Greater => false,
+        Ordering::Less => true,
+        Ordering::Equal => false,
+        Ordering::Greater => false,
     }
 }
 
@@ -57,19 +56,19 @@ fn rows_sound(s: &[u8], n: usize, mark: u64, keyed: bool) -> bool
 }
 
 // The head where the size, the header and the rows are right. keyed: whether the rows are to be in key order.
-pub fn checked_rows(s: &[u8], keyed: bool) -> Checked
+pub fn checked_rows(s: &[u8], keyed: bool) -> Option<Head>
     ensures { result ≡ checked_rows keyed s.now }
 {
     let n = rows::rows_in(s.len());
     if !rows::damage::size_ok(s.len(), n) {
-        return Checked::Damaged;
+        return None;
     }
     let h = rows::head_of(&s[..HEADER]);
     if !rows::damage::head_ok(h) {
-        return Checked::Damaged;
+        return None;
     }
     if !rows_sound(s, n, h.mark.0, keyed) {
-        return Checked::Damaged;
+        return None;
     }
-    Checked::Sound(h)
+    Some(h)
 }

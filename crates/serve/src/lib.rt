@@ -3,7 +3,7 @@
 
 ghost use Rattle.serving.specs.Serves.{Serves};
 
-use engine::{Checked, Config};
+use engine::Config;
 use serving::Served;
 
 // Serves the request at the start of the received bytes. The tally stands apart.
@@ -11,7 +11,7 @@ pub fn serve_one(config: Config, b: &mut [u8], clock: u32, s: &[u8], out: &mut [
     ensures { Serves config b.old clock s.now out.old result b.new out.new }
 {
     match table::checked(config, b) {
-        Checked::Damaged => Served::Refused(5, 0),
-        Checked::Sound(head) => step::step(config, b, head, clock, s, out),
+        None => Served::Refused(5, 0),
+        Some(head) => step::step(config, b, head, clock, s, out),
     }
 }

@@ -1,6 +1,5 @@
 -- Serving one request on a table of the engine that the call is for: the outcomes of document 01 in the order tested; then the request is decided, answered and stored.
-use Rattle.std.specs.Prelude.{ℕ, ◌+◌, Bool, false, cond, not, List, length, ltb}
-use Rattle.std.proofs.Math.Option.{Option}
+use Rattle.std.specs.Prelude.{ℕ, ◌+◌, Bool, false, cond, not, List, length, ltb, Option, None}
 use Rattle.octets.specs.Parts.{written}
 use Rattle.header.specs.declared.Header.{Header}
 use Rattle.request.specs.declared.Gate.{Gate}
@@ -20,7 +19,6 @@ use Rattle.engine.specs.Engine.{store_row}
 use Rattle.decode.specs.Decode.{request_of}
 use Rattle.rows.specs.Table.{Table, table_of, table_at, clock_at, table_bytes}
 use Rattle.engine.specs.declared.Config.{Config}
-use Rattle.engine.specs.declared.Checked.TheVariants.{Damaged}
 use Rattle.plain.specs.Damage.{checked_outcome}
 use Rattle.engines.specs.Engines.{engine_of}
 use Rattle.engines.specs.Damage.{sound_by}
@@ -56,7 +54,7 @@ served_needed (Done status used len) = 0
 
 -- 5 table damaged, 4 reply room under 1,302 bytes, then the frame's own
 unfoldable pub gate_all : Config → List ℕ → ℕ → List ℕ → Gate
-gate_all config b room s = cond (not (sound_by config b)) (Stop (checked_outcome Damaged) 0) (cond (ltb room 1302) (Stop 4 0) (gate_of s))
+gate_all config b room s = cond (not (sound_by config b)) (Stop (checked_outcome None) 0) (cond (ltb room 1302) (Stop 4 0) (gate_of s))
 
 -- the reader's status ends it, save a 0x83 for option 0x01 and a 0x03: a 0x04 that needs mode or clock comes before both
 abbrev pub reaches_decision : List ℕ → Header → Bool

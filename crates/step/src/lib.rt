@@ -17,7 +17,6 @@ ghost use Rattle.step.specs.Step.{decided_by, refused_step, asked_step, frame_st
 
 use commands::{Context, Instruction};
 use decision::Decision;
-use decode::Decoded;
 use document::Head;
 use effects::Reply;
 use engine::Config;
@@ -158,8 +157,8 @@ fn serve_parts(
     let value = &s[k..end];
     let forcing = config.forcing;
     match decode::decoded_by(forcing, shape, h, extras, value) {
-        Decoded::Broken => refused(b, head, clock, h, 0x04, out),
-        Decoded::Whole(ask) => serve_asked(config, b, head, clock, h, ask, key, value, out),
+        None => refused(b, head, clock, h, 0x04, out),
+        Some(ask) => serve_asked(config, b, head, clock, h, ask, key, value, out),
     }
 }
 

@@ -3,7 +3,7 @@ use crate::text::Given;
 use crate::{show, text};
 use document::{Head, Metadata};
 use engine::{Config, Place};
-use numbers::{Cas, Left, Numbers, Revision};
+use numbers::{Cas, Numbers, Revision};
 use owning::{Activated, Document, Purged};
 use table::Lookup;
 
@@ -196,7 +196,7 @@ pub(crate) fn store(config: Config, g: Given, spelled: &[u8], s: &mut [u8], spac
     }
 }
 
-fn show_live(s: &[u8], n: Numbers, left: Left, at: usize, len: usize) {
+fn show_live(s: &[u8], n: Numbers, left: Option<i64>, at: usize, len: usize) {
     show::numbers(n);
     show::left(left);
     show::decimal(b" value=", at as u64);

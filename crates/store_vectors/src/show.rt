@@ -1,5 +1,5 @@
 // What is printed.
-use numbers::{Left, Numbers};
+use numbers::Numbers;
 
 const PRIME: u64 = 36028797018963913;
 
@@ -39,10 +39,10 @@ pub(crate) fn seconds(n: i64) {
     io::print_decimal(1, numbers::magnitude(n));
 }
 
-pub(crate) fn left(l: Left) {
+pub(crate) fn left(l: Option<i64>) {
     match l {
-        Left::Never => text(b" left=never"),
-        Left::Seconds(n) => seconds(n),
+        None => text(b" left=never"),
+        Some(n) => seconds(n),
     }
 }
 

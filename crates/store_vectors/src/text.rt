@@ -1,5 +1,4 @@
 // What a line spells: decimal numbers, and bytes in hexadecimal.
-use digits::Number;
 
 // How many numbers a line has, 9 where it has more than 8 or one that is none; and the numbers.
 #[derive(Clone, Copy)]
@@ -52,7 +51,7 @@ pub(crate) fn numbers(s: &[u8]) -> Given {
             return Given { count: 9, numbers };
         }
         let word = before(octets::rest(s, at), b' ');
-        let Number::Value(v) = digits::parse(word) else {
+        let Some(v) = digits::parse(word) else {
             return Given { count: 9, numbers };
         };
         numbers[count] = v;
@@ -96,7 +95,7 @@ fn first_run(s: &[u8]) -> Run {
         return run_of(byte, 1, 2);
     }
     let word = before(s, b' ');
-    let Number::Value(n) = digits::parse(octets::rest(word, 3)) else {
+    let Some(n) = digits::parse(octets::rest(word, 3)) else {
         return run_of(0, 0, 0);
     };
     run_of(byte, n as usize, word.len())

@@ -5,7 +5,7 @@ use mathlib.Core.Path.{◌≡◌, refl, sym, ap, subst, ◌∙◌}
 use mathlib.Core.Bool.{Bool, true, false, cond}
 use mathlib.Core.List.{List, [], ◌∷◌, ◌++◌}
 use mathlib.Core.Logic.{inl, inr}
-use mathlib.Core.Option.{Option, none, some}
+use Rattle.std.specs.Prelude.{Option, Some, None}
 use lib.ListN.{length, drop, length-replicate}
 use lib.Dec.{eqb}
 use borrow.Author.Tests.{eq-eqb, ne_eqb}
@@ -72,9 +72,9 @@ abbrev under : Config → Bool → Config
 under config forcing = record { engine = config.engine; forcing = forcing }
 
 module _ (config : Config) (b trace : List ℕ) (n : length b ≡ 42000) (o : WellOpened trace) where
-  serves-under : (forcing : Bool) → forcing_in trace ≡ forcing → ReplaysAs (under config forcing) (table_for trace) 0 none 0 (fields_in trace) (replayed config b trace)
+  serves-under : (forcing : Bool) → forcing_in trace ≡ forcing → ReplaysAs (under config forcing) (table_for trace) 0 None 0 (fields_in trace) (replayed config b trace)
   serves-under forcing e =
-      subst (λ (f : Bool). ReplaysAs (under config f) (table_for trace) 0 none 0 (fields_in trace) (replayed config b trace)) e (replay-serves config b trace n o)
+      subst (λ (f : Bool). ReplaysAs (under config f) (table_for trace) 0 None 0 (fields_in trace) (replayed config b trace)) e (replay-serves config b trace n o)
 
 pub new-rule-serves : (config : Config) → NewRuleServes config
 new-rule-serves config b trace n o s = serves-under config b trace n o false (says-new trace o s)
@@ -115,9 +115,9 @@ module _ (config : Config) (v : Voyage) (last : Option (List ℕ)) (a : Agrees v
       }
   step (Reply len) bytes l =
       cases (eqb v.frames 0)
-      (λ t. let e : none ≡ some bytes = sym (rw t at a) ∙ l in absurd (let z : ◌≡◌ {A = ℕ} 0 1 = cc in omega arith))
+      (λ t. let e : None ≡ Some bytes = sym (rw t at a) ∙ l in absurd (let z : ◌≡◌ {A = ℕ} 0 1 = cc in omega arith))
       (λ t.
-      let e : some bytes ≡ some v.reply = sym l ∙ rw t at a in
+      let e : Some bytes ≡ Some v.reply = sym l ∙ rw t at a in
       let k : bytes ≡ v.reply = cc in
       let q : same bytes v.reply ≡ true = ap (same bytes) (sym k) ∙ same_refl bytes in
       record { next = v; goes = rw (t, q) refl; table = refl; clock = refl; agrees = a })
@@ -175,7 +175,7 @@ unfolding replayed
 other-rule-stops config b trace n o before more p e k l =
     let ruled = ruled_by config trace in
     let v = set_out (num trace 0 1) (num trace 1 2) in
-    let r = reach ruled v none before (p ∷ more) refl l in
+    let r = reach ruled v None before (p ∷ more) refl l in
     let broken = broken-by trace p.at p.field (spelt-at trace p more 3 before (subst (SpeltFrom trace 3) e (fields-spelt trace))) k in
     rw (eq-eqb (length b) 42000 n, opening-read trace o)
     (ap (walked ruled v) e

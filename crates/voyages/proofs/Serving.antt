@@ -4,7 +4,7 @@ use Prim.Native.Nat.{ℕ, ◌+◌}
 use mathlib.Core.Path.{◌≡◌, refl, sym, ap, subst, ◌∙◌}
 use mathlib.Core.Bool.{true, false, cond, false≢true}
 use mathlib.Core.List.{List, [], ◌∷◌, ◌++◌}
-use mathlib.Core.Option.{Option, none, some}
+use Rattle.std.specs.Prelude.{Option, Some, None}
 use lib.ListN.{length, replicate, length-replicate}
 use lib.Dec.{eqb}
 use borrow.Author.Tests.{eqb-true, ne_eqb, eq-eqb}
@@ -58,7 +58,7 @@ module _ (config : Config) (b : List ℕ) (clock : ℕ) (last : Option (List ℕ
 -- ---- by the field
 -- the last reply is there once a frame was served
 abbrev pub Agrees : Voyage → Option (List ℕ) → Type 0
-Agrees v last = last ≡ cond (eqb v.frames 0) none (some v.reply)
+Agrees v last = last ≡ cond (eqb v.frames 0) None (Some v.reply)
 
 module _ (config : Config) (b : List ℕ) (clock : ℕ) (bytes : List ℕ) (len : ℕ) where
   one-frame : (r : Served) → served config b clock bytes 1302 ≡ r → is_one_frame r len ≡ true → OneFrame config b clock bytes len
@@ -84,19 +84,19 @@ module _ (config : Config) (v : Voyage) (last : Option (List ℕ)) (a : Agrees v
   serves len t =
       let w = with_frame config bytes v in
       let started : eqb (v.frames + 1) 0 ≡ false = ne_eqb (v.frames + 1) 0 (λ z. omega (arith, z)) in
-      let r = rest w (some w.reply) (rw started refl) in
+      let r = rest w (Some w.reply) (rw started refl) in
       let size : 1302 ≡ length (replicate {A = ℕ} 1302 0) = sym (length-replicate {A = ℕ} 1302 0) in
       further config v.table v.clock last v.frames (field (Frame len)) ps (walked config w ps) (v.frames + 1)
       (one-frame config v.table v.clock bytes len (served config v.table v.clock bytes 1302) refl t) refl
-      (subst (λ (k : ℕ). ReplaysAs config (served_table config v.table v.clock bytes k) v.clock (some w.reply) (v.frames + 1) ps (walked config w ps)) size r)
+      (subst (λ (k : ℕ). ReplaysAs config (served_table config v.table v.clock bytes k) v.clock (Some w.reply) (v.frames + 1) ps (walked config w ps)) size r)
 
   compares : (len : ℕ) → eqb v.frames 0 ≡ false
       → By (Reply len) (on_turn v (cond (same bytes v.reply) (On v) (End (Differs at))) (λ w. walked config w ps))
   compares len f =
-      let sent : last ≡ some v.reply = a ∙ rw f refl in
+      let sent : last ≡ Some v.reply = a ∙ rw f refl in
       cases (same bytes v.reply)
       (λ t. rw t (further config v.table v.clock last v.frames (field (Reply len)) ps (walked config v ps) v.frames
-      (sent ∙ ap some (sym (same_true bytes v.reply t))) (omega arith) (rest v last a)))
+      (sent ∙ ap Some (sym (same_true bytes v.reply t))) (omega arith) (rest v last a)))
       (λ t. rw t (here (Reply len) (Differs at) (refl, (v.reply, (sent, λ e. false≢true (sym t ∙ (ap (same bytes) e ∙ same_refl bytes)))))))
 
   turn : (f : Field) → By f (on_turn v (on_field config at v f bytes) (λ w. walked config w ps))
@@ -119,10 +119,10 @@ replays config v last (p ∷ ps) a = turn config v last a p.at p.bytes ps (λ w 
 
 -- a trace that has opened
 pub opened-serves : (config : Config) (b trace : List ℕ) (mode vbucket : ℕ) → length b ≡ 42000 → opening_of trace ≡ Opened mode vbucket
-    → ReplaysAs (ruled_by config trace) (table_bytes (fresh 32 1 mode vbucket)) 0 none 0 (fields_in trace) (replayed config b trace)
+    → ReplaysAs (ruled_by config trace) (table_bytes (fresh 32 1 mode vbucket)) 0 None 0 (fields_in trace) (replayed config b trace)
 unfolding replayed
 opened-serves config b trace mode vbucket n e =
-    rw (eq-eqb (length b) 42000 n, e) (replays (ruled_by config trace) (set_out mode vbucket) none (fields_in trace) refl)
+    rw (eq-eqb (length b) 42000 n, e) (replays (ruled_by config trace) (set_out mode vbucket) None (fields_in trace) refl)
 
 pub sent-is-reply : (config : Config) → SentIsReply config
 sent-is-reply config b clock s out st used len y n e = sym (was-sent config b clock s out st used len n y e).reply

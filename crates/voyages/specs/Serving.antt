@@ -1,6 +1,5 @@
 -- Order 6: "what was replayed before is the same as serving those frames and purging one by one." Over the list of calls that a trace spells, each with its clock. `Spelling.antt` says it of every trace. Proved in proofs/Serving.antt.
-use Rattle.std.specs.Prelude.{ℕ, ◌+◌, ◌≡◌, List, [], ◌∷◌, ◌++◌, length, replicate}
-use Rattle.std.proofs.Math.Option.{Option, none, some}
+use Rattle.std.specs.Prelude.{ℕ, ◌+◌, ◌≡◌, List, [], ◌∷◌, ◌++◌, length, replicate, Option, Some, None}
 use Rattle.engine.specs.declared.Config.{Config}
 use Rattle.octets.specs.Parts.{Bytes, part}
 use Rattle.serving.specs.declared.Served.TheVariants.{Done}
@@ -51,7 +50,7 @@ frames_in (p ∷ ps) = frames_by p.field + frames_in ps
 -- the last frame's reply, none before any frame
 abbrev pub last_by : Config → List ℕ → ℕ → Option (List ℕ) → Field → List ℕ → Option (List ℕ)
 last_by config b clock last (Clock n) bytes = last
-last_by config b clock last (Frame len) bytes = some (sent_reply config b clock bytes)
+last_by config b clock last (Frame len) bytes = Some (sent_reply config b clock bytes)
 last_by config b clock last (Reply len) bytes = last
 last_by config b clock last (Purges bound) bytes = last
 last_by config b clock last (Rule forcing) bytes = last
@@ -68,7 +67,7 @@ pub record OneFrame (config : Config) (b : List ℕ) (clock : ℕ) (bytes : List
 abbrev pub LeadsOn : Config → List ℕ → ℕ → Option (List ℕ) → Field → List ℕ → Type 0
 LeadsOn config b clock last (Clock n) bytes = Unit {0}
 LeadsOn config b clock last (Frame len) bytes = OneFrame config b clock bytes len
-LeadsOn config b clock last (Reply len) bytes = last ≡ some bytes
+LeadsOn config b clock last (Reply len) bytes = last ≡ Some bytes
 LeadsOn config b clock last (Purges bound) bytes = Unit {0}
 LeadsOn config b clock last (Rule forcing) bytes = Unit {0}
 LeadsOn config b clock last Broken bytes = ⊥
@@ -81,7 +80,7 @@ AllLeadOn config b clock last (p ∷ ps) =
 
 -- the field that ends it: an expected reply that isn't the last frame's, or what stops it
 abbrev pub DiffersAt : List ℕ → ℕ → Option (List ℕ) → Field → List ℕ → Type 0
-DiffersAt b clock last (Reply len) bytes = (r : List ℕ) × ((last ≡ some r) × (r ≡ bytes → ⊥))
+DiffersAt b clock last (Reply len) bytes = (r : List ℕ) × ((last ≡ Some r) × (r ≡ bytes → ⊥))
 DiffersAt b clock last (Clock n) bytes = ⊥
 DiffersAt b clock last (Frame len) bytes = ⊥
 DiffersAt b clock last (Purges bound) bytes = ⊥
@@ -89,7 +88,7 @@ DiffersAt b clock last (Rule forcing) bytes = ⊥
 DiffersAt b clock last Broken bytes = ⊥
 
 abbrev pub StopsAt : Config → List ℕ → ℕ → Option (List ℕ) → Field → List ℕ → Type 0
-StopsAt config b clock last (Reply len) bytes = last ≡ none
+StopsAt config b clock last (Reply len) bytes = last ≡ None
 StopsAt config b clock last (Clock n) bytes = ⊥
 StopsAt config b clock last (Frame len) bytes = OneFrame config b clock bytes len → ⊥
 StopsAt config b clock last (Purges bound) bytes = ⊥

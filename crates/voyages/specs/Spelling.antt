@@ -1,6 +1,5 @@
 -- Orders 6 and 9: what a trace spells, on its bytes: where a replay doesn't begin, on what table it begins, and each field from the first to the last. Proved in proofs/Spelling.antt.
-use Rattle.std.specs.Prelude.{ℕ, ◌+◌, ◌≤◌, ◌<◌, ◌≡◌, Bool, true, false, List, [], ◌∷◌, ◌⊎◌, length}
-use Rattle.std.proofs.Math.Option.{none}
+use Rattle.std.specs.Prelude.{ℕ, ◌+◌, ◌≤◌, ◌<◌, ◌≡◌, Bool, true, false, List, [], ◌∷◌, ◌⊎◌, length, None}
 use Rattle.engine.specs.declared.Config.{Config}
 use Rattle.octets.specs.Parts.{part}
 use Rattle.octets.specs.BigEndian.{num}
@@ -35,7 +34,7 @@ OtherSizeRefused config = (b trace : List ℕ) → (length b ≡ 42000 → ⊥) 
 abbrev pub ReplayServes : Config → Type 0
 ReplayServes config =
     (b trace : List ℕ) → length b ≡ 42000 → WellOpened trace
-    → ReplaysAs (ruled_by config trace) (table_bytes (fresh 32 1 (num trace 0 1) (num trace 1 2))) 0 none 0 (fields_in trace) (replayed config b trace)
+    → ReplaysAs (ruled_by config trace) (table_bytes (fresh 32 1 (num trace 0 1) (num trace 1 2))) 0 None 0 (fields_in trace) (replayed config b trace)
 
 -- ---- the fields
 -- "one-byte tag and two-byte length"

@@ -5,7 +5,6 @@ ghost use Rattle.std.specs.Prelude.{◌≡◌, false, ◌+◌, ltb};
 ghost use Rattle.commands.specs.Rules.{is_number, plain_rule, count_rule, join_rule, touch_rule, status_by};
 
 use commands::{Context, Counter, Instruction, Tests, Touching, status};
-use digits::Number;
 
 // fault: the expiry passes 2^32 - 1; needs: a live document is needed; fresh: a live document is refused.
 pub fn write_status(c: Context, i: Instruction, fault: bool, needs: bool, fresh: bool) -> u8
@@ -33,12 +32,12 @@ pub fn write_status(c: Context, i: Instruction, fault: bool, needs: bool, fresh:
     })
 }
 
-fn is_number(n: Number) -> bool
+fn is_number(n: Option<u64>) -> bool
     ensures { result ≡ is_number n }
 {
     match n {
-        Number::Value(_) => true,
-        Number::NoNumber => false,
+        Some(_) => true,
+        None => false,
     }
 }
 

@@ -8,7 +8,7 @@ use Rattle.header.specs.declared.Header.{Header}
 use Rattle.commands.specs.declared.Command.{Command}
 use Rattle.commands.specs.declared.Instruction.{Instruction}
 use Rattle.decode.specs.declared.Family.{Family}
-use Rattle.decode.specs.declared.Decoded.TheVariants.{Whole}
+use Rattle.std.specs.Prelude.{Some}
 use Rattle.decode.specs.Decode.{family_of, instruction_with, decoded_as, decoded_by}
 use Rattle.decode.proofs.decoded_by.Goals as goal
 
@@ -21,21 +21,21 @@ told forcing s h extras value f g e d = ap (λ (x : Family). decoded_as forcing 
 pub returns-in-Bare : goal.returns-in-Bare
 returns-in-Bare c =
     let a = c.args in
-    ap Whole c.instruction_with.ensures
+    ap Some c.instruction_with.ensures
     ∙ told a.forcing a.shape a.h a.extras.now a.value.now _ _ c.family_of.ensures c.in-Bare.is
 
 pub returns-in-Stored : goal.returns-in-Stored
 returns-in-Stored c =
     let a = c.args in
     let made : Command → Instruction = λ x. instruction_with a.shape a.h x (length a.value.now) false in
-    ap Whole (c.instruction_with-in-Stored.ensures ∙ ap made c.plain_of.ensures)
+    ap Some (c.instruction_with-in-Stored.ensures ∙ ap made c.plain_of.ensures)
     ∙ told a.forcing a.shape a.h a.extras.now a.value.now _ _ c.family_of.ensures c.in-Stored.is
 
 pub returns-in-Counted : goal.returns-in-Counted
 returns-in-Counted c =
     let a = c.args in
     let made : Command → Instruction = λ x. instruction_with a.shape a.h x (length a.value.now) false in
-    ap Whole (c.instruction_with-in-Counted.ensures ∙ ap made c.counter_of.ensures)
+    ap Some (c.instruction_with-in-Counted.ensures ∙ ap made c.counter_of.ensures)
     ∙ told a.forcing a.shape a.h a.extras.now a.value.now _ _ c.family_of.ensures c.in-Counted.is
 
 pub returns-in-Carried : goal.returns-in-Carried
@@ -52,5 +52,5 @@ pub returns-in-Touched : goal.returns-in-Touched
 returns-in-Touched c =
     let a = c.args in
     let made : Command → Instruction = λ x. instruction_with a.shape a.h x (length a.value.now) false in
-    ap Whole (c.instruction_with-in-Touched.ensures ∙ ap made c.touch_of.ensures)
+    ap Some (c.instruction_with-in-Touched.ensures ∙ ap made c.touch_of.ensures)
     ∙ told a.forcing a.shape a.h a.extras.now a.value.now _ _ c.family_of.ensures c.in-Touched.is

@@ -25,7 +25,7 @@ loop-i-preserved c =
     let loop-test = c.loop-i-test in
     let l = loop in
     let s = args.s.now in
-    let e = sym c.with_digit.ensures ∙ c.in-Value.is in (
+    let e = sym c.with_digit.ensures ∙ c.in-Some.is in (
       search rules,
       (
         (number-on l.a _ _ (drop (suc l.i) s) e).1,

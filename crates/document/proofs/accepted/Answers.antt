@@ -1,10 +1,10 @@
 use Rattle.document.specs.Stored.{accepted}
 use Rattle.document.proofs.accepted.Goals as goal
 
-pub returns-in-Nothing : goal.returns-in-Nothing
+pub returns-in-None : goal.returns-in-None
 unfolding accepted
-returns-in-Nothing c = rw c.in-Nothing.is
+returns-in-None c = rw c.in-None.is
 
-pub returns-in-Used : goal.returns-in-Used
+pub returns-in-Some : goal.returns-in-Some
 unfolding accepted
-returns-in-Used c = rw c.in-Used.is c.greater.ensures
+returns-in-Some c = rw c.in-Some.is c.greater.ensures

@@ -1,10 +1,10 @@
 use Rattle.document.specs.Stored.{live}
 use Rattle.document.proofs.live.Goals as goal
 
-pub returns-in-Nothing : goal.returns-in-Nothing
+pub returns-in-None : goal.returns-in-None
 unfolding live
-returns-in-Nothing c = rw c.in-Nothing.is
+returns-in-None c = rw c.in-None.is
 
-pub returns-in-Used : goal.returns-in-Used
+pub returns-in-Some : goal.returns-in-Some
 unfolding live
-returns-in-Used c = rw c.in-Used.is c.alive.ensures
+returns-in-Some c = rw c.in-Some.is c.alive.ensures

@@ -1,4 +1,4 @@
 use Rattle.numbers.proofs.seconds_in.Goals as goal
 
-pub returns-in-Never : goal.returns-in-Never
-returns-in-Never c = rw c.in-Never.is
+pub returns-in-None : goal.returns-in-None
+returns-in-None c = rw c.in-None.is
