@@ -28,6 +28,13 @@ pub struct Metadata {
     pub numbers: Numbers,
 }
 
+const NO_NUMBERS: Numbers = Numbers {
+    flags: 0,
+    expiry: 0,
+    revision: Revision(0),
+    cas: Cas(0),
+};
+
 // The side of a stored value at which another is joined to it.
 #[derive(Clone, Copy)]
 pub enum Side {
@@ -71,60 +78,39 @@ pub fn alive(tomb: bool, expiry: u32, clock: u32) -> bool
 }
 
 // Whether a key's row is a document that is not expired.
+#[tactic(auto, unfolding(crate::specs::Stored::live))]
 pub fn live(s: Option<Metadata>, clock: u32) -> bool
     ensures { result ≡ live s clock }
 {
-    match s {
-        None => false,
-        Some(d) => alive(d.tomb, d.numbers.expiry, clock),
-    }
+    s.is_some_and(|d| alive(d.tomb, d.numbers.expiry, clock))
 }
 
 // Whether a key's row is a document, expired or not.
 pub fn is_document(s: Option<Metadata>) -> bool
     ensures { result ≡ is_document s }
 {
-    match s {
-        None => false,
-        Some(d) => !d.tomb,
-    }
+    s.is_some_and(|d| !d.tomb)
 }
 
 pub fn has_row(s: Option<Metadata>) -> bool
     ensures { result ≡ has_row s }
 {
-    match s {
-        None => false,
-        Some(_) => true,
-    }
+    s.is_some()
 }
 
 // The numbers of a key's row, all 0 without one.
 pub fn numbers_of(s: Option<Metadata>) -> Numbers
     ensures { result ≡ numbers_of s }
 {
-    match s {
-        None => Numbers {
-            flags: 0,
-            expiry: 0,
-            revision: Revision(0),
-            cas: Cas(0),
-        },
-        Some(d) => d.numbers,
-    }
+    s.map_or(NO_NUMBERS, |d| d.numbers)
 }
 
 // Whether a with-meta write of these numbers wins over a key's row.
+#[tactic(auto, unfolding(crate::specs::Stored::accepted))]
 pub fn accepted(m: Mode, s: Option<Metadata>, n: Numbers) -> bool
     ensures { result ≡ accepted m s n }
 {
-    match s {
-        None => true,
-        Some(d) => {
-            let e = d.numbers;
-            numbers::greater(m, n, e)
-        }
-    }
+    s.is_none_or(|d| numbers::greater(m, n, d.numbers))
 }
 
 // Whether a purge frees a row.
