@@ -8,7 +8,7 @@ pub mod status;
 ghost use Rattle.std.specs.Prelude.{◌≡◌};
 ghost use Rattle.commands.specs.Writes.{is_mutation};
 
-use document::{Head, Side};
+use document::{Head, Metadata, Side};
 use numbers::{Cas, Numbers};
 
 #[derive(Clone, Copy)]

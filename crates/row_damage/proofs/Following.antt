@@ -19,7 +19,7 @@ module _ (v w : List ℕ) where
     pub used-after-free : num v 0 2 ≡ 0 → follows (row_of v) (row_of w) ≡ false
     used-after-free e = rw (row-free v e, row-used w u)
 
-    pub used-follows : (num v 0 2 ≡ 0 → ⊥) → (o : Side) → o ≡ side_of (part v 32 (num v 2 2)) (part w 32 (num w 2 2))
+    pub used-follows : (num v 0 2 ≡ 0 → ⊥) → (o : Ordering) → o ≡ side_of (part v 32 (num v 2 2)) (part w 32 (num w 2 2))
         → follows (row_of v) (row_of w) ≡ by_side o true false false
     unfolding key_of slot_of
     used-follows n o e = rw (row-used v n, row-used w u) (ap (λ (d : Ordering). by_side d true false false) (sym e))

@@ -10,8 +10,9 @@ ghost use Rattle.rows.specs.RowRules.{all_sound};
 ghost use Rattle.ordered.specs.Order.{follows};
 ghost use Rattle.row_damage.specs.Walk.{in_order, checked_rows};
 
-use std::cmp::Ordering;
+use document::Head;
 use rows::{FIXED, HEADER, ROW};
+use std::cmp::Ordering;
 
 // Whether a row may stand right after another: a free row after any, a used one only after a used one with a smaller key.
 fn row_follows(v: &[u8], w: &[u8]) -> bool
