@@ -1,5 +1,5 @@
 -- How each command stands to each test, a row of rules for each, and the statuses in 01's order, first that applies.
-use Rattle.std.specs.Prelude.{ℕ, ◌+◌, Bool, true, false, cond, ◌&&◌, ◌||◌, not, List, [], ◌∷◌, ltb, eqb, Option, Some, None}
+use Rattle.std.specs.Prelude.{ℕ, ◌+◌, Bool, true, false, cond, ◌&&◌, ◌||◌, not, List, [], ◌∷◌, ltb, eqb, Option, is_some}
 use Rattle.std.specs.Bool.{beq}
 use Rattle.numbers.specs.declared.Mode.{Mode}
 use Rattle.numbers.specs.declared.Mode.TheVariants.{ByRevision, LastWrite}
@@ -203,8 +203,7 @@ guard i t = t.guarded && not (eqb i.cas.0 0)
 
 -- "the value must be 1 to 20 decimal digits of a number under 2^64"
 abbrev pub is_number : Option ℕ → Bool
-is_number (Some n) = true
-is_number None = false
+is_number n = is_some n
 
 unfoldable pub tests_of : Context → Instruction → Rule → Tests
 tests_of c i t = record {
