@@ -18,8 +18,7 @@ use Rattle.engine.specs.Alike.{Alike}
 use Rattle.listing.proofs.Exact.{by-documents}
 use Rattle.effects.specs.declared.Reply.{Reply}
 use Rattle.effects.specs.declared.Reply.TheVariants.{Bare, Found, Counted, Version as VersionReply, Keys}
-use Rattle.decision.specs.declared.Decision.{Decision}
-use Rattle.decision.specs.Decision.{decision}
+use Rattle.decision.specs.Decision.{Decision, decision}
 use Rattle.decision.specs.Decide.{Effect, context_of, instruction_of, effect_of}
 use Rattle.decode.specs.Decode.{request_of}
 use Rattle.rows.specs.Table.{Table, table_of, table_at, clock_at, table_bytes}

@@ -12,7 +12,7 @@ ghost use Rattle.commands.specs.Writes.{is_mutation};
 use document::{Head, Metadata, Side};
 use numbers::{Cas, Numbers};
 
-#[derive(Clone, Copy)]
+#[derive(Clone, Copy, Debug, PartialEq, Eq)]
 pub enum Kind {
     Set,
     Add,
@@ -43,7 +43,7 @@ pub struct Touching {
     pub shown: bool,
 }
 
-#[derive(Clone, Copy)]
+#[derive(Clone, Copy, Debug, PartialEq, Eq)]
 pub enum MetaKind {
     Set,
     Add,

@@ -27,8 +27,7 @@ use Rattle.effects.specs.declared.Reply.{Reply}
 use Rattle.effects.specs.declared.Reply.TheVariants.{Bare, Found, Counted, Version as VersionReply, Keys}
 use Rattle.effects.specs.declared.Done.{Done}
 use Rattle.effects.specs.Done.{nothing, done_of}
-use Rattle.decision.specs.declared.Decision.{Decision}
-use Rattle.decision.specs.Decision.{decision}
+use Rattle.decision.specs.Decision.{Decision, decision}
 use Rattle.decision.specs.Decide.{Request, bytes_from, doc_from, reply_value, effect_of}
 use Rattle.listing.specs.Listing.{live_keys, sort_keys, from_key, taken, keys_bytes, keys_from, listed_keys, listing}
 use Rattle.rows.specs.Row.{Row}

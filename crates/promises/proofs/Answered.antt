@@ -31,8 +31,7 @@ use Rattle.effects.specs.declared.Reply.{Reply}
 use Rattle.effects.specs.declared.Reply.TheVariants.{Bare, Found}
 use Rattle.effects.specs.declared.Done.{Done as Effects}
 use Rattle.effects.specs.Done.{done_of, nothing, join_done}
-use Rattle.decision.specs.declared.Decision.{Decision}
-use Rattle.decision.specs.Decision.{decision}
+use Rattle.decision.specs.Decision.{Decision, decision}
 use Rattle.decision.specs.Decide.{doc_from, bytes_from, reply_extras, reply_key, reply_value}
 use Rattle.decode.specs.Decode.{plain_of, counter_of, touch_of, meta_command, command_of, request_of}
 use Rattle.rows.specs.Row.{Row}

@@ -22,8 +22,7 @@ use Rattle.header.specs.Header.{header_of}
 use Rattle.shape.specs.Shapes.{among}
 use Rattle.request.specs.declared.Gate.{Gate}
 use Rattle.request.specs.declared.Gate.TheVariants.{Stop, Whole}
-use Rattle.decision.specs.declared.Decision.{Decision}
-use Rattle.decision.specs.Decision.{decision}
+use Rattle.decision.specs.Decision.{Decision, decision}
 use Rattle.decision.specs.Decide.{Effect, effect_of, context_of, instruction_of}
 use Rattle.decode.specs.Decode.{request_of}
 use Rattle.engine.specs.Engine.{Room, store_row}

@@ -31,8 +31,7 @@ use Rattle.commands.specs.Rules.{rule_of, tests_of, first_failure}
 use Rattle.effects.specs.declared.Reply.TheVariants.{Bare, Keys}
 use Rattle.effects.specs.declared.Done.{Done as Doing}
 use Rattle.effects.specs.Done.{nothing, done_of}
-use Rattle.decision.specs.declared.Decision.{Decision}
-use Rattle.decision.specs.Decision.{decision}
+use Rattle.decision.specs.Decision.{Decision, decision}
 use Rattle.decode.specs.Decode.{command_of, request_of}
 use Rattle.rows.specs.Table.{Table, table_of, table_at, clock_at}
 use Rattle.engines.specs.Damage.{sound_by}

@@ -27,11 +27,10 @@ use Rattle.request.specs.Reading.{frame_status, bytes_in, extras_span, key_span,
 use Rattle.document.specs.declared.Head.{Head}
 use Rattle.document.specs.Documents.{doc_value}
 use Rattle.commands.specs.declared.Context.{Context}
-use Rattle.decision.specs.declared.Decision.{Decision}
 use Rattle.effects.specs.declared.Reply.TheVariants.{Bare}
 use Rattle.commands.specs.Rules.{rule_of, status_by}
 use Rattle.effects.specs.Done.{nothing}
-use Rattle.decision.specs.Decision.{decision}
+use Rattle.decision.specs.Decision.{Decision, decision}
 use Rattle.decision.specs.Decide.{instruction_of}
 use Rattle.decode.specs.Decode.{plain_of, counter_of, meta_command, touch_of, command_of, request_of}
 use Rattle.rows.specs.Table.{Table, table_of, table_at, clock_at}

@@ -18,7 +18,7 @@ use Rattle.header.specs.Header.{header_bytes}
 use Rattle.header.proofs.HeaderLaws.{length-header}
 use Rattle.effects.specs.declared.Reply.{Reply}
 use Rattle.effects.specs.declared.Reply.TheVariants.{Bare, Found, Counted, Version as VersionReply, Keys}
-use Rattle.decision.specs.declared.Decision.{Decision}
+use Rattle.decision.specs.Decision.{Decision}
 use Rattle.decision.specs.Decide.{reply_key}
 use Rattle.document.specs.Documents.{Key, doc_value}
 use Rattle.listing.proofs.Taken.{listing-short}

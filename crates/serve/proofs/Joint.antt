@@ -29,9 +29,8 @@ use Rattle.commands.specs.declared.Context.{Context}
 use Rattle.commands.specs.declared.Instruction.{Instruction}
 use Rattle.effects.specs.declared.Source.{Source}
 use Rattle.effects.specs.declared.Source.TheVariants.{Empty, Frame, Digits, Kept, Joined}
-use Rattle.decision.specs.declared.Decision.{Decision}
 use Rattle.commands.specs.Writes.{is_mutation}
-use Rattle.decision.specs.Decision.{decision}
+use Rattle.decision.specs.Decision.{Decision, decision}
 use Rattle.decision.specs.Decide.{Effect, instruction_of, doc_from, bytes_from}
 use Rattle.decision.proofs.Writing.{free-with-row, free-unread, stores-none}
 use Rattle.decision.proofs.Stores.{joined_length}

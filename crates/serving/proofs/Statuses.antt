@@ -11,8 +11,7 @@ use Rattle.shape.specs.Shapes.{Command, commands, unbuilt, look_up, among, shape
 use Rattle.rules.specs.Rules.{form_ok, field_rules_ok, keeps_rules, forces, meta_size, judged, status}
 use Rattle.request.specs.Reading.{bytes_in, extras_span, value_span, frame_status}
 use Rattle.commands.specs.Rules.{first_status, first_failure}
-use Rattle.decision.specs.declared.Decision.{Decision}
-use Rattle.decision.specs.Decision.{decision}
+use Rattle.decision.specs.Decision.{Decision, decision}
 use Rattle.serving.specs.Serve.{reaches_decision, decision_on}
 use Rattle.serving.specs.Statuses.{tests_on, StatusesInOrder}
 use Rattle.serving.proofs.Formed.{by_cond}

@@ -9,10 +9,9 @@ use Rattle.rules.specs.Rules.{keeps_rules}
 use Rattle.request.specs.Reading.{gate_of, frame_status, bytes_in, extras_span, key_span, value_span}
 use Rattle.document.specs.declared.Head.{Head}
 use Rattle.commands.specs.declared.Context.{Context}
-use Rattle.decision.specs.declared.Decision.{Decision}
 use Rattle.effects.specs.declared.Reply.TheVariants.{Bare}
 use Rattle.effects.specs.Done.{nothing}
-use Rattle.decision.specs.Decision.{decision}
+use Rattle.decision.specs.Decision.{Decision, decision}
 use Rattle.decision.specs.Decide.{Request, Effect, context_of, instruction_of, effect_of}
 use Rattle.document.specs.Documents.{Key, Doc}
 use Rattle.engine.specs.Engine.{store_row}

@@ -16,7 +16,7 @@ use Rattle.document.specs.declared.Head.{Head}
 use Rattle.document.specs.Head.{at_clock}
 use Rattle.commands.specs.declared.Instruction.{Instruction}
 use Rattle.commands.specs.Writes.{is_mutation}
-use Rattle.decision.specs.declared.Decision.{Decision}
+use Rattle.decision.specs.Decision.{Decision}
 use Rattle.decision.specs.Decide.{instruction_of}
 use Rattle.decode.specs.Decode.{bare_value}
 use Rattle.table.specs.declared.Lookup.{Lookup}

@@ -19,7 +19,7 @@ use Rattle.effects.specs.declared.Reply.TheVariants.{Bare, Found, Counted, Versi
 use Rattle.document.specs.Head.{at_clock}
 use Rattle.commands.specs.declared.Instruction.{Instruction}
 use Rattle.commands.specs.Writes.{is_mutation}
-use Rattle.decision.specs.declared.Decision.{Decision}
+use Rattle.decision.specs.Decision.{Decision}
 use Rattle.decision.specs.Decide.{instruction_of}
 use Rattle.decode.specs.Decode.{bare_value}
 use Rattle.request.specs.Reading.{bytes_in, key_span}

@@ -15,8 +15,7 @@ use Rattle.document.specs.Head.{at_clock}
 use Rattle.digits.specs.Decimal.{number_of}
 use Rattle.commands.specs.declared.Instruction.{Instruction}
 use Rattle.commands.specs.Writes.{is_mutation}
-use Rattle.decision.specs.declared.Decision.{Decision}
-use Rattle.decision.specs.Decision.{decision}
+use Rattle.decision.specs.Decision.{Decision, decision}
 use Rattle.decision.specs.Decide.{instruction_of}
 use Rattle.decode.specs.Decode.{bare_value}
 use Rattle.engine.specs.declared.Config.{Config}
