@@ -1,4 +1,5 @@
 -- The fields of a trace one after another: each turn is one step of the walk.
+use Rattle.std.specs.Prelude.{Option, Some, None}
 use native.Mathlib.Omega.{arith}
 use Prim.Native.Nat.{ℕ, ◌+◌, ◌≤◌, ◌<◌}
 use mathlib.Core.Path.{◌≡◌, refl, sym, ap, subst, ◌∙◌}
@@ -8,7 +9,7 @@ use lib.ListN.{length, drop, drop_of_length-le, length-drop}
 use lib.Seq.{drop-drop}
 use Rattle.engine.specs.declared.Config.{Config}
 use Rattle.trace.specs.declared.Field.{Field}
-use Rattle.trace.specs.declared.Field.TheVariants.{Clock, Frame, Reply, Purge, Rule, Broken}
+use Rattle.trace.specs.declared.Field.TheVariants.{Clock, Frame, Reply, Purge, Rule}
 use Rattle.trace.specs.Trace.{length_in, bytes_held, field_at, is_broken, placed_from, fields_from}
 use Rattle.trace.proofs.Fields.{field-inside, fields-on}
 use Rattle.replay.specs.declared.Ending.{Ending}
@@ -23,13 +24,13 @@ use Rattle.replay.specs.Turns.{voyage_of, Turns}
 on-or-end {ℓ} : {X : Type ℓ} (v : Voyage) (r : Ending) → On v ≡ End r → X
 on-or-end v r e = absurd (let y : ◌≡◌ {A = ℕ} 0 1 = cc in omega arith)
 
-unbroken : (config : Config) (at : ℕ) (v w : Voyage) (f : Field) (bytes : List ℕ) → On w ≡ on_field config at v f bytes → is_broken f ≡ false
-unbroken config at v w (Clock n) bytes e = refl
-unbroken config at v w (Frame len) bytes e = refl
-unbroken config at v w (Reply len) bytes e = refl
-unbroken config at v w (Purge bound) bytes e = refl
-unbroken config at v w (Rule forcing) bytes e = refl
-unbroken config at v w Broken bytes e = on-or-end w _ e
+unbroken : (config : Config) (at : ℕ) (v w : Voyage) (f : Option Field) (bytes : List ℕ) → On w ≡ on_field config at v f bytes → is_broken f ≡ false
+unbroken config at v w (Some (Clock n)) bytes e = refl
+unbroken config at v w (Some (Frame len)) bytes e = refl
+unbroken config at v w (Some (Reply len)) bytes e = refl
+unbroken config at v w (Some (Purge bound)) bytes e = refl
+unbroken config at v w (Some (Rule forcing)) bytes e = refl
+unbroken config at v w None bytes e = on-or-end w _ e
 
 module _ (config : Config) (trace b out : List ℕ) (p : Progress) where
   abbrev s : List ℕ

@@ -1,5 +1,5 @@
 -- For the code alone: the voyage that table memory, reply area and progress stand for, and what its functions leave of them.
-use Rattle.std.specs.Prelude.{ℕ, ◌+◌, ◌≤◌, ◌≡◌, List, [], Bool, true, cond, length, eqb}
+use Rattle.std.specs.Prelude.{ℕ, ◌+◌, ◌≤◌, ◌≡◌, List, [], Bool, true, cond, length, eqb, Option, Some}
 use Rattle.engine.specs.declared.Config.{Config}
 use Rattle.octets.specs.Parts.{part}
 use Rattle.engines.specs.Damage.{sound_by}
@@ -31,13 +31,13 @@ Leads b p n b' (Goes q) = (q.at ≡ p.at + (3 + n)) × (q.frames ≤ p.frames + 
 Leads b p n b' (Ends r) = b' ≡ b
 
 -- after a field that holds these bytes; the table stays sound, so that no field after it tests it
-pub record TurnsBy (config : Config) (b out : List ℕ) (p : Progress) (f : Field) (bytes : List ℕ) (n : ℕ) (r : Step) (b' out' : List ℕ) : Type 0 where
+pub record TurnsBy (config : Config) (b out : List ℕ) (p : Progress) (f : Option Field) (bytes : List ℕ) (n : ℕ) (r : Step) (b' out' : List ℕ) : Type 0 where
   pub turn : turn_of b' out' r ≡ on_field config p.at (voyage_of b out p) f bytes
   pub leads : Leads b p n b' r
   pub sound : sound_by config b' ≡ true
 
 abbrev pub FrameTurns : Config → List ℕ → List ℕ → List ℕ → Progress → Step → List ℕ → List ℕ → Type 0
-FrameTurns config b frame out p r b' out' = TurnsBy config b out p (Frame (length frame)) frame (length frame) r b' out'
+FrameTurns config b frame out p r b' out' = TurnsBy config b out p (Some (Frame (length frame))) frame (length frame) r b' out'
 
 abbrev pub Turns : Config → List ℕ → List ℕ → List ℕ → Progress → Step → List ℕ → List ℕ → Type 0
 Turns config b s out p r b' out' = TurnsBy config b out p (field_at p.at s) (bytes_held s) (length_in s) r b' out'

@@ -17,9 +17,8 @@ use Rattle.octets.proofs.Tests.{same_refl}
 use Rattle.serving.specs.declared.Served.{Served}
 use Rattle.serving.specs.Serve.{served, served_table}
 use Rattle.trace.specs.declared.Opening.{Opening}
-use Rattle.trace.specs.declared.Opening.TheVariants.{Broken as NotOpened, Opened}
 use Rattle.trace.specs.declared.Field.{Field}
-use Rattle.trace.specs.declared.Field.TheVariants.{Clock, Frame, Reply, Purge, Rule, Broken}
+use Rattle.trace.specs.declared.Field.TheVariants.{Clock, Frame, Reply, Purge, Rule}
 use Rattle.trace.specs.Trace.{Placed, opening_of, field_of, forcing_by, forcing_in, fields_in}
 use Rattle.replay.specs.declared.Ending.TheVariants.{Damaged, Stopped}
 use Rattle.replay.specs.Replay.{Voyage, Turn, On, is_one_frame, with_clock, with_frame, with_purge, on_field, on_turn, After, walked, set_out, ruled_by, on_opening, replayed}
@@ -32,29 +31,29 @@ use Rattle.voyages.proofs.Spelling.{opening-read, replay-serves, spelt-first, af
 
 -- ---- what the first field says
 module _ (trace : List ℕ) where
-  new_by : (f : Field) → SpeltAt trace 3 f → SaysNew trace → forcing_by f ≡ false
-  new_by (Rule false) w n = refl
-  new_by (Rule true) w n = absurd (omega (arith, w.1.rule, n.1.rule))
-  new_by (Clock clock) w n = absurd (omega (arith, w.1.0, n.1.tag))
-  new_by (Frame len) w n = absurd (omega (arith, w.1.0, n.1.tag))
-  new_by (Reply len) w n = absurd (omega (arith, w.1.0, n.1.tag))
-  new_by (Purge bound) w n = absurd (omega (arith, w.1.0, n.1.tag))
-  new_by Broken (inl (inl w)) n = absurd (omega (arith, w, n.0))
-  new_by Broken (inl (inr w)) n = absurd (omega (arith, w, n.0))
-  new_by Broken (inr (inl (inl w))) n = absurd (omega (arith, w, n.1.tag))
-  new_by Broken (inr (inl (inr w))) n = absurd (omega (arith, w, n.1.tag))
-  new_by Broken (inr (inr (inl (inl w)))) n = absurd (omega (arith, w.0, n.1.tag))
-  new_by Broken (inr (inr (inl (inr w)))) n = absurd (omega (arith, w.0, n.1.tag))
-  new_by Broken (inr (inr (inr w))) n = absurd (w.other false n.1)
+  new_by : (f : Option Field) → SpeltAt trace 3 f → SaysNew trace → forcing_by f ≡ false
+  new_by (Some (Rule false)) w n = refl
+  new_by (Some (Rule true)) w n = absurd (omega (arith, w.1.rule, n.1.rule))
+  new_by (Some (Clock clock)) w n = absurd (omega (arith, w.1.0, n.1.tag))
+  new_by (Some (Frame len)) w n = absurd (omega (arith, w.1.0, n.1.tag))
+  new_by (Some (Reply len)) w n = absurd (omega (arith, w.1.0, n.1.tag))
+  new_by (Some (Purge bound)) w n = absurd (omega (arith, w.1.0, n.1.tag))
+  new_by None (inl (inl w)) n = absurd (omega (arith, w, n.0))
+  new_by None (inl (inr w)) n = absurd (omega (arith, w, n.0))
+  new_by None (inr (inl (inl w))) n = absurd (omega (arith, w, n.1.tag))
+  new_by None (inr (inl (inr w))) n = absurd (omega (arith, w, n.1.tag))
+  new_by None (inr (inr (inl (inl w)))) n = absurd (omega (arith, w.0, n.1.tag))
+  new_by None (inr (inr (inl (inr w)))) n = absurd (omega (arith, w.0, n.1.tag))
+  new_by None (inr (inr (inr w))) n = absurd (w.other false n.1)
 
-  old-by : (f : Field) → SpeltAt trace 3 f → (SaysNew trace → ⊥) → forcing_by f ≡ true
-  old-by (Rule false) w n = absurd (n w)
-  old-by (Rule true) w n = refl
-  old-by (Clock clock) w n = refl
-  old-by (Frame len) w n = refl
-  old-by (Reply len) w n = refl
-  old-by (Purge bound) w n = refl
-  old-by Broken w n = refl
+  old-by : (f : Option Field) → SpeltAt trace 3 f → (SaysNew trace → ⊥) → forcing_by f ≡ true
+  old-by (Some (Rule false)) w n = absurd (n w)
+  old-by (Some (Rule true)) w n = refl
+  old-by (Some (Clock clock)) w n = refl
+  old-by (Some (Frame len)) w n = refl
+  old-by (Some (Reply len)) w n = refl
+  old-by (Some (Purge bound)) w n = refl
+  old-by None w n = refl
 
   module _ (o : WellOpened trace) where
     first-spelt : SpeltAt trace 3 (field_of (drop 3 trace))
@@ -83,9 +82,9 @@ pub old-rule-serves : (config : Config) → OldRuleServes config
 old-rule-serves config b trace n o s = serves-under config b trace n o true (says-old trace o s)
 
 -- ---- the caller's rule
-opening-unheard : (config other : Config) (b trace : List ℕ) (o : Opening) → config.engine ≡ other.engine → on_opening config b trace o ≡ on_opening other b trace o
-opening-unheard config other b trace NotOpened e = refl
-opening-unheard config other b trace (Opened mode vbucket) e = λ i. walked (record { engine = e i; forcing = forcing_in trace }) (set_out mode vbucket) (fields_in trace)
+opening-unheard : (config other : Config) (b trace : List ℕ) (o : Option Opening) → config.engine ≡ other.engine → on_opening config b trace o ≡ on_opening other b trace o
+opening-unheard config other b trace None e = refl
+opening-unheard config other b trace (Some (record { mode = mode; vbucket = vbucket })) e = λ i. walked (record { engine = e i; forcing = forcing_in trace }) (set_out mode vbucket) (fields_in trace)
 
 pub callers-rule-unheard : CallersRuleUnheard
 unfolding replayed
@@ -93,7 +92,7 @@ callers-rule-unheard config other b trace e =
     ap (λ (x : After). cond (eqb (length b) 42000) x (record { answer = Damaged; table = b })) (opening-unheard config other b trace (opening_of trace) e)
 
 -- ---- fields that lead on, one after another
-record Step (config : Config) (v : Voyage) (last : Option (List ℕ)) (at : ℕ) (f : Field) (bytes : List ℕ) : Type 0 where
+record Step (config : Config) (v : Voyage) (last : Option (List ℕ)) (at : ℕ) (f : Option Field) (bytes : List ℕ) : Type 0 where
   next : Voyage
   goes : on_field config at v f bytes ≡ On next
   table : next.table ≡ memory_after config v.table (call_by v.clock f bytes)
@@ -101,9 +100,9 @@ record Step (config : Config) (v : Voyage) (last : Option (List ℕ)) (at : ℕ)
   agrees : Agrees next (last_by config v.table v.clock last f bytes)
 
 module _ (config : Config) (v : Voyage) (last : Option (List ℕ)) (a : Agrees v last) (at : ℕ) where
-  step : (f : Field) (bytes : List ℕ) → LeadsOn config v.table v.clock last f bytes → Step config v last at f bytes
-  step (Clock n) bytes l = record { next = with_clock n v; goes = refl; table = refl; clock = refl; agrees = a }
-  step (Frame len) bytes l =
+  step : (f : Option Field) (bytes : List ℕ) → LeadsOn config v.table v.clock last f bytes → Step config v last at f bytes
+  step (Some (Clock n)) bytes l = record { next = with_clock n v; goes = refl; table = refl; clock = refl; agrees = a }
+  step (Some (Frame len)) bytes l =
       let one : is_one_frame (served config v.table v.clock bytes 1302) len ≡ true = ap (λ (r : Served). is_one_frame r len) l.answer ∙ eq-eqb len len refl in
       let started : eqb (v.frames + 1) 0 ≡ false = ne_eqb (v.frames + 1) 0 (λ z. omega (arith, z)) in
       record {
@@ -113,7 +112,7 @@ module _ (config : Config) (v : Voyage) (last : Option (List ℕ)) (a : Agrees v
         clock = refl;
         agrees = rw started refl;
       }
-  step (Reply len) bytes l =
+  step (Some (Reply len)) bytes l =
       cases (eqb v.frames 0)
       (λ t. let e : None ≡ Some bytes = sym (rw t at a) ∙ l in absurd (let z : ◌≡◌ {A = ℕ} 0 1 = cc in omega arith))
       (λ t.
@@ -121,9 +120,9 @@ module _ (config : Config) (v : Voyage) (last : Option (List ℕ)) (a : Agrees v
       let k : bytes ≡ v.reply = cc in
       let q : same bytes v.reply ≡ true = ap (same bytes) (sym k) ∙ same_refl bytes in
       record { next = v; goes = rw (t, q) refl; table = refl; clock = refl; agrees = a })
-  step (Purge bound) bytes l = record { next = with_purge config bound.0 v; goes = refl; table = refl; clock = refl; agrees = a }
-  step (Rule forcing) bytes l = record { next = v; goes = refl; table = refl; clock = refl; agrees = a }
-  step Broken bytes l = absurd l
+  step (Some (Purge bound)) bytes l = record { next = with_purge config bound.0 v; goes = refl; table = refl; clock = refl; agrees = a }
+  step (Some (Rule forcing)) bytes l = record { next = v; goes = refl; table = refl; clock = refl; agrees = a }
+  step None bytes l = absurd l
 
 record Reached (config : Config) (v : Voyage) (before rest : List Placed) : Type 0 where
   there : Voyage
@@ -162,13 +161,13 @@ module _ (trace : List ℕ) (p : Placed) (more : List Placed) where
       after (λ ps. ps ≡ xs ++ (p ∷ more) → SpeltAt trace p.at p.field) (λ e. absurd (not_none xs e)) x.field (xs ++ (p ∷ more)) (SpeltFrom trace on (xs ++ (p ∷ more)))
       (λ s e. spelt-at on xs s) w.1.1.1.1 refl
 
-broken-by : (trace : List ℕ) (at : ℕ) (f : Field) → SpeltAt trace at f → OtherRuleAt trace at → f ≡ Broken
-broken-by trace at (Clock n) w o = absurd (omega (arith, w.1.0, o.tag))
-broken-by trace at (Frame len) w o = absurd (omega (arith, w.1.0, o.tag))
-broken-by trace at (Reply len) w o = absurd (omega (arith, w.1.0, o.tag))
-broken-by trace at (Purge bound) w o = absurd (omega (arith, w.1.0, o.tag))
-broken-by trace at (Rule forcing) w o = absurd (o.other forcing w.1)
-broken-by trace at Broken w o = refl
+broken-by : (trace : List ℕ) (at : ℕ) (f : Option Field) → SpeltAt trace at f → OtherRuleAt trace at → f ≡ None
+broken-by trace at (Some (Clock n)) w o = absurd (omega (arith, w.1.0, o.tag))
+broken-by trace at (Some (Frame len)) w o = absurd (omega (arith, w.1.0, o.tag))
+broken-by trace at (Some (Reply len)) w o = absurd (omega (arith, w.1.0, o.tag))
+broken-by trace at (Some (Purge bound)) w o = absurd (omega (arith, w.1.0, o.tag))
+broken-by trace at (Some (Rule forcing)) w o = absurd (o.other forcing w.1)
+broken-by trace at None w o = refl
 
 pub other-rule-stops : (config : Config) → OtherRuleStops config
 unfolding replayed
@@ -180,5 +179,5 @@ other-rule-stops config b trace n o before more p e k l =
     rw (eq-eqb (length b) 42000 n, opening-read trace o)
     (ap (walked ruled v) e
     ∙ (r.walks
-    ∙ (ap (λ (f : Field). on_turn r.there (on_field ruled p.at r.there f p.bytes) (λ w. walked ruled w more)) broken
+    ∙ (ap (λ (f : Option Field). on_turn r.there (on_field ruled p.at r.there f p.bytes) (λ w. walked ruled w more)) broken
     ∙ (λ i. record { answer = Stopped p.at; table = r.table i }))))
