@@ -8,9 +8,7 @@ use lib.ListN.{length}
 use lib.Dec.{ltb}
 use Rattle.octets.specs.Parts.{Bytes, written}
 use Rattle.header.specs.declared.Header.{Header}
-use Rattle.request.specs.declared.Gate.{Gate}
-use Rattle.request.specs.declared.Gate.TheVariants.{Stop, Whole}
-use Rattle.request.specs.Reading.{frame_status, bytes_in, key_span}
+use Rattle.request.specs.Reading.{Gate, Stop, Whole, frame_status, bytes_in, key_span}
 use Rattle.document.specs.Documents.{Key, Doc, doc_value}
 use Rattle.engine.specs.declared.Config.{Config}
 use Rattle.engine.specs.Engine.{store_row}
@@ -27,8 +25,7 @@ use Rattle.engines.specs.Engines.{engine_of}
 use Rattle.engines.proofs.EngineLaws.{engines-laws, engines-alike}
 use Rattle.engines.proofs.Tables.{good-sound-by}
 use Rattle.serving.specs.Reply.{reply_shows, reply_bytes}
-use Rattle.serving.specs.declared.Served.TheVariants.{Done}
-use Rattle.serving.specs.Serve.{gate_all, reaches_decision, refusal, decision_on, frame_effect, frame_change, frame_table, frame_reply}
+use Rattle.serving.specs.Serve.{Done, gate_all, reaches_decision, refusal, decision_on, frame_effect, frame_change, frame_table, frame_reply}
 use Rattle.serving.specs.Serve.{answer_by, table_by, reply_by, served, served_table, served_reply}
 use Rattle.serving.proofs.Gated.{was-open}
 use Rattle.serving.proofs.Change.{changing, change-good}

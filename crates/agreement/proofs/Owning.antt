@@ -26,8 +26,7 @@ use Rattle.engines.specs.Claims.{GoodBy}
 use Rattle.engines.proofs.EngineLaws.{engines-alike}
 use Rattle.engines.proofs.Tables.{good-sound-by, purge-good-by}
 use Rattle.table.proofs.Looking.{finds-good}
-use Rattle.owning.specs.declared.Purged.TheVariants.{Freed}
-use Rattle.owning.specs.Owner.{make_ok, make_outcome, made, shown, read_of, purge_of, purged_table, purged_bytes, is_dead, activate_of, activated, activated_table, activated_bytes}
+use Rattle.owning.specs.Owner.{Freed, make_ok, make_outcome, made, shown, read_of, purge_of, purged_table, purged_bytes, is_dead, activate_of, activated, activated_table, activated_bytes}
 use Rattle.owning.proofs.Activating.{active-good, good-dead, good-active}
 use Rattle.owner.proofs.Making.{accepted, refused, in-range}
 use Rattle.owner.proofs.Reading.{read-sound}

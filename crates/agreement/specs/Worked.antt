@@ -5,11 +5,8 @@ use Rattle.engine.specs.Config.{config_for}
 use Rattle.document.specs.Documents.{Key}
 use Rattle.rows.specs.Row.{Row}
 use Rattle.rows.specs.Table.{table_bytes, fresh}
-use Rattle.owning.specs.declared.Document.TheVariants.{Live}
-use Rattle.owning.specs.declared.Purged.TheVariants.{Freed}
-use Rattle.owning.specs.declared.Activated.TheVariants.{Active}
-use Rattle.owning.specs.Owner.{read_of}
-use Rattle.serving.specs.declared.Served.TheVariants.{Refused, Done}
+use Rattle.owning.specs.Owner.{Active, Freed, Live, read_of}
+use Rattle.serving.specs.Serve.{Refused, Done}
 use Rattle.tally.specs.declared.Tally.{Tally}
 use Rattle.promises.specs.Clock.{Serve, Purge, Read, Activate}
 use Rattle.promises.specs.Judged.{at, mykey, hello, ask, reply, stored, declined}

@@ -5,23 +5,14 @@ use Rattle.numbers.specs.Expiry.{seconds_in}
 use Rattle.request.specs.declared.Span.{Span}
 use Rattle.request.specs.declared.Frame.{Frame}
 use Rattle.request.specs.declared.Fields.{Fields}
-use Rattle.request.specs.declared.Reading.{Reading}
-use Rattle.request.specs.declared.Reading.TheVariants.{Outcome, Status, Accepted}
 use Rattle.request_writer.specs.declared.Written.{Written}
 use Rattle.request_writer.specs.declared.Written.TheVariants.{Refused as NotWritten, NoRoom, Wrote}
-use Rattle.request.specs.Reading.{reading_outcome, reading_status}
+use Rattle.request.specs.Reading.{Reading, Outcome, Status, Accepted, reading_outcome, reading_status}
 use Rattle.request_writer.specs.Writing.{status_no, outcome_no}
-use Rattle.serving.specs.declared.Served.{Served}
-use Rattle.serving.specs.Serve.{served_outcome, served_status, served_used, served_length, served_needed}
-use Rattle.owning.specs.declared.Document.{Document}
-use Rattle.owning.specs.declared.Document.TheVariants.{Damaged, Missing, Expired, Live}
-use Rattle.owning.specs.declared.Purged.{Purged}
-use Rattle.owning.specs.declared.Activated.{Activated}
-use Rattle.owning.specs.Owner.{read_outcome, read_status, purge_outcome, purged_count, activate_outcome, activate_status}
+use Rattle.serving.specs.Serve.{Served, served_outcome, served_status, served_used, served_length, served_needed}
+use Rattle.owning.specs.Owner.{Activated, Purged, Document, Damaged, Missing, Expired, Live, read_outcome, read_status, purge_outcome, purged_count, activate_outcome, activate_status}
 use Rattle.run.specs.declared.Ran.{Ran}
-use Rattle.replay.specs.declared.Ending.{Ending}
-use Rattle.replay.specs.declared.Ending.TheVariants.{Damaged as NotReplayed, Differs, Stopped, Replayed}
-use Rattle.replay.specs.Replay.{replay_outcome}
+use Rattle.replay.specs.Replay.{Ending, Damaged as NotReplayed, Differs, Stopped, Replayed, replay_outcome}
 use Rattle.answers.specs.declared.Part.{Part}
 use Rattle.answers.specs.declared.ServedAnswer.{ServedAnswer}
 use Rattle.answers.specs.declared.RanAnswer.{RanAnswer}

@@ -14,8 +14,7 @@ use Rattle.trace.specs.declared.Opening.{Opening}
 use Rattle.trace.specs.declared.Field.{Field}
 use Rattle.trace.specs.declared.Field.TheVariants.{Clock, Frame, Reply, Purge, Rule}
 use Rattle.trace.specs.Trace.{Placed, opening_of, fields_in}
-use Rattle.replay.specs.declared.Ending.TheVariants.{Differs, Stopped}
-use Rattle.replay.specs.Replay.{Voyage, Turn, On, End, After, is_one_frame, with_clock, with_frame, with_purge, on_field, on_turn, walked, set_out, ruled_by, on_opening, replayed, replay_outcome}
+use Rattle.replay.specs.Replay.{Differs, Stopped, Voyage, Turn, On, End, After, is_one_frame, with_clock, with_frame, with_purge, on_field, on_turn, walked, set_out, ruled_by, on_opening, replayed, replay_outcome}
 
 abbrev Zero : After → Type 0
 Zero a = replay_outcome a.answer ≡ 0

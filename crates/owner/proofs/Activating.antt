@@ -13,9 +13,7 @@ use Rattle.document.specs.declared.Head.{Head}
 use Rattle.engine.specs.declared.Config.{Config}
 use Rattle.engines.specs.Damage.{sound_by, checked_by}
 use Rattle.engines.proofs.Tables.{sound-good-by, state-put}
-use Rattle.owning.specs.declared.Activated.{Activated}
-use Rattle.owning.specs.declared.Activated.TheVariants.{Damaged, Dead, Active}
-use Rattle.owning.specs.Owner.{is_dead, activate_of, activated_table, activated_bytes}
+use Rattle.owning.specs.Owner.{Activated, NotActivated as Damaged, Dead, Active, is_dead, activate_of, activated_table, activated_bytes}
 use Rattle.owning.proofs.Activating.{activate-damaged}
 use Rattle.owner.specs.Shown.{activation_of}
 

@@ -24,10 +24,7 @@ use Rattle.table.specs.declared.Lookup.{Lookup}
 use Rattle.table.specs.Calls.{lookup_of, purged_by}
 use Rattle.table.proofs.Looking.{finds-sound}
 use Rattle.table.proofs.Keeping.{purges-good}
-use Rattle.owning.specs.declared.Document.{Document}
-use Rattle.owning.specs.declared.Document.TheVariants.{Damaged, Missing, Expired, Live}
-use Rattle.owning.specs.declared.Purged.TheVariants.{Damaged as NotPurged, Freed}
-use Rattle.owning.specs.Owner.{shown, read_of, purge_of, purged_bytes}
+use Rattle.owning.specs.Owner.{NotPurged, Freed, Document, Damaged, Missing, Expired, Live, shown, read_of, purge_of, purged_bytes}
 use Rattle.owner.specs.Shown.{shown_by}
 use Rattle.owner.specs.Purging.{purge_step}
 

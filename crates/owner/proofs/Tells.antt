@@ -23,8 +23,7 @@ use Rattle.plain.proofs.TableLaws.{no_key}
 use Rattle.engines.specs.Damage.{sound_by}
 use Rattle.engines.proofs.Tables.{sound-good-by, good-sound-by, purge-good-by, fresh-good-by, clock-good-by}
 use Rattle.table.proofs.Looking.{finds-sound}
-use Rattle.owning.specs.declared.Document.TheVariants.{Missing, Live}
-use Rattle.owning.specs.Owner.{shown, shown_left, purged_bytes, make_ok}
+use Rattle.owning.specs.Owner.{Missing, Live, shown, shown_left, purged_bytes, make_ok}
 use Rattle.owner.specs.Claims.{ReadShows, ReadMisses, ReadExpired, NoSuchKey, PurgeSound, MakeSound}
 use Rattle.owner.proofs.Making.{accepted, refused, in-range}
 use Rattle.owner.proofs.Reading.{read-sound}

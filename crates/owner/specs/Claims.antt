@@ -9,8 +9,7 @@ use Rattle.rows.specs.Table.{table_of, clock_at}
 use Rattle.rows.specs.Find.{find_row}
 use Rattle.engine.specs.declared.Config.{Config}
 use Rattle.engines.specs.Damage.{sound_by}
-use Rattle.owning.specs.declared.Document.TheVariants.{Missing, Expired, Live}
-use Rattle.owning.specs.Owner.{read_of, purged_bytes, made, make_outcome}
+use Rattle.owning.specs.Owner.{Missing, Expired, Live, read_of, purged_bytes, made, make_outcome}
 
 -- the live document of a key, at the later of the kept clock and the call's
 abbrev pub live_doc : List ℕ → ℕ → Key → Option Doc

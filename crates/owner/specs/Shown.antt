@@ -4,11 +4,7 @@ use Rattle.document.specs.declared.Head.{Head}
 use Rattle.numbers.specs.Expiry.{seconds_left, is_past, seconds_in}
 use Rattle.document.specs.Stored.{is_document, numbers_of}
 use Rattle.table.specs.declared.Lookup.{Lookup}
-use Rattle.owning.specs.declared.Activated.{Activated}
-use Rattle.owning.specs.declared.Activated.TheVariants.{Damaged, Dead, Active}
-use Rattle.owning.specs.Owner.{is_dead}
-use Rattle.owning.specs.declared.Document.{Document}
-use Rattle.owning.specs.declared.Document.TheVariants.{Missing, Expired, Live}
+use Rattle.owning.specs.Owner.{Activated, NotActivated as Damaged, Dead, Active, Document, Missing, Expired, Live, is_dead}
 
 abbrev pub left_by : Lookup → Option ℤ → Document
 left_by l left = cond (is_past left) (Expired (seconds_in left)) (Live (numbers_of l.stored) left l.at l.len)

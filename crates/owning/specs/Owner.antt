@@ -1,6 +1,16 @@
 -- The owner's calls, on any memory: make a fresh table, read a document, purge, and make a table active. Of reading and purging: "Both answer 5 on a damaged table and change nothing."
 use Rattle.std.specs.Prelude.{ℕ, ◌+◌, ◌*◌, List, Bool, cond, ◌&&◌, length, leb, eqb, Option, Some, None, ℤ}
+use Rattle.std.specs.declared.result.Result.{Result}
+use Rattle.std.specs.declared.result.Result.TheVariants.{Ok, Err}
 use Rattle.document.specs.Documents.{Key, Doc}
+use Rattle.numbers.specs.declared.Numbers.{Numbers}
+use Rattle.owning.specs.declared.Document.{Document as Shown}
+use Rattle.owning.specs.declared.ReadError.{ReadError}
+use Rattle.owning.specs.declared.ReadError.TheVariants.{Damaged as NotRead, Missing as NoDocument, Expired as Past}
+use Rattle.owning.specs.declared.PurgeError.{PurgeError}
+use Rattle.owning.specs.declared.ActivateError.{ActivateError}
+use Rattle.owning.specs.declared.ActivateError.TheVariants.{Damaged as DamagedTable, Dead as DeadTable}
+use Rattle.owning.specs.declared.MakeError.{MakeError}
 use Rattle.numbers.specs.Expiry.{seconds_left, is_past, seconds_in}
 use Rattle.document.specs.declared.Head.{Head}
 use Rattle.document.specs.Head.{stated}
@@ -14,12 +24,51 @@ use Rattle.plain.specs.Damage.{checked_outcome}
 use Rattle.plain.specs.Purge.{gone_count}
 use Rattle.engines.specs.Engines.{engine_of}
 use Rattle.engines.specs.Damage.{sound_by}
-use Rattle.owning.specs.declared.Document.{Document}
-use Rattle.owning.specs.declared.Document.TheVariants.{Damaged, Missing, Expired, Live}
-use Rattle.owning.specs.declared.Purged.{Purged}
-use Rattle.owning.specs.declared.Purged.TheVariants.{Damaged as NotPurged, Freed}
-use Rattle.owning.specs.declared.Activated.{Activated}
-use Rattle.owning.specs.declared.Activated.TheVariants.{Damaged as NotActivated, Dead, Active}
+
+-- what a read answers: outcome 5; status 0x01, for an expired document with the seconds that are left; or the live document's four numbers, the time that is left, and where its value stands: a place and a length
+pub data Document : Type 0 where
+  Damaged : Document
+  Missing : Document
+  Expired : ℤ → Document
+  Live : Numbers → Option ℤ → ℕ → ℕ → Document
+
+-- outcome 5, or how many rows were freed
+pub data Purged : Type 0 where
+  NotPurged : Purged
+  Freed : ℕ → Purged
+
+-- outcome 5; status 0x07, for a dead table; or the table is active
+pub data Activated : Type 0 where
+  NotActivated : Activated
+  Dead : Activated
+  Active : Activated
+
+-- what the code answers, in these
+abbrev pub unread_told : ReadError → Document
+unread_told NotRead = Damaged
+unread_told NoDocument = Missing
+unread_told (Past left) = Expired left
+
+abbrev pub read_told : Result Shown ReadError → Document
+read_told (Ok d) = Live d.numbers d.left d.at d.len
+read_told (Err e) = unread_told e
+
+abbrev pub purged_told : Result ℕ PurgeError → Purged
+purged_told (Ok n) = Freed n
+purged_told (Err e) = NotPurged
+
+abbrev pub inactive_told : ActivateError → Activated
+inactive_told DamagedTable = NotActivated
+inactive_told DeadTable = Dead
+
+abbrev pub activated_told : Result (Unit {0}) ActivateError → Activated
+activated_told (Ok done) = Active
+activated_told (Err e) = inactive_told e
+
+-- 01's outcome of making a table: "refused with 5"
+abbrev pub made_told : Result (Unit {0}) MakeError → ℕ
+made_told (Ok done) = 0
+made_told (Err e) = 5
 
 -- 01's numbers for the answers: outcome 5 on a damaged table, status 0x01 where there is no live document
 abbrev pub read_outcome : Document → ℕ

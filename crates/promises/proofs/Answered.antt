@@ -37,9 +37,8 @@ use Rattle.decode.specs.Decode.{plain_of, counter_of, touch_of, meta_command, co
 use Rattle.rows.specs.Row.{Row}
 use Rattle.rows.specs.Find.{find_row}
 use Rattle.rows.specs.Table.{table_of, clock_at}
-use Rattle.serving.specs.declared.Served.TheVariants.{Done}
 use Rattle.serving.specs.Reply.{body_of, reply_shows, reply_header, reply_bytes}
-use Rattle.serving.specs.Serve.{decision_at, frame_reply, answer_by, reply_by, served, served_reply, served_length}
+use Rattle.serving.specs.Serve.{Done, decision_at, frame_reply, answer_by, reply_by, served, served_reply, served_length}
 use Rattle.serving.proofs.Formed.{no, by_cond}
 use Rattle.serving.proofs.Gated.{was-open}
 use Rattle.promises.specs.Merge.{doc_at}

@@ -20,8 +20,7 @@ use Rattle.document.specs.Stored.{stored_of, metadata_of, live}
 use Rattle.header.specs.declared.Header.{Header}
 use Rattle.header.specs.Header.{header_of}
 use Rattle.shape.specs.Shapes.{among}
-use Rattle.request.specs.declared.Gate.{Gate}
-use Rattle.request.specs.declared.Gate.TheVariants.{Stop, Whole}
+use Rattle.request.specs.Reading.{Gate, Stop, Whole}
 use Rattle.decision.specs.Decision.{Decision, decision}
 use Rattle.decision.specs.Decide.{Effect, effect_of, context_of, instruction_of}
 use Rattle.decode.specs.Decode.{request_of}
@@ -36,10 +35,8 @@ use Rattle.engines.specs.Damage.{sound_by}
 use Rattle.engines.specs.Claims.{GoodBy}
 use Rattle.engines.proofs.EngineLaws.{engines-laws, put-replaces}
 use Rattle.engines.proofs.Tables.{sound-good-by, good-sound-by, put-good-by}
-use Rattle.serving.specs.declared.Served.{Served}
-use Rattle.serving.specs.declared.Served.TheVariants.{Done}
 use Rattle.serving.specs.Reply.{reply_shows, reply_bytes}
-use Rattle.serving.specs.Serve.{reaches_decision, decision_on, frame_effect, effect_at, table_changed, frame_change, frame_table, frame_reply}
+use Rattle.serving.specs.Serve.{Served, Done, reaches_decision, decision_on, frame_effect, effect_at, table_changed, frame_change, frame_table, frame_reply}
 use Rattle.serving.specs.Serve.{gate_all, answer_by, table_by, reply_by, served, served_table, served_reply}
 use Rattle.serving.proofs.Change.{changing, unchanged}
 use Rattle.serving.proofs.Gated.{was-open}

@@ -42,8 +42,7 @@ use Rattle.engines.specs.Claims.{GoodBy}
 use Rattle.engines.proofs.EngineLaws.{engines-laws}
 use Rattle.engines.proofs.Tables.{sound-good-by, good-sound-by}
 use Rattle.engines.specs.Engines.{engine_of}
-use Rattle.owning.specs.declared.Document.TheVariants.{Expired as ExpiredBy}
-use Rattle.owning.specs.Owner.{read_of, read_status, purge_of, purged_bytes}
+use Rattle.owning.specs.Owner.{Expired as ExpiredBy, read_of, read_status, purge_of, purged_bytes}
 use Rattle.owning.proofs.Activating.{activate-damaged}
 use Rattle.serving.specs.Serve.{gate_all, decision_on, frame_effect, frame_table, served, served_table}
 use Rattle.serving.proofs.Formed.{no}

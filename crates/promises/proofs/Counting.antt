@@ -16,7 +16,7 @@ use Rattle.numbers.specs.Expiry.{passes, absolute}
 use Rattle.document.specs.Documents.{Doc, doc_value}
 use Rattle.document.specs.Stored.{live, numbers_of}
 use Rattle.header.specs.Header.{header_of}
-use Rattle.request.specs.declared.Gate.TheVariants.{Whole}
+use Rattle.request.specs.Reading.{Whole}
 use Rattle.commands.specs.declared.Kind.{Kind}
 use Rattle.commands.specs.declared.Counter.{Counter}
 use Rattle.commands.specs.declared.Command.TheVariants.{Write, Count}

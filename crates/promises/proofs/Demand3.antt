@@ -13,8 +13,7 @@ use Rattle.octets.proofs.Choices.{cases}
 use Rattle.numbers.specs.declared.Mode.{Mode}
 use Rattle.document.specs.Documents.{Key, Doc}
 use Rattle.header.specs.Header.{header_of}
-use Rattle.request.specs.declared.Gate.TheVariants.{Whole}
-use Rattle.request.specs.Reading.{gate_of, frame_status, key_span, bytes_in}
+use Rattle.request.specs.Reading.{Whole, gate_of, frame_status, key_span, bytes_in}
 use Rattle.request.proofs.Gated.{whole-frame}
 use Rattle.decision.specs.Decide.{Effect, decide}
 use Rattle.decode.specs.Decode.{request_of}

@@ -38,10 +38,8 @@ use Rattle.engines.specs.Damage.{sound_by}
 use Rattle.engines.specs.Claims.{GoodBy}
 use Rattle.engines.proofs.EngineLaws.{engines-laws}
 use Rattle.engines.proofs.Tables.{sound-good-by}
-use Rattle.serving.specs.declared.Served.{Served}
-use Rattle.serving.specs.declared.Served.TheVariants.{Done}
 use Rattle.serving.specs.Reply.{reply_shows, reply_header, reply_bytes}
-use Rattle.serving.specs.Serve.{reaches_decision, decision_on, decision_at, frame_effect, frame_reply, answer_by, reply_by, served, served_reply}
+use Rattle.serving.specs.Serve.{Served, Done, reaches_decision, decision_on, decision_at, frame_effect, frame_reply, answer_by, reply_by, served, served_reply}
 use Rattle.serving.proofs.Formed.{no, zero-reaches}
 use Rattle.promises.specs.Merge.{doc_at}
 use Rattle.promises.specs.Kept.{later_at, kept_by}

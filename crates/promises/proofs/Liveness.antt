@@ -17,12 +17,10 @@ use Rattle.document.specs.Documents.{Doc}
 use Rattle.document.specs.Stored.{stored_of, live}
 use Rattle.header.specs.declared.Header.{Header}
 use Rattle.header.specs.Header.{header_of}
-use Rattle.request.specs.declared.Gate.{Gate}
-use Rattle.request.specs.declared.Gate.TheVariants.{Stop, Whole}
+use Rattle.request.specs.Reading.{Gate, Stop, Whole}
 use Rattle.commands.specs.Rules.{Check, first_failure}
 use Rattle.rows.specs.Table.{Table, table_of, table_at, clock_at}
-use Rattle.serving.specs.declared.Served.TheVariants.{Done}
-use Rattle.serving.specs.Serve.{decision_on, frame_effect, answer_by, table_by, frame_table, frame_reply, gate_all, served, served_table}
+use Rattle.serving.specs.Serve.{Done, decision_on, frame_effect, answer_by, table_by, frame_table, frame_reply, gate_all, served, served_table}
 use Rattle.serving.specs.Statuses.{statuses}
 use Rattle.serving.proofs.Formed.{no}
 use Rattle.serving.proofs.Gated.{was-open}

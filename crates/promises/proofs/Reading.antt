@@ -16,8 +16,7 @@ use Rattle.rows.specs.Row.{Row}
 use Rattle.rows.specs.Find.{value_place}
 use Rattle.rows.specs.Table.{table_of, clock_at}
 use Rattle.engines.specs.Damage.{sound_by}
-use Rattle.owning.specs.declared.Document.TheVariants.{Expired as Past, Live as Shown}
-use Rattle.owning.specs.Owner.{shown, read_of, read_status}
+use Rattle.owning.specs.Owner.{Expired as Past, Live as Shown, shown, read_of, read_status}
 use Rattle.promises.specs.Merge.{doc_at}
 use Rattle.promises.specs.Kept.{later_at}
 use Rattle.promises.specs.Expiry.{Expired, Live, NotLive, ShowsLeft, TellsLeft, ReadTells}

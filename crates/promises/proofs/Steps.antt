@@ -18,9 +18,7 @@ use Rattle.document.specs.Stored.{gone_doc}
 use Rattle.shape.specs.Shapes.{among}
 use Rattle.header.specs.declared.Header.{Header}
 use Rattle.header.specs.Header.{header_of}
-use Rattle.request.specs.declared.Gate.{Gate}
-use Rattle.request.specs.declared.Gate.TheVariants.{Stop, Whole}
-use Rattle.request.specs.Reading.{gate_of}
+use Rattle.request.specs.Reading.{Gate, Stop, Whole, gate_of}
 use Rattle.decision.specs.Decide.{Effect}
 use Rattle.engine.specs.Engine.{store_row, after_purge}
 use Rattle.rows.specs.Table.{Table, table_of, table_at, clock_at, table_bytes}

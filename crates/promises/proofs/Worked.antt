@@ -27,9 +27,7 @@ use Rattle.header.specs.Header.{header_of}
 use Rattle.with_meta.specs.WithMeta.{with_meta}
 use Rattle.with_meta.specs.Section.{section_ok}
 use Rattle.rules.specs.Rules.{status, keeps_rules, forces, is_forced, meta_size}
-use Rattle.request.specs.declared.Gate.{Gate}
-use Rattle.request.specs.declared.Gate.TheVariants.{Whole}
-use Rattle.request.specs.Reading.{gate_of, extras_span, key_span, frame_status, bytes_in}
+use Rattle.request.specs.Reading.{Gate, Whole, gate_of, extras_span, key_span, frame_status, bytes_in}
 use Rattle.commands.specs.Rules.{rule_of, tests_of, first_status, first_failure}
 use Rattle.effects.specs.Done.{done_of}
 use Rattle.decision.specs.Decision.{decision}

@@ -9,8 +9,7 @@ use Rattle.listing.specs.Listing.{listed_keys}
 use Rattle.listing.specs.Claims.{OneOf}
 use Rattle.shape.specs.Shapes.{among}
 use Rattle.rows.specs.Table.{table_bytes}
-use Rattle.owning.specs.declared.Document.TheVariants.{Missing, Expired as ExpiredBy, Live}
-use Rattle.owning.specs.Owner.{read_of, read_outcome, read_status, purge_of, purge_outcome, purged_bytes, activate_of, activate_outcome, activated_bytes}
+use Rattle.owning.specs.Owner.{Missing, Expired as ExpiredBy, Live, read_of, read_outcome, read_status, purge_of, purge_outcome, purged_bytes, activate_of, activate_outcome, activated_bytes}
 use Rattle.serving.specs.Serve.{served_outcome, served_status}
 use Rattle.promises.specs.Calls.{Call, served_by, table_served}
 use Rattle.promises.specs.Merge.{doc_at}

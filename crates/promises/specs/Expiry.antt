@@ -10,17 +10,13 @@ use Rattle.document.specs.Documents.{Key, Doc}
 use Rattle.shape.specs.Shapes.{among}
 use Rattle.header.specs.Header.{header_of}
 use Rattle.with_meta.specs.WithMeta.{with_meta}
-use Rattle.request.specs.declared.Gate.TheVariants.{Whole}
-use Rattle.request.specs.Reading.{gate_of, bytes_in, extras_span, key_span, value_span}
+use Rattle.request.specs.Reading.{Whole, gate_of, bytes_in, extras_span, key_span, value_span}
 use Rattle.commands.specs.Rules.{Check}
 use Rattle.rows.specs.Table.{table_of, table_at, clock_at, table_bytes}
 use Rattle.engines.specs.Engines.{engine_of}
 use Rattle.engines.specs.Damage.{sound_by}
-use Rattle.owning.specs.declared.Document.{Document}
-use Rattle.owning.specs.declared.Document.TheVariants.{Missing, Expired as Past, Live as Shown}
-use Rattle.owning.specs.Owner.{read_of, read_status}
-use Rattle.serving.specs.declared.Served.TheVariants.{Done}
-use Rattle.serving.specs.Serve.{served, served_table, served_reply}
+use Rattle.owning.specs.Owner.{Document, Missing, Expired as Past, Live as Shown, read_of, read_status}
+use Rattle.serving.specs.Serve.{Done, served, served_table, served_reply}
 use Rattle.serving.specs.Statuses.{statuses}
 use Rattle.promises.specs.Merge.{doc_at, mode_at}
 use Rattle.promises.specs.Kept.{later_at, clock_raised, kept_by}

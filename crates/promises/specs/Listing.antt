@@ -12,8 +12,7 @@ use Rattle.header.specs.Header.{header_of, header_bytes}
 use Rattle.rows.specs.Table.{table_of}
 use Rattle.plain.specs.Plain.{used_rows}
 use Rattle.engines.specs.Damage.{sound_by}
-use Rattle.serving.specs.declared.Served.TheVariants.{Done}
-use Rattle.serving.specs.Serve.{served, served_table, served_reply}
+use Rattle.serving.specs.Serve.{Done, served, served_table, served_reply}
 use Rattle.promises.specs.Merge.{doc_at}
 use Rattle.promises.specs.Kept.{later_at, clock_raised, kept_by}
 use Rattle.promises.specs.Expiry.{Live, opcode, extras_in, key_in, Reaches}

@@ -10,8 +10,7 @@ use Rattle.document.specs.Head.{marked, clocked}
 use Rattle.shape.specs.Shapes.{among, shape_of}
 use Rattle.header.specs.Header.{header_of}
 use Rattle.with_meta.specs.WithMeta.{with_meta}
-use Rattle.request.specs.declared.Gate.TheVariants.{Whole}
-use Rattle.request.specs.Reading.{gate_of, frame_status, extras_span, key_span, bytes_in}
+use Rattle.request.specs.Reading.{Whole, gate_of, frame_status, extras_span, key_span, bytes_in}
 use Rattle.decision.specs.Merging.{carried, meta_in}
 use Rattle.decode.specs.Decode.{command_of, bare_value}
 use Rattle.rows.specs.Table.{table_of}

@@ -6,8 +6,7 @@ use Rattle.octets.specs.BigEndian.{num, bytes_of}
 use Rattle.document.specs.Documents.{Doc}
 use Rattle.shape.specs.Shapes.{among}
 use Rattle.header.specs.Header.{header_of}
-use Rattle.serving.specs.declared.Served.TheVariants.{Done}
-use Rattle.serving.specs.Serve.{served, served_table, served_reply}
+use Rattle.serving.specs.Serve.{Done, served, served_table, served_reply}
 use Rattle.promises.specs.Merge.{doc_at}
 use Rattle.promises.specs.Expiry.{opcode, key_in, gets, sets, adds, replaces, deletes, counters, with_metas, touches, joins}
 

@@ -15,11 +15,8 @@ use Rattle.engines.specs.Damage.{sound_by}
 use Rattle.engines.proofs.Tables.{sound-plain}
 use Rattle.header.specs.declared.Header.{Header}
 use Rattle.header.specs.Header.{header_of}
-use Rattle.request.specs.declared.Gate.{Gate}
-use Rattle.request.specs.declared.Gate.TheVariants.{Stop, Whole}
-use Rattle.serving.specs.declared.Served.{Served}
-use Rattle.serving.specs.declared.Served.TheVariants.{Refused, Done}
-use Rattle.serving.specs.Serve.{gate_all, frame_reply, answer_by, reply_by, served, served_table, served_reply}
+use Rattle.request.specs.Reading.{Gate, Stop, Whole}
+use Rattle.serving.specs.Serve.{Served, Refused, Done, gate_all, frame_reply, answer_by, reply_by, served, served_table, served_reply}
 use Rattle.serving.specs.Serves.{Serves}
 use Rattle.serving.proofs.Gated.{was-open, refused-keeps}
 use Rattle.serving.proofs.Sound.{stays-sound}
@@ -29,10 +26,9 @@ use Rattle.run.specs.Run.{begun}
 use Rattle.run.specs.Frames.{frames_from, serve_at, Leaves}
 use Rattle.run.specs.declared.Ran.{Ran}
 use Rattle.run.proofs.Framing.{one_left}
-use Rattle.replay.specs.declared.Ending.TheVariants.{Stopped}
 use Rattle.replay.specs.declared.Progress.{Progress}
 use Rattle.replay.specs.declared.Step.TheVariants.{Goes, Ends}
-use Rattle.replay.specs.Replay.{Turn, On, End, is_one_frame, reply_for, sent_reply, with_frame}
+use Rattle.replay.specs.Replay.{Stopped, Turn, On, End, is_one_frame, reply_for, sent_reply, with_frame}
 use Rattle.replay.specs.Turns.{voyage_of, FrameTurns}
 
 -- ---- what stands at the start of an area where it was written

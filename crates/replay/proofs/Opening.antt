@@ -21,9 +21,7 @@ use Rattle.owner.proofs.Tells.{make-sound}
 use Rattle.trace.specs.declared.Opening.{Opening}
 use Rattle.trace.specs.Trace.{opening_of, fields_in}
 use Rattle.trace.proofs.Modes.{mode-known}
-use Rattle.replay.specs.declared.Ending.{Ending}
-use Rattle.replay.specs.declared.Ending.TheVariants.{Damaged, Stopped}
-use Rattle.replay.specs.Replay.{After, ruled_by, on_opening, replayed, walked}
+use Rattle.replay.specs.Replay.{Ending, Damaged, Stopped, After, ruled_by, on_opening, replayed, walked}
 use Rattle.replay.specs.Turns.{Walks}
 
 pub record Opens (trace : List ℕ) (mode : ℕ) : Type 0 where

@@ -21,11 +21,10 @@ use Rattle.trace.specs.declared.Field.{Field}
 use Rattle.trace.specs.declared.Field.TheVariants.{Clock, Frame, Reply, Purge, Rule}
 use Rattle.trace.specs.Trace.{length_in, bytes_held, field_at, is_broken}
 use Rattle.trace.proofs.Fields.{Says, field-says, field-inside}
-use Rattle.replay.specs.declared.Ending.TheVariants.{Stopped}
 use Rattle.replay.specs.declared.Progress.{Progress}
 use Rattle.replay.specs.declared.Step.{Step}
 use Rattle.replay.specs.declared.Step.TheVariants.{Goes, Ends}
-use Rattle.replay.specs.Replay.{On, on_field}
+use Rattle.replay.specs.Replay.{Stopped, On, on_field}
 use Rattle.replay.specs.Turns.{voyage_of, turn_of, passed, Leads, FrameTurns, Turns, reply_step}
 
 module _ (at : ℕ) (s : List ℕ) where

@@ -12,12 +12,10 @@ use Rattle.trace.specs.declared.Field.{Field}
 use Rattle.trace.specs.declared.Field.TheVariants.{Clock, Frame, Reply, Purge, Rule}
 use Rattle.trace.specs.Trace.{length_in, bytes_held, field_at, is_broken, placed_from, fields_from}
 use Rattle.trace.proofs.Fields.{field-inside, fields-on}
-use Rattle.replay.specs.declared.Ending.{Ending}
-use Rattle.replay.specs.declared.Ending.TheVariants.{Replayed}
 use Rattle.replay.specs.declared.Progress.{Progress}
 use Rattle.replay.specs.declared.Step.{Step}
 use Rattle.replay.specs.declared.Step.TheVariants.{Goes, Ends}
-use Rattle.replay.specs.Replay.{Voyage, On, End, on_field, on_turn, After, walked}
+use Rattle.replay.specs.Replay.{Ending, Replayed, Voyage, On, End, on_field, on_turn, After, walked}
 use Rattle.replay.specs.Turns.{voyage_of, Turns}
 
 -- a field that leads on isn't broken

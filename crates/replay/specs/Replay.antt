@@ -2,19 +2,14 @@
 use Rattle.std.specs.Prelude.{ℕ, ◌+◌, List, [], ◌∷◌, Bool, false, cond, length, eqb, Option, Some, None}
 use Rattle.engine.specs.declared.Config.{Config}
 use Rattle.octets.specs.Compare.{same}
-use Rattle.request.specs.declared.Gate.{Gate}
-use Rattle.request.specs.declared.Gate.TheVariants.{Stop, Whole}
+use Rattle.request.specs.Reading.{Gate, Stop, Whole}
 use Rattle.rows.specs.Table.{table_bytes, fresh}
 use Rattle.owning.specs.Owner.{purged_bytes}
-use Rattle.serving.specs.declared.Served.{Served}
-use Rattle.serving.specs.declared.Served.TheVariants.{Refused, Done}
-use Rattle.serving.specs.Serve.{gate_all, frame_reply, served, served_table}
+use Rattle.serving.specs.Serve.{Served, Refused, Done, gate_all, frame_reply, served, served_table}
 use Rattle.trace.specs.declared.Opening.{Opening}
 use Rattle.trace.specs.declared.Field.{Field}
 use Rattle.trace.specs.declared.Field.TheVariants.{Clock, Frame, Reply, Purge, Rule}
 use Rattle.trace.specs.Trace.{Placed, opening_of, forcing_in, fields_in}
-use Rattle.replay.specs.declared.Ending.{Ending}
-use Rattle.replay.specs.declared.Ending.TheVariants.{Damaged, Differs, Stopped, Replayed}
 
 -- what stands between two fields: the table's memory, the clock, the frames served so far and the last one's reply
 pub record Voyage : Type 0 where

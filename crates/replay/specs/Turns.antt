@@ -6,12 +6,10 @@ use Rattle.engines.specs.Damage.{sound_by}
 use Rattle.trace.specs.declared.Field.{Field}
 use Rattle.trace.specs.declared.Field.TheVariants.{Frame}
 use Rattle.trace.specs.Trace.{length_in, bytes_held, field_at, fields_in}
-use Rattle.replay.specs.declared.Ending.{Ending}
-use Rattle.replay.specs.declared.Ending.TheVariants.{Differs, Stopped}
 use Rattle.replay.specs.declared.Progress.{Progress}
 use Rattle.replay.specs.declared.Step.{Step}
 use Rattle.replay.specs.declared.Step.TheVariants.{Goes, Ends}
-use Rattle.replay.specs.Replay.{Voyage, Turn, On, End, on_field, After, walked}
+use Rattle.replay.specs.Replay.{Ending, Differs, Stopped, Voyage, Turn, On, End, on_field, After, walked}
 
 -- the last reply stands at the start of the reply area
 abbrev pub voyage_of : List ℕ → List ℕ → Progress → Voyage

@@ -10,9 +10,8 @@ use borrow.Author.Tests.{le-ltb, lt-ltb, eq-eqb, ne_eqb, leb-true, leb-false}
 use Rattle.octets.proofs.Choices.{cases}
 use Rattle.rules.specs.Rules.{status}
 use Rattle.request.specs.declared.Fields.{Fields}
-use Rattle.request.specs.declared.Reading.TheVariants.{Status, Accepted}
 use Rattle.request_writer.specs.declared.Written.TheVariants.{Refused, NoRoom, Wrote}
-use Rattle.request.specs.Reading.{reading, frame_of}
+use Rattle.request.specs.Reading.{Status, Accepted, reading, frame_of}
 use Rattle.request_writer.specs.Writing.{header_for, frame_bytes, lengths_held, refuses, writing, FieldsFit}
 use Rattle.request_writer.proofs.Frames.{reading-long, reading-frame, length-frame, h, frame, body}
 

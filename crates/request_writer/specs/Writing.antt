@@ -5,10 +5,9 @@ use Rattle.octets.specs.Parts.{written}
 use Rattle.header.specs.Header.{header_bytes}
 use Rattle.header.specs.declared.Header.{Header}
 use Rattle.request.specs.declared.Fields.{Fields}
-use Rattle.request.specs.declared.Reading.{Reading}
 use Rattle.request_writer.specs.declared.Written.{Written}
 use Rattle.request_writer.specs.declared.Written.TheVariants.{Refused, NoRoom, Wrote}
-use Rattle.request.specs.Reading.{reading_outcome, reading_status, reading}
+use Rattle.request.specs.Reading.{Reading, reading_outcome, reading_status, reading}
 
 -- 01's numbers for an answer of the writer: status 0x04 or outcome 4, 0 where the frame was written
 abbrev pub status_no : Written → ℕ

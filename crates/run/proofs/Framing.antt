@@ -16,10 +16,8 @@ use Rattle.document.specs.declared.Head.{Head}
 use Rattle.rows.specs.Table.{head_of}
 use Rattle.tally.specs.declared.Tally.{Tally}
 use Rattle.tally.specs.Counts.{counted_of}
-use Rattle.serving.specs.declared.Served.{Served}
-use Rattle.serving.specs.declared.Served.TheVariants.{Refused, Done}
 use Rattle.serving.specs.Serves.{Serves}
-use Rattle.serving.specs.Serve.{served_used, served, served_table, served_reply}
+use Rattle.serving.specs.Serve.{Served, Refused, Done, served_used, served, served_table, served_reply}
 use Rattle.serving.proofs.Gated.{refused-keeps}
 use Rattle.serving.proofs.Sound.{stays-sound}
 use Rattle.step.specs.Step.{Stepped, Steps, step_of}

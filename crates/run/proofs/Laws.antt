@@ -6,13 +6,10 @@ use mathlib.Core.List.{List}
 use mathlib.Core.Bool.{false}
 use lib.ListN.{length, drop}
 use Rattle.engine.specs.declared.Config.{Config}
-use Rattle.request.specs.declared.Gate.{Gate}
-use Rattle.request.specs.declared.Gate.TheVariants.{Stop, Whole}
+use Rattle.request.specs.Reading.{Gate, Stop, Whole}
 use Rattle.engines.specs.Damage.{sound_by}
-use Rattle.serving.specs.declared.Served.{Served}
-use Rattle.serving.specs.declared.Served.TheVariants.{Refused}
 use Rattle.serving.proofs.Gated.{was-open}
-use Rattle.serving.specs.Serve.{served_used, gate_all, served}
+use Rattle.serving.specs.Serve.{Served, Refused, served_used, gate_all, served}
 use Rattle.serving.specs.Serves.{Serves}
 use Rattle.serve.proofs.Gates.{gate-damaged, gated}
 use Rattle.run.specs.declared.Cursor.{Cursor}

@@ -2,9 +2,7 @@
 use Rattle.std.specs.Prelude.{ℕ, zero, suc, ◌+◌, ◌-◌, ◌≡◌, List, ◌++◌, length, take, drop}
 use Rattle.engine.specs.declared.Config.{Config}
 use Rattle.rows.specs.Table.{head_of}
-use Rattle.serving.specs.declared.Served.{Served}
-use Rattle.serving.specs.declared.Served.TheVariants.{Refused, Done}
-use Rattle.serving.specs.Serve.{served_table, served_reply}
+use Rattle.serving.specs.Serve.{Served, Refused, Done, served_table, served_reply}
 use Rattle.step.specs.Step.{Stepped, step_of}
 use Rattle.tally.specs.Counts.{counted_of}
 use Rattle.run.specs.declared.Ran.{Ran}

@@ -1,9 +1,7 @@
 -- "A cursor over a run of received frames is handed back advanced by what was consumed. One past the end sees no bytes."
 use Rattle.std.specs.Prelude.{ℕ, zero, suc, ◌+◌, ◌-◌, List, ◌++◌, length, take, drop}
 use Rattle.engine.specs.declared.Config.{Config}
-use Rattle.serving.specs.declared.Served.{Served}
-use Rattle.serving.specs.declared.Served.TheVariants.{Refused, Done}
-use Rattle.serving.specs.Serve.{served_used, served, served_table, served_reply}
+use Rattle.serving.specs.Serve.{Served, Refused, Done, served_used, served, served_table, served_reply}
 use Rattle.tally.specs.declared.Tally.{Tally}
 use Rattle.tally.specs.Counts.{counted_of}
 use Rattle.run.specs.declared.Moved.{Moved}

@@ -48,9 +48,7 @@ use Rattle.table.specs.Calls.{has_place, lookup_of, joined_by}
 use Rattle.table.specs.Claims.{Finds}
 use Rattle.table.proofs.Looking.{finds-sound, lookup_head}
 use Rattle.table.proofs.Keeping.{stores-good, joins-good}
-use Rattle.serving.specs.declared.Served.{Served}
-use Rattle.serving.specs.declared.Served.TheVariants.{Done}
-use Rattle.serving.specs.Serve.{reaches_decision, asked_of, decision_on, decision_at, frame_effect, effect_at, frame_table, frame_reply}
+use Rattle.serving.specs.Serve.{Served, Done, reaches_decision, asked_of, decision_on, decision_at, frame_effect, effect_at, frame_table, frame_reply}
 use Rattle.serving.specs.Serves.{ServesFrame}
 use Rattle.serving.proofs.Change.{changing, unchanged, raised, raised-good}
 use Rattle.effects.specs.declared.Reply.{Reply}

@@ -1,12 +1,12 @@
 -- Serving one request on a table of the engine that the call is for: the outcomes of document 01 in the order tested; then the request is decided, answered and stored.
+use Rattle.std.specs.declared.result.Result.{Result}
+use Rattle.std.specs.declared.result.Result.TheVariants.{Ok, Err}
 use Rattle.std.specs.Prelude.{ℕ, ◌+◌, Bool, false, cond, not, List, length, ltb, Option, None}
 use Rattle.octets.specs.Parts.{written}
 use Rattle.header.specs.declared.Header.{Header}
-use Rattle.request.specs.declared.Gate.{Gate}
-use Rattle.request.specs.declared.Gate.TheVariants.{Stop, Whole}
 use Rattle.shape.specs.Shapes.{shape_of}
 use Rattle.rules.specs.Rules.{keeps_rules}
-use Rattle.request.specs.Reading.{gate_of, frame_status, bytes_in, extras_span, key_span, value_span}
+use Rattle.request.specs.Reading.{Gate, Stop, Whole, gate_of, frame_status, bytes_in, extras_span, key_span, value_span}
 use Rattle.document.specs.declared.Head.{Head}
 use Rattle.commands.specs.declared.Context.{Context}
 use Rattle.effects.specs.declared.Reply.TheVariants.{Bare}
@@ -22,9 +22,20 @@ use Rattle.plain.specs.Damage.{checked_outcome}
 use Rattle.engines.specs.Engines.{engine_of}
 use Rattle.engines.specs.Damage.{sound_by}
 use Rattle.rows.specs.Find.{find_row, free_rows}
-use Rattle.serving.specs.declared.Served.{Served}
-use Rattle.serving.specs.declared.Served.TheVariants.{Refused, Done}
+use Rattle.outcome.specs.declared.Refusal.{Refusal}
+use Rattle.outcome.specs.Outcome.{status_of, refusal_number, refusal_needed}
+use Rattle.serving.specs.declared.Served.{Served as ServedFrame}
 use Rattle.serving.specs.Reply.{reply_shows, reply_bytes}
+
+-- ---- an outcome with the bytes needed from the frame's start, or status, bytes consumed and reply length
+pub data Served : Type 0 where
+  Refused : ℕ → ℕ → Served
+  Done : ℕ → ℕ → ℕ → Served
+
+-- what the code answers, in 01's numbers
+abbrev pub served_told : Result ServedFrame Refusal → Served
+served_told (Ok s) = Done (status_of s.status) s.used s.reply
+served_told (Err refusal) = Refused (refusal_number refusal) (refusal_needed refusal)
 
 -- ---- 01's numbers for each answer; what it doesn't have is 0
 -- its outcome, 0 where a frame was served

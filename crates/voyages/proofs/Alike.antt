@@ -15,11 +15,9 @@ use Rattle.octets.specs.BigEndian.{num}
 use Rattle.octets.proofs.Choices.{cases}
 use Rattle.octets.proofs.Lists.{bytes-part}
 use Rattle.octets.proofs.Numbers.{num-below}
-use Rattle.request.specs.declared.Gate.{Gate}
-use Rattle.request.specs.declared.Gate.TheVariants.{Stop, Whole}
+use Rattle.request.specs.Reading.{Gate, Stop, Whole}
 use Rattle.rows.specs.Table.{Table, table_bytes, fresh}
-use Rattle.serving.specs.declared.Served.{Served}
-use Rattle.serving.specs.Serve.{gate_all, served, served_table}
+use Rattle.serving.specs.Serve.{Served, gate_all, served, served_table}
 use Rattle.trace.specs.declared.Field.{Field}
 use Rattle.trace.specs.declared.Field.TheVariants.{Clock, Frame, Reply, Purge, Rule}
 use Rattle.trace.specs.Trace.{Placed, opening_of, fields_in}

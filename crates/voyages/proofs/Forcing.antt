@@ -14,14 +14,12 @@ use Rattle.octets.specs.Compare.{same}
 use Rattle.octets.specs.BigEndian.{num}
 use Rattle.octets.proofs.Choices.{cases}
 use Rattle.octets.proofs.Tests.{same_refl}
-use Rattle.serving.specs.declared.Served.{Served}
-use Rattle.serving.specs.Serve.{served, served_table}
+use Rattle.serving.specs.Serve.{Served, served, served_table}
 use Rattle.trace.specs.declared.Opening.{Opening}
 use Rattle.trace.specs.declared.Field.{Field}
 use Rattle.trace.specs.declared.Field.TheVariants.{Clock, Frame, Reply, Purge, Rule}
 use Rattle.trace.specs.Trace.{Placed, opening_of, field_of, forcing_by, forcing_in, fields_in}
-use Rattle.replay.specs.declared.Ending.TheVariants.{Damaged, Stopped}
-use Rattle.replay.specs.Replay.{Voyage, Turn, On, is_one_frame, with_clock, with_frame, with_purge, on_field, on_turn, After, walked, set_out, ruled_by, on_opening, replayed}
+use Rattle.replay.specs.Replay.{Damaged, Stopped, Voyage, Turn, On, is_one_frame, with_clock, with_frame, with_purge, on_field, on_turn, After, walked, set_out, ruled_by, on_opening, replayed}
 use Rattle.promises.specs.Clock.{memory_after}
 use Rattle.voyages.specs.Serving.{clock_by, call_by, calls_of, last_by, LeadsOn, AllLeadOn, ReplaysAs}
 use Rattle.voyages.specs.Spelling.{WellOpened, said_at, OtherRuleAt, SpeltAt, SpeltFrom}

@@ -14,8 +14,7 @@ use Rattle.octets.specs.BigEndian.{bytes_of}
 use Rattle.octets.proofs.Choices.{cases}
 use Rattle.octets.proofs.Tests.{same_refl}
 use Rattle.rows.specs.Table.{table_bytes, fresh}
-use Rattle.serving.specs.declared.Served.{Served}
-use Rattle.serving.specs.Serve.{gate_all, answer_by, table_by, served, served_table, served_reply}
+use Rattle.serving.specs.Serve.{Served, gate_all, answer_by, table_by, served, served_table, served_reply}
 use Rattle.trace.specs.declared.Field.{Field}
 use Rattle.trace.specs.declared.Field.TheVariants.{Clock, Frame, Reply, Rule}
 use Rattle.trace.specs.Trace.{Placed, length_in, field_of, is_rule, field_at, is_broken, placed_from, fields_from}
@@ -24,8 +23,7 @@ use Rattle.trace_writer.specs.Writing.{field_bytes, rule_field, opening_bytes, c
 use Rattle.trace_writer.specs.Claims.{FieldBack}
 use Rattle.trace_writer.proofs.FieldLaws.{clock-same, clock-other, length-opening, length-field, length-frame}
 use Rattle.trace_writer.proofs.ReadBack.{clock-back, frame_back, reply-back, rule-back, opening-back}
-use Rattle.replay.specs.declared.Ending.TheVariants.{Differs, Stopped, Replayed}
-use Rattle.replay.specs.Replay.{Voyage, On, End, is_one_frame, with_clock, with_frame, reply_for, sent_reply, on_turn, After, walked, set_out, ruled_by, replayed}
+use Rattle.replay.specs.Replay.{Differs, Stopped, Replayed, Voyage, On, End, is_one_frame, with_clock, with_frame, reply_for, sent_reply, on_turn, After, walked, set_out, ruled_by, replayed}
 use Rattle.replay.proofs.Frames.{sent-by}
 use Rattle.voyages.specs.Serving.{OneFrame}
 use Rattle.voyages.specs.Recorded.{Asked, left, left_by_all, AllServed, fields_added, RecordedReplays, RoomAlike}

@@ -13,15 +13,11 @@ use Rattle.octets.specs.Compare.{same}
 use Rattle.octets.proofs.Choices.{cases}
 use Rattle.octets.proofs.Tests.{same_true, same_refl}
 use Rattle.rows.specs.Table.{table_bytes, fresh}
-use Rattle.serving.specs.declared.Served.{Served}
-use Rattle.serving.specs.declared.Served.TheVariants.{Refused, Done}
-use Rattle.serving.specs.Serve.{served, served_table}
+use Rattle.serving.specs.Serve.{Served, Refused, Done, served, served_table}
 use Rattle.trace.specs.declared.Field.{Field}
 use Rattle.trace.specs.declared.Field.TheVariants.{Clock, Frame, Reply, Purge as Purges, Rule}
 use Rattle.trace.specs.Trace.{Placed, opening_of, fields_in}
-use Rattle.replay.specs.declared.Ending.{Ending}
-use Rattle.replay.specs.declared.Ending.TheVariants.{Differs, Stopped}
-use Rattle.replay.specs.Replay.{Voyage, with_clock, with_frame, with_purge, is_one_frame, On, End, on_field, on_turn, After, walked, set_out, ruled_by, replayed}
+use Rattle.replay.specs.Replay.{Ending, Differs, Stopped, Voyage, with_clock, with_frame, with_purge, is_one_frame, On, End, on_field, on_turn, After, walked, set_out, ruled_by, replayed}
 use Rattle.replay.proofs.Frames.{was-sent}
 use Rattle.promises.specs.Clock.{TableCall, memory_after, table_called}
 use Rattle.voyages.specs.Serving.{clock_by, call_by, calls_of, frames_by, frames_in, last_by, OneFrame, LeadsOn, EndsAt, clock_past, last_after, ReplaysAs, SentIsReply}

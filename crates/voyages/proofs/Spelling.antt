@@ -18,9 +18,7 @@ use Rattle.trace.specs.declared.Field.{Field}
 use Rattle.trace.specs.declared.Field.TheVariants.{Clock, Frame, Reply, Purge, Rule}
 use Rattle.trace.specs.Trace.{Placed, opening_of, length_in, bytes_held, rule_by, field_by, field_of, is_rule, field_at, is_broken, placed_from, fields_from, fields_in}
 use Rattle.trace.proofs.Modes.{mode-known, known-mode}
-use Rattle.replay.specs.declared.Ending.{Ending}
-use Rattle.replay.specs.declared.Ending.TheVariants.{Damaged, Differs, Stopped, Replayed}
-use Rattle.replay.specs.Replay.{ruled_by, replayed}
+use Rattle.replay.specs.Replay.{Ending, Damaged, Differs, Stopped, Replayed, ruled_by, replayed}
 use Rattle.voyages.specs.Serving.{EndsAt}
 use Rattle.voyages.specs.Spelling.{WellOpened, BadOpeningStops, OtherSizeRefused, ReplayServes, said_at, tag_at, WholeAt, RuleAt, SpeltAt, NextOf, SpeltFrom, FieldsSpelt, EndsWithin, PlacesWithin}
 use Rattle.voyages.proofs.Serving.{opened-serves}

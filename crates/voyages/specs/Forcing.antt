@@ -5,9 +5,7 @@ use Rattle.octets.specs.BigEndian.{num}
 use Rattle.rows.specs.Table.{table_bytes, fresh}
 use Rattle.trace.specs.Trace.{Placed, fields_in}
 use Rattle.trace_writer.specs.Writing.{rule_field}
-use Rattle.replay.specs.declared.Ending.{Ending}
-use Rattle.replay.specs.declared.Ending.TheVariants.{Damaged, Differs, Stopped, Replayed}
-use Rattle.replay.specs.Replay.{ruled_by, replayed}
+use Rattle.replay.specs.Replay.{Ending, Damaged, Differs, Stopped, Replayed, ruled_by, replayed}
 use Rattle.promises.specs.Clock.{memory_after}
 use Rattle.voyages.specs.Serving.{calls_of, AllLeadOn, ReplaysAs}
 use Rattle.voyages.specs.Spelling.{WellOpened, WholeAt, RuleAt, OtherRuleAt}

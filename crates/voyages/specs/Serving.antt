@@ -2,14 +2,11 @@
 use Rattle.std.specs.Prelude.{ℕ, ◌+◌, ◌≡◌, List, [], ◌∷◌, ◌++◌, length, replicate, Option, Some, None}
 use Rattle.engine.specs.declared.Config.{Config}
 use Rattle.octets.specs.Parts.{Bytes, part}
-use Rattle.serving.specs.declared.Served.TheVariants.{Done}
-use Rattle.serving.specs.Serve.{served, served_reply}
+use Rattle.serving.specs.Serve.{Done, served, served_reply}
 use Rattle.trace.specs.declared.Field.{Field}
 use Rattle.trace.specs.declared.Field.TheVariants.{Clock, Frame, Reply, Purge as Purges, Rule}
 use Rattle.trace.specs.Trace.{Placed}
-use Rattle.replay.specs.declared.Ending.{Ending}
-use Rattle.replay.specs.declared.Ending.TheVariants.{Damaged, Differs, Stopped, Replayed}
-use Rattle.replay.specs.Replay.{After, sent_reply}
+use Rattle.replay.specs.Replay.{Ending, Damaged, Differs, Stopped, Replayed, After, sent_reply}
 use Rattle.promises.specs.Clock.{TableCall, Serve, Purge, memory_after}
 
 -- ---- the calls that fields spell

@@ -7,9 +7,7 @@ use Rattle.rows.specs.Table.{table_bytes, fresh}
 use Rattle.trace.specs.declared.Field.{Field}
 use Rattle.trace.specs.declared.Field.TheVariants.{Clock, Frame, Reply, Purge, Rule}
 use Rattle.trace.specs.Trace.{Placed, fields_in}
-use Rattle.replay.specs.declared.Ending.{Ending}
-use Rattle.replay.specs.declared.Ending.TheVariants.{Damaged, Differs, Stopped, Replayed}
-use Rattle.replay.specs.Replay.{ruled_by, replayed}
+use Rattle.replay.specs.Replay.{Ending, Damaged, Differs, Stopped, Replayed, ruled_by, replayed}
 use Rattle.voyages.specs.Serving.{ReplaysAs}
 
 -- ---- the opening

@@ -2,7 +2,7 @@ use Prim.Native.Nat.{ℕ}
 use mathlib.Core.Path.{ap, ◌∙◌}
 use Rattle.octets.specs.Parts.{written}
 use Rattle.octets.specs.BigEndian.{bytes_of}
-use Rattle.serving.specs.declared.Served.TheVariants.{Done}
+use Rattle.serving.specs.Serve.{Done}
 use Rattle.step.proofs.refused.Goals as goal
 
 pub returns : goal.returns

@@ -1,4 +1,4 @@
-use Rattle.serving.specs.declared.Served.TheVariants.{Done}
+use Rattle.serving.specs.Serve.{Done}
 use Rattle.step.proofs.Framed.{asked_by}
 use Rattle.step.proofs.serve_asked.Goals as goal
 
