@@ -40,6 +40,9 @@ pub struct Frame {
     pub meta: usize,
 }
 
+// The longest body that is taken.
+pub const LONGEST_BODY: u32 = 1400;
+
 // Why there is no request to show.
 #[derive(Clone, Copy, Debug, PartialEq, Eq)]
 pub enum Unread {
@@ -75,7 +78,7 @@ pub fn gate_of(received: &[u8]) -> Result<Header, Refusal>
     if h.magic != 0x80 {
         return Err(Refusal::BadMagic);
     }
-    if 1400 < h.body {
+    if LONGEST_BODY < h.body {
         return Err(Refusal::TooLong);
     }
     let end = header::layout_of(h).end;

@@ -11,15 +11,6 @@ pub struct Request<'a> {
     pub reading: Result<Frame, Unread>,
 }
 
-pub fn open<'a>(received: &'a [u8]) -> Request<'a>
-    ensures { (result.received ≡ received.entry) × (reading_told result.reading ≡ reading received.now) }
-{
-    Request {
-        received,
-        reading: crate::read(received),
-    }
-}
-
 // The bytes of a span, none where there is none.
 fn shown(s: &[u8], span: Option<Span>) -> &[u8]
     ensures { result.now ≡ bytes_shown s.now span }
@@ -30,20 +21,31 @@ fn shown(s: &[u8], span: Option<Span>) -> &[u8]
     }
 }
 
-pub fn extras<'a>(r: Request<'a>) -> &'a [u8]
-    ensures { result.now ≡ extras_shown r.entry.received.now (reading_told r.entry.reading) }
-{
-    shown(r.received, r.reading.ok().map(|frame| frame.extras))
-}
+impl<'a> Request<'a> {
+    pub fn open(received: &'a [u8]) -> Request<'a>
+        ensures { (result.received ≡ received.entry) × (reading_told result.reading ≡ reading received.now) }
+    {
+        Request {
+            received,
+            reading: crate::read(received),
+        }
+    }
 
-pub fn key<'a>(r: Request<'a>) -> &'a [u8]
-    ensures { result.now ≡ key_shown r.entry.received.now (reading_told r.entry.reading) }
-{
-    shown(r.received, r.reading.ok().map(|frame| frame.key))
-}
+    pub fn extras(self) -> &'a [u8]
+        ensures { result.now ≡ extras_shown self.entry.received.now (reading_told self.entry.reading) }
+    {
+        shown(self.received, self.reading.ok().map(|frame| frame.extras))
+    }
 
-pub fn value<'a>(r: Request<'a>) -> &'a [u8]
-    ensures { result.now ≡ value_shown r.entry.received.now (reading_told r.entry.reading) }
-{
-    shown(r.received, r.reading.ok().map(|frame| frame.value))
+    pub fn key(self) -> &'a [u8]
+        ensures { result.now ≡ key_shown self.entry.received.now (reading_told self.entry.reading) }
+    {
+        shown(self.received, self.reading.ok().map(|frame| frame.key))
+    }
+
+    pub fn value(self) -> &'a [u8]
+        ensures { result.now ≡ value_shown self.entry.received.now (reading_told self.entry.reading) }
+    {
+        shown(self.received, self.reading.ok().map(|frame| frame.value))
+    }
 }
