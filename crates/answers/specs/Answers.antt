@@ -5,10 +5,8 @@ use Rattle.numbers.specs.Expiry.{seconds_in}
 use Rattle.request.specs.declared.Span.{Span}
 use Rattle.request.specs.declared.Frame.{Frame}
 use Rattle.request.specs.declared.Fields.{Fields}
-use Rattle.request_writer.specs.declared.Written.{Written}
-use Rattle.request_writer.specs.declared.Written.TheVariants.{Refused as NotWritten, NoRoom, Wrote}
 use Rattle.request.specs.Reading.{Reading, Outcome, Status, Accepted, reading_outcome, reading_status}
-use Rattle.request_writer.specs.Writing.{status_no, outcome_no}
+use Rattle.request_writer.specs.Writing.{Written, Refused as NotWritten, NoRoom, Wrote, status_no, outcome_no}
 use Rattle.serving.specs.Serve.{Served, served_outcome, served_status, served_used, served_length, served_needed}
 use Rattle.owning.specs.Owner.{Activated, Purged, Document, Damaged, Missing, Expired, Live, read_outcome, read_status, purge_outcome, purged_count, activate_outcome, activate_status}
 use Rattle.run.specs.declared.Ran.{Ran}

@@ -13,9 +13,8 @@ use borrow.Author.Tests.{eqb-true, eqb-false}
 use Rattle.octets.specs.Parts.{part}
 use Rattle.octets.proofs.Choices.{cond-elim}
 use Rattle.octets.proofs.Lists.{part_length}
-use Rattle.shape.specs.Shapes.{commands, shape_of}
+use Rattle.shape.specs.Shapes.{Shape, commands, shape_of}
 use Rattle.shape.proofs.ShapeLaws.{same_shape}
-use Rattle.shape.specs.declared.Shape.{Shape}
 use Rattle.header.specs.declared.Header.{Header}
 use Rattle.with_meta.specs.WithMeta.{with_meta}
 use Rattle.with_meta.specs.FieldRules.{with_meta_ok}

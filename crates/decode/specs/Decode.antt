@@ -2,8 +2,7 @@
 use Rattle.std.specs.Prelude.{ℕ, ◌-◌, ◌/◌, ◌%◌, Bool, true, false, not, cond, ◌&&◌, List, length, eqb, Option, Some, None}
 use Rattle.octets.specs.Parts.{part}
 use Rattle.octets.specs.BigEndian.{num}
-use Rattle.shape.specs.Shapes.{shape_of}
-use Rattle.shape.specs.declared.Shape.{Shape}
+use Rattle.shape.specs.Shapes.{Shape, shape_of}
 use Rattle.shape.specs.declared.Operation.{Operation}
 use Rattle.shape.specs.declared.Operation.TheVariants as Operations
 use Rattle.header.specs.declared.Header.{Header}

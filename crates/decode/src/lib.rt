@@ -2,6 +2,7 @@
 #![tactic(auto)]
 
 ghost use Rattle.std.specs.Prelude.{◌≡◌};
+ghost use Rattle.shape.specs.Shapes.{shape_told};
 ghost use Rattle.decode.specs.Decode.{plain_of, counter_of, touch_of, meta_command, family_of, instruction_with, list_decoded, meta_decoded, decoded_by};
 
 use commands::{Command, Counter, Instruction, Kind, Meta, MetaKind, Plain, Touching};
@@ -102,7 +103,7 @@ fn instruction_with(
     size: usize,
     unsupported: bool,
 ) -> Instruction
-    ensures { result ≡ instruction_with shape h command size unsupported }
+    ensures { result ≡ instruction_with (shape_told shape) h command size unsupported }
 {
     let cas = h.cas;
     Instruction {
@@ -117,7 +118,7 @@ fn instruction_with(
 
 // A listing, unless its count is 0.
 fn list_decoded(shape: Shape, h: Header, extras: &[u8], size: usize) -> Option<Instruction>
-    ensures { result ≡ list_decoded shape h extras.now size }
+    ensures { result ≡ list_decoded (shape_told shape) h extras.now size }
 {
     let count = rules::count_of(extras);
     if count == 0 {
@@ -135,17 +136,17 @@ fn meta_decoded(
     extras: &[u8],
     value: &[u8],
 ) -> Option<Instruction>
-    ensures { result ≡ meta_decoded forcing shape h kind extras.now value.now }
+    ensures { result ≡ meta_decoded forcing (shape_told shape) h kind extras.now value.now }
 {
     let w = with_meta::read(extras);
-    if !with_meta::with_meta_ok(shape.meta, w, value) {
+    if !with_meta::with_meta_ok(shape.form.meta, w, value) {
         return None;
     }
     Some(instruction_with(
         shape,
         h,
         meta_of(kind, w),
-        octets::minus(value.len(), w.section as usize),
+        value.len().saturating_sub(usize::from(w.section)),
         rules::is_forced(w) & !forcing,
     ))
 }
@@ -154,7 +155,7 @@ fn meta_decoded(
 // follows its key. Each kind of command is made at one place, so that the compiler puts it there, and its extras are read
 // only once the kind is known: each read past their end is a slow one.
 pub fn decoded_by(forcing: bool, shape: Shape, h: Header, extras: &[u8], value: &[u8]) -> Option<Instruction>
-    ensures { result ≡ decoded_by forcing shape h extras.now value.now }
+    ensures { result ≡ decoded_by forcing (shape_told shape) h extras.now value.now }
 {
     let size = value.len();
     let operation = shape.operation;

@@ -9,8 +9,7 @@ use borrow.Author.Tests.{le-ltb, eqb-true, not-true, not-false}
 use Rattle.octets.specs.Parts.{written}
 use Rattle.octets.specs.BigEndian.{num}
 use Rattle.octets.proofs.Choices.{cases, both}
-use Rattle.shape.specs.declared.Shape.{Shape}
-use Rattle.shape.specs.Shapes.{commands, among, shape_of}
+use Rattle.shape.specs.Shapes.{Shape, commands, among, shape_of}
 use Rattle.shape.proofs.ShapeLaws.{same_shape}
 use Rattle.header.specs.declared.Header.{Header}
 use Rattle.header.specs.Header.{header_of}

@@ -14,8 +14,7 @@ use Rattle.octets.specs.BigEndian.{num, bytes_of}
 use Rattle.octets.proofs.Choices.{cases}
 use Rattle.octets.proofs.Lists.{written-fits, length-written}
 use Rattle.octets.proofs.Numbers.{num-back}
-use Rattle.shape.specs.declared.Shape.{Shape}
-use Rattle.shape.specs.Shapes.{commands, unbuilt, shape_by, among, look_up, shape_of}
+use Rattle.shape.specs.Shapes.{Shape, commands, unbuilt, shape_by, among, look_up, shape_of}
 use Rattle.shape.proofs.ShapeLaws.{Each, looked-up, any-shape}
 use Rattle.header.specs.declared.Header.{Header}
 use Rattle.header.specs.Header.{header_of, front_bytes, middle_bytes, back_bytes, header_bytes}

@@ -125,7 +125,7 @@ fn meta_status(stored: Stored, extras: &[u8], value: &[u8]) -> Result<(), Status
     ensures { status_of result ≡ meta_status (stored_number stored) (with_meta extras.now) value.now }
 {
     let w = with_meta::read(extras);
-    if !with_meta::with_meta_ok(stored, w, value) {
+    if !with_meta::with_meta_ok(Some(stored), w, value) {
         return Err(Status::Invalid);
     }
     if is_forced(w) {

@@ -8,11 +8,10 @@ use Rattle.std.specs.declared.option.Option.{Option}
 use Rattle.std.specs.declared.option.Option.TheVariants.{Some, None}
 use Rattle.outcome.specs.Outcome.{status_of}
 use Rattle.with_meta.specs.declared.Stored.{Stored}
-use Rattle.with_meta.specs.FieldRules.{stored_number}
+use Rattle.with_meta.specs.FieldRules.{meta_number}
 use Rattle.shape.specs.declared.Key.{Key}
 use Rattle.shape.specs.declared.Key.TheVariants.{Forbidden, Needed, Optional}
 use Rattle.shape.specs.declared.Form.{Form as DeclaredForm}
-use Rattle.shape.specs.declared.Shape.{Shape as DeclaredShape}
 
 -- what stands between the header and the end of the body
 pub record Form : Type 0 where
@@ -39,10 +38,6 @@ abbrev pub key_number : Key → ℕ
 key_number Forbidden = 0
 key_number Needed = 1
 key_number Optional = 2
-
-abbrev pub meta_number : Option Stored → ℕ
-meta_number None = 0
-meta_number (Some stored) = stored_number stored
 
 abbrev pub form_told : DeclaredForm → Form
 form_told f = record { extras = f.extras; key = key_number f.key; value = cond f.takes_value 1 0; meta = meta_number f.meta }

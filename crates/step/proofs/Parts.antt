@@ -6,8 +6,7 @@ use mathlib.Core.List.{List}
 use native.Mathlib.Omega.{arith}
 use lib.ListN.{length, take, drop}
 use Rattle.octets.specs.Parts.{part}
-use Rattle.shape.specs.Shapes.{shape_of}
-use Rattle.shape.specs.declared.Shape.{Shape}
+use Rattle.shape.specs.Shapes.{Shape, shape_of}
 use Rattle.header.specs.declared.Header.{Header}
 use Rattle.header.specs.declared.Layout.{Layout}
 use Rattle.header.specs.Layout.{layout_of}

@@ -3,7 +3,7 @@ use mathlib.Core.Path.{◌≡◌, sym, ap, ◌∙◌}
 use mathlib.Core.Bool.{Bool, false}
 use mathlib.Core.List.{List}
 use lib.ListN.{length}
-use Rattle.shape.specs.declared.Shape.{Shape}
+use Rattle.shape.specs.Shapes.{Shape}
 use Rattle.header.specs.declared.Header.{Header}
 use Rattle.commands.specs.declared.Command.{Command}
 use Rattle.commands.specs.declared.Instruction.{Instruction}

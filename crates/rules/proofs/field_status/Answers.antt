@@ -1,6 +1,6 @@
 use mathlib.Core.Path.{sym, ap, ◌∙◌}
 use borrow.Author.Tests.{le-ltb, lt-ltb}
-use Rattle.shape.specs.Shapes.{meta_number}
+use Rattle.with_meta.specs.FieldRules.{meta_number}
 use Rattle.with_meta.specs.WithMeta.{with_meta}
 use Rattle.with_meta.proofs.StoredLaws.{stores-some}
 use Rattle.rules.specs.Rules.{meta_status}

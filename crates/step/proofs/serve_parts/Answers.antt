@@ -1,6 +1,6 @@
 use native.Mathlib.Omega.{arith}
 use mathlib.Core.Path.{sym, ap, ◌∙◌}
-use Rattle.shape.specs.declared.Shape.{Shape}
+use Rattle.shape.specs.Shapes.{Shape}
 use Rattle.rules.specs.Rules.{form_status}
 use Rattle.step.proofs.Framed.{frame_refused, frame-asked}
 use Rattle.step.proofs.Parts.{within, extras-cut, key-cut, value-cut, broken-status, broken-stops, whole-goes, whole-ask, whole-value}

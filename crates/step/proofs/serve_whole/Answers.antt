@@ -1,8 +1,7 @@
 use Rattle.step.proofs.Framed.{frame_refused}
 use Rattle.step.proofs.Parts.{other-status, other-stops}
 use Rattle.rules.specs.Rules.{form_status}
-use Rattle.shape.specs.Shapes.{shape_of}
-use Rattle.shape.specs.declared.Shape.{Shape}
+use Rattle.shape.specs.Shapes.{Shape, shape_of}
 use mathlib.Core.Path.{◌≡◌, sym, ap, ◌∙◌}
 use Rattle.step.proofs.serve_whole.Goals as goal
 
