@@ -8,6 +8,7 @@ use Rattle.std.specs.declared.option.Option.{Option}
 use Rattle.std.specs.declared.option.Option.TheVariants.{Some, None}
 use Rattle.outcome.specs.Outcome.{status_of}
 use Rattle.with_meta.specs.declared.Stored.{Stored}
+use Rattle.shape.specs.declared.Shape.{Shape as DeclaredShape}
 use Rattle.with_meta.specs.FieldRules.{meta_number}
 use Rattle.shape.specs.declared.Key.{Key}
 use Rattle.shape.specs.declared.Key.TheVariants.{Forbidden, Needed, Optional}
