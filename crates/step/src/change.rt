@@ -45,14 +45,11 @@ fn store_from(
 pub(crate) fn change(config: Config, b: &mut [u8], l: Lookup, key: &[u8], d: Done, value: &[u8])
     ensures { b.new ≡ changed_by config b.old l key.now d value.now }
 {
-    let store = d.store;
-    let source = d.source;
-    let head = d.head;
-    match store {
+    match d.store {
         Some(m) => {
-            row_writer::put_head(b, head);
-            store_from(config, b, l, key, m, source, value);
+            row_writer::put_head(b, d.head);
+            store_from(config, b, l, key, m, d.source, value);
         }
-        None => row_writer::put_clock(b, head.clock),
+        None => row_writer::put_clock(b, d.head.clock),
     }
 }
