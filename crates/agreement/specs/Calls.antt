@@ -6,8 +6,7 @@ use Rattle.owning.specs.Owner.{Activated, Purged, Document, Damaged, Missing, Ex
 use Rattle.serving.specs.Serve.{Served, served_reply}
 use Rattle.tally.specs.declared.Tally.{Tally}
 use Rattle.tally.specs.Counts.{counted_of}
-use Rattle.run.specs.declared.Ran.{Ran}
-use Rattle.run.specs.Run.{Stand, begun, run_end, ran_of}
+use Rattle.run.specs.Run.{Ran, Stand, begun, run_end, ran_of}
 use Rattle.promises.specs.Calls.{Call, served_by}
 use Rattle.promises.specs.Clock.{TableCall, Serve, Purge, Read, Activate, Given, table_called}
 

@@ -9,7 +9,7 @@ use Rattle.request.specs.Reading.{Reading, Outcome, Status, Accepted, reading_ou
 use Rattle.request_writer.specs.Writing.{Written, Refused as NotWritten, NoRoom, Wrote, status_no, outcome_no}
 use Rattle.serving.specs.Serve.{Served, served_outcome, served_status, served_used, served_length, served_needed}
 use Rattle.owning.specs.Owner.{Activated, Purged, Document, Damaged, Missing, Expired, Live, read_outcome, read_status, purge_outcome, purged_count, activate_outcome, activate_status}
-use Rattle.run.specs.declared.Ran.{Ran}
+use Rattle.run.specs.Run.{Ran}
 use Rattle.replay.specs.Replay.{Ending, Damaged as NotReplayed, Differs, Stopped, Replayed, replay_outcome}
 use Rattle.answers.specs.declared.Part.{Part}
 use Rattle.answers.specs.declared.ServedAnswer.{ServedAnswer}

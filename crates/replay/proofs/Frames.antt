@@ -22,9 +22,8 @@ use Rattle.serving.proofs.Gated.{was-open, refused-keeps}
 use Rattle.serving.proofs.Sound.{stays-sound}
 use Rattle.reply.proofs.Frames.{reply-most}
 use Rattle.tally.specs.declared.Tally.{Tally}
-use Rattle.run.specs.Run.{begun}
+use Rattle.run.specs.Run.{Ran, begun}
 use Rattle.run.specs.Frames.{frames_from, serve_at, Leaves}
-use Rattle.run.specs.declared.Ran.{Ran}
 use Rattle.run.proofs.Framing.{one_left}
 use Rattle.replay.specs.declared.Progress.{Progress}
 use Rattle.replay.specs.declared.Step.TheVariants.{Goes, Ends}

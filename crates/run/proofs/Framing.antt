@@ -23,9 +23,8 @@ use Rattle.serving.proofs.Sound.{stays-sound}
 use Rattle.step.specs.Step.{Stepped, Steps, step_of}
 use Rattle.step.proofs.Told.{Told, step-told, step_left}
 use Rattle.serve.proofs.Stepping.{stepped}
-use Rattle.run.specs.Run.{Stand, begun, called_on, further, stand_after, run_end, ran_of}
+use Rattle.run.specs.Run.{Ran, Stand, begun, called_on, further, stand_after, run_end, ran_of}
 use Rattle.run.specs.Frames.{Framed, after_frame, on_answer, frames_from, step_at, serve_at, Leaves}
-use Rattle.run.specs.declared.Ran.{Ran}
 use Rattle.run.proofs.Runs.{by-served, consumed, stops, goes}
 
 -- ---- one call

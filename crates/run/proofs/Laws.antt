@@ -13,8 +13,7 @@ use Rattle.serving.specs.Serve.{Served, Refused, served_used, gate_all, served}
 use Rattle.serving.specs.Serves.{Serves}
 use Rattle.serve.proofs.Gates.{gate-damaged, gated}
 use Rattle.run.specs.declared.Cursor.{Cursor}
-use Rattle.run.specs.declared.Moved.{Moved}
-use Rattle.run.specs.Run.{moved_by}
+use Rattle.run.specs.Run.{Moved, moved_by}
 
 used-by : (config : Config) (b : List ℕ) (clock : ℕ) (s : List ℕ) (room : ℕ) (g : Gate) → gate_all config b room s ≡ g → served_used (served config b clock s room) ≤ length s
 unfolding served

@@ -12,8 +12,7 @@ use Rattle.tally.specs.declared.Tally.{Tally}
 use Rattle.serving.specs.Serve.{Served, Refused, Done, gate_all, answer_by, served}
 use Rattle.serving.proofs.Gated.{was-open}
 use Rattle.serve.proofs.Gates.{gate-damaged}
-use Rattle.run.specs.Run.{Stand, begun, called_on, further, on_done, stand_after, run_end, ran_of}
-use Rattle.run.specs.declared.Ran.{Ran}
+use Rattle.run.specs.Run.{Ran, Stand, begun, called_on, further, on_done, stand_after, run_end, ran_of}
 
 -- ---- what a call that was not refused did
 pub record Consumed (s : List ℕ) (used : ℕ) : Type 0 where

@@ -5,8 +5,7 @@ use Rattle.rows.specs.Table.{head_of}
 use Rattle.serving.specs.Serve.{Served, Refused, Done, served_table, served_reply}
 use Rattle.step.specs.Step.{Stepped, step_of}
 use Rattle.tally.specs.Counts.{counted_of}
-use Rattle.run.specs.declared.Ran.{Ran}
-use Rattle.run.specs.Run.{Stand, seen, called_on}
+use Rattle.run.specs.Run.{Ran, Stand, seen, called_on}
 
 -- what stands after the frames, and the last answer
 pub record Framed : Type 0 where
