@@ -29,23 +29,27 @@ pub record Opens (trace : List ℕ) (mode : ℕ) : Type 0 where
   pub most : length trace ≤ 65536
   pub known : (mode ≡ 1) ⊎ (mode ≡ 2)
 
-no-opening {ℓ} : {X : Type ℓ} (mode vbucket : ℕ) → None ≡ Some (record { mode = mode; vbucket = vbucket }) → X
-no-opening mode vbucket e = absurd (let y : ◌≡◌ {A = ℕ} 0 1 = cc in omega arith)
+no-opening {ℓ} : {X : Type ℓ} (o : Opening) → None ≡ Some o → X
+no-opening o e = absurd (let y : ◌≡◌ {A = ℕ} 0 1 = cc in omega arith)
+
+abbrev mode_in : Option Opening → ℕ
+mode_in None = 0
+mode_in (Some o) = o.mode
 
 pub opens : (trace : List ℕ) (mode vbucket : ℕ) → opening_of trace ≡ Some (record { mode = mode; vbucket = vbucket }) → Opens trace mode
 unfolding opening_of
 opens trace mode vbucket e =
-    cond-elim (ltb 65536 (length trace)) _ _ _ e (λ t z. no-opening mode vbucket z)
-    (λ t e. cond-elim (ltb (length trace) 3) _ _ _ e (λ u z. no-opening mode vbucket z)
+    cond-elim (ltb 65536 (length trace)) _ _ _ e (λ t z. no-opening _ z)
+    (λ t e. cond-elim (ltb (length trace) 3) _ _ _ e (λ u z. no-opening _ z)
     (λ u e. cond-elim (eqb (num trace 0 1) 1 || eqb (num trace 0 1) 2) _ _ _ e
     (λ v z.
-    let m : num trace 0 1 ≡ mode = cc in
+    let m : num trace 0 1 ≡ mode = ap mode_in z in
     record {
       least = ltb-false _ _ u;
       most = ltb-false _ _ t;
       known = subst (λ (n : ℕ). (n ≡ 1) ⊎ (n ≡ 2)) m (mode-known (num trace 0 1) v);
     })
-    (λ v z. no-opening mode vbucket z)))
+    (λ v z. no-opening _ z)))
 
 -- a table is made in either mode, and is sound in both engines
 module _ (b : List ℕ) (mode vbucket : ℕ) (n : length b ≡ 42000) where

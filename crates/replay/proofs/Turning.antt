@@ -22,8 +22,10 @@ use Rattle.trace.specs.declared.Field.TheVariants.{Clock, Frame, Reply, Purge, R
 use Rattle.trace.specs.Trace.{length_in, bytes_held, field_at, is_broken}
 use Rattle.trace.proofs.Fields.{Says, field-says, field-inside}
 use Rattle.replay.specs.declared.Progress.{Progress}
-use Rattle.replay.specs.declared.Step.{Step}
-use Rattle.replay.specs.declared.Step.TheVariants.{Goes, Ends}
+use Rattle.std.specs.declared.result.Result.{Result}
+use Rattle.std.specs.declared.result.Result.TheVariants.{Ok, Err}
+use Rattle.replay.specs.declared.ReplayError.{ReplayError}
+use Rattle.replay.specs.declared.ReplayError.TheVariants.{Differs as DiffersAt, Stopped as StoppedAt}
 use Rattle.replay.specs.Replay.{Stopped, On, on_field}
 use Rattle.replay.specs.Turns.{voyage_of, turn_of, passed, Leads, FrameTurns, Turns, reply_step}
 
@@ -45,24 +47,24 @@ module _ (at : ℕ) (s : List ℕ) where
 
 module _ (config : Config) (b s out : List ℕ) (p : Progress) (sb : sound_by config b ≡ true) where
   pub clock-turns : (clock : ℕ) → field_at p.at s ≡ Some (Clock clock)
-      → Turns config b s out p (Goes (record { at = p.at + 3 + 4; clock = clock; frames = p.frames; filled = p.filled })) b out
+      → Turns config b s out p (Ok (record { at = p.at + 3 + 4; clock = clock; frames = p.frames; filled = p.filled })) b out
   clock-turns clock e = record { turn = rw e refl; leads = (omega (arith, says p.at s (Some (Clock clock)) e), omega arith); sound = sb }
 
-  pub rule-turns : (forcing : Bool) (q : Progress) → field_at p.at s ≡ Some (Rule forcing) → q ≡ passed p 1 → Turns config b s out p (Goes q) b out
+  pub rule-turns : (forcing : Bool) (q : Progress) → field_at p.at s ≡ Some (Rule forcing) → q ≡ passed p 1 → Turns config b s out p (Ok q) b out
   rule-turns forcing q e y =
       let l = says p.at s (Some (Rule forcing)) e in
-      subst (λ (z : Progress). Turns config b s out p (Goes z) b out) (sym y) (record { turn = rw e refl; leads = (omega (arith, l), omega arith); sound = sb })
+      subst (λ (z : Progress). Turns config b s out p (Ok z) b out) (sym y) (record { turn = rw e refl; leads = (omega (arith, l), omega arith); sound = sb })
 
-  pub broken-turns : field_at p.at s ≡ None → Turns config b s out p (Ends (Stopped p.at)) b out
+  pub broken-turns : field_at p.at s ≡ None → Turns config b s out p (Err (StoppedAt p.at)) b out
   broken-turns e = record { turn = rw e refl; leads = refl; sound = sb }
 
-  pub frame-turns : (len : ℕ) (frame : List ℕ) (r : Step) (b' out' : List ℕ) → field_at p.at s ≡ Some (Frame len) → frame ≡ part s 3 len
+  pub frame-turns : (len : ℕ) (frame : List ℕ) (r : Result Progress ReplayError) (b' out' : List ℕ) → field_at p.at s ≡ Some (Frame len) → frame ≡ part s 3 len
       → FrameTurns config b frame out p r b' out' → Turns config b s out p r b' out'
   frame-turns len frame r b' out' e x q =
       let l = says p.at s (Some (Frame len)) e in
       let g = held p.at s (Some (Frame len)) len frame e refl l x in
       let k = held-length p.at s (Some (Frame len)) len frame e refl l x in
-      let h : Frame (length frame) ≡ field_at p.at s = ap Frame (k ∙ l) ∙ sym e in
+      let h : Some (Frame (length frame)) ≡ field_at p.at s = ap (λ (n : ℕ). Some (Frame n)) (k ∙ l) ∙ sym e in
       record {
         turn = q.turn ∙ (λ i. on_field config p.at (voyage_of b out p) (h i) (g i));
         leads = subst (λ (n : ℕ). Leads b p n b' r) k q.leads;
@@ -76,7 +78,7 @@ module _ (config : Config) (b s out : List ℕ) (p : Progress) (sb : sound_by co
   leads-reply : (n : ℕ) (sent : Bool) → n ≡ length_in s → Leads b p (length_in s) b (reply_step sent n p)
   leads-reply n sent l = cases (eqb p.frames 0) (λ t. rw t refl) (λ t. cases sent (λ u. rw (t, u) (omega (arith, l), omega arith)) (λ u. rw (t, u) refl))
 
-  pub reply-turns : (len : ℕ) (expected sent : List ℕ) (r : Step) → field_at p.at s ≡ Some (Reply len) → expected ≡ part s 3 len → sent ≡ part out 0 p.filled
+  pub reply-turns : (len : ℕ) (expected sent : List ℕ) (r : Result Progress ReplayError) → field_at p.at s ≡ Some (Reply len) → expected ≡ part s 3 len → sent ≡ part out 0 p.filled
       → r ≡ reply_step (same expected sent) (length expected) p → Turns config b s out p r b out
   reply-turns len expected sent r e x y q =
       let l = says p.at s (Some (Reply len)) e in
@@ -90,11 +92,11 @@ module _ (config : Config) (b s out : List ℕ) (p : Progress) (sb : sound_by co
       }
 
   pub purge-turns : (bound : Cas) (b' : List ℕ) (q : Progress) → Bytes b → p.clock < 2 ^ 32 → field_at p.at s ≡ Some (Purge bound)
-      → b' ≡ (purge_step config b p.clock bound.0).table → q ≡ passed p 8 → Turns config b s out p (Goes q) b' out
+      → b' ≡ (purge_step config b p.clock bound.0).table → q ≡ passed p 8 → Turns config b s out p (Ok q) b' out
   purge-turns bound b' q y small e w g =
       let l = says p.at s (Some (Purge bound)) e in
       let x = (purge-stepped config b p.clock bound.0 _ b' y small sb refl w).1 in
-      subst (λ (z : Progress). Turns config b s out p (Goes z) b' out) (sym g) (record {
+      subst (λ (z : Progress). Turns config b s out p (Ok z) b' out) (sym g) (record {
         turn = (λ i. On (voyage_of (x i) out (passed p 8))) ∙ (λ i. on_field config p.at (voyage_of b out p) (sym e i) (bytes_held s));
         leads = (omega (arith, l), omega arith);
         sound = ap (sound_by config) x ∙ purge-sound config b p.clock bound.0 y small sb;

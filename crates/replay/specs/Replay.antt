@@ -1,5 +1,9 @@
 -- Order 6: what replaying a trace answers, and what it leaves of the memory lent for the table; order 9: under which rule of force.
 use Rattle.std.specs.Prelude.{ℕ, ◌+◌, List, [], ◌∷◌, Bool, false, cond, length, eqb, Option, Some, None}
+use Rattle.std.specs.declared.result.Result.{Result}
+use Rattle.std.specs.declared.result.Result.TheVariants.{Ok, Err}
+use Rattle.replay.specs.declared.ReplayError.{ReplayError}
+use Rattle.replay.specs.declared.ReplayError.TheVariants.{Damaged as NotReplayed, Differs as DiffersAt, Stopped as StoppedAt}
 use Rattle.engine.specs.declared.Config.{Config}
 use Rattle.octets.specs.Compare.{same}
 use Rattle.request.specs.Reading.{Gate, Stop, Whole}
@@ -10,6 +14,23 @@ use Rattle.trace.specs.declared.Opening.{Opening}
 use Rattle.trace.specs.declared.Field.{Field}
 use Rattle.trace.specs.declared.Field.TheVariants.{Clock, Frame, Reply, Purge, Rule}
 use Rattle.trace.specs.Trace.{Placed, opening_of, forcing_in, fields_in}
+
+-- what a replay answers: outcome 5, where the lent memory is of another size; else where it ended: at the place of an expected reply that was not sent, at the place of what stopped it, or after so many frames
+pub data Ending : Type 0 where
+  Damaged : Ending
+  Differs : ℕ → Ending
+  Stopped : ℕ → Ending
+  Replayed : ℕ → Ending
+
+-- what the code answers
+abbrev pub error_told : ReplayError → Ending
+error_told NotReplayed = Damaged
+error_told (DiffersAt at) = Differs at
+error_told (StoppedAt at) = Stopped at
+
+abbrev pub ending_told : Result ℕ ReplayError → Ending
+ending_told (Ok frames) = Replayed frames
+ending_told (Err e) = error_told e
 
 -- what stands between two fields: the table's memory, the clock, the frames served so far and the last one's reply
 pub record Voyage : Type 0 where
@@ -91,7 +112,7 @@ ruled_by config trace = record { engine = config.engine; forcing = forcing_in tr
 -- "A place is [..] 0 for a bad opening or a trace over 65,536 bytes."
 abbrev pub on_opening : Config → List ℕ → List ℕ → Option Opening → After
 on_opening config b trace None = record { answer = Stopped 0; table = b }
-on_opening config b trace (Some (record { mode = mode; vbucket = vbucket })) = walked (ruled_by config trace) (set_out mode vbucket) (fields_in trace)
+on_opening config b trace (Some o) = walked (ruled_by config trace) (set_out o.mode o.vbucket) (fields_in trace)
 
 -- a table of 32 rows takes 42,000 bytes; lent memory of another size is refused as in making a table, unchanged
 unfoldable pub replayed : Config → List ℕ → List ℕ → After
