@@ -71,11 +71,11 @@ impl From<Status> for Unread {
 pub fn gate_of(received: &[u8]) -> Result<Header, Refusal>
     ensures { gate_told result ≡ gate_of received.now }
 {
-    if received.len() < 24 {
-        return Err(Refusal::Incomplete(24));
+    if received.len() < header::SIZE {
+        return Err(Refusal::Incomplete(header::SIZE));
     }
     let h = header::read(received);
-    if h.magic != 0x80 {
+    if h.magic != header::REQUEST_MAGIC {
         return Err(Refusal::BadMagic);
     }
     if LONGEST_BODY < h.body {

@@ -42,7 +42,7 @@ fn header_for(f: Fields, extras: usize, key: usize, value: usize) -> Option<Head
         return None;
     }
     Some(Header {
-        magic: 0x80,
+        magic: header::REQUEST_MAGIC,
         opcode: f.opcode,
         keylen,
         extlen,

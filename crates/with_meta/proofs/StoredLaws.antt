@@ -1,5 +1,4 @@
 -- A shape that stores something has a number of its own for it.
-use Prim.Native.Nat.{ℕ}
 use mathlib.Core.Path.{◌≡◌}
 use native.Mathlib.Omega.{arith}
 use Rattle.with_meta.specs.declared.Stored.{Stored}

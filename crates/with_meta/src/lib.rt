@@ -11,6 +11,11 @@ use numbers::{Cas, Numbers, Revision};
 // The largest CAS and revision that a request carries.
 const LARGEST_NUMBER: u64 = 0xfffffffeffffffff;
 
+const OPTION_BITS: u32 = 0x0f;
+
+// The version of extended meta.
+const VERSION: u8 = 1;
+
 // What a with-meta request leaves in its key's row.
 #[derive(Clone, Copy, Debug, PartialEq, Eq)]
 pub enum Stored {
@@ -81,7 +86,7 @@ pub fn read(extras: &[u8]) -> WithMeta
 }
 
 // Whether a field of extended meta stands at the start of s.
-#[tactic(auto, unfolding(crate::specs::Section::field_ok))]
+
 fn field_ok(s: &[u8]) -> bool
     ensures { result ≡ field_ok s.now }
 {
@@ -111,7 +116,7 @@ fn fields_ok(s: &[u8]) -> bool
 fn section_ok(s: &[u8]) -> bool
     ensures { result ≡ section_ok s.now }
 {
-    s.is_empty() || (octets::byte(s, 0) == 1 && fields_ok(octets::rest(s, 1)))
+    s.is_empty() || (octets::byte(s, 0) == VERSION && fields_ok(octets::rest(s, 1)))
 }
 
 #[tactic(auto, unfolding(crate::specs::FieldRules::numbers_ok))]
@@ -123,11 +128,12 @@ fn numbers_ok(w: WithMeta) -> bool
     1 <= cas
         && cas <= LARGEST_NUMBER
         && revision <= LARGEST_NUMBER
-        && w.options <= 0x0f
+        && w.options <= OPTION_BITS
         && (w.options / 4 % 2 == 0 || w.options / 8 % 2 == 1)
 }
 
 // n: the bytes before the extended meta.
+
 #[tactic(auto, unfolding(crate::specs::FieldRules::body_ok))]
 fn body_ok(stored: Option<Stored>, w: WithMeta, n: usize) -> bool
     ensures { result ≡ body_ok (meta_number stored) w n }

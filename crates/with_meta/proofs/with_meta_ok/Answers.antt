@@ -1,0 +1,12 @@
+use Prim.Native.Nat.{◌<◌}
+use native.Mathlib.Omega.{arith}
+use lib.ListN.{length}
+use borrow.Author.Tests.{lt-leb}
+use Rattle.with_meta.specs.FieldRules.{with_meta_ok}
+use Rattle.with_meta.proofs.with_meta_ok.Goals as goal
+
+pub returns-in_default : goal.returns-in_default
+unfolding with_meta_ok
+returns-in_default c =
+    let long : length c.args.value.now < c.args.w.section = omega (arith, c.in_default.ensures) in
+    rw (lt-leb _ _ long)
