@@ -1,8 +1,11 @@
-use Rattle.keys.proofs.KeyLaws.{side-alike}
-use mathlib.Core.Path.{◌∙◌}
+use mathlib.Core.Path.{◌≡◌, sym, ◌∙◌}
+use Rattle.std.specs.Ordering.{nat_cmp}
+use Rattle.std.specs.Cmp.Lexicographic.{slice_cmp}
+use Rattle.keys.proofs.KeyLaws.{side-is}
 use Rattle.keys.proofs.compare.Goals as goal
 
 pub returns : goal.returns
 returns c =
     let a = c.args in
-    c.side_from.ensures ∙ side-alike a.s.now a.t.now c.alike_words.result c.alike_words.ensures.1
+    let e : c.cmp.result ≡ slice_cmp nat_cmp a.s.now a.t.now = c.cmp.ensures in
+    e ∙ sym (side-is a.s.now a.t.now)
