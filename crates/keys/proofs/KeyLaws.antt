@@ -1,11 +1,16 @@
 -- Laws of specs/Keys.antt: the byte order of keys is a strict total order. It is std's order of slices, whose laws it has.
+use native.Mathlib.Omega.{arith}
 use mathlib.Core.Path.{◌≡◌, refl, sym, ap, ◌∙◌}
 use mathlib.Core.Logic.{◌⊎◌, inl, inr}
 use mathlib.Core.Bool.{true, false, ◌&&◌, ◌||◌, false≢true}
 use mathlib.Core.List.{List, [], ◌∷◌}
-use Prim.Native.Nat.{ℕ}
+use Prim.Native.Nat.{ℕ, suc, ◌+◌, ◌*◌, ◌≤◌, ◌<◌}
 use lib.Dec.{ltb, eqb}
-use borrow.Author.Tests.{eqb-true}
+use lib.ListN.{length}
+use lib.Seq.{take_all}
+use borrow.Author.Tests.{ltb-true, ltb-false, eqb-true, eqb-false, lt-ltb, le-ltb, eq-eqb, ne_eqb}
+use Rattle.octets.specs.Parts.{Bytes}
+use Rattle.octets.specs.BigEndian.{be_from, be, num}
 use Rattle.octets.specs.Compare.{same}
 use Rattle.octets.proofs.Choices.{cases}
 use Rattle.octets.proofs.Tests.{same_true, same_refl}
@@ -29,6 +34,38 @@ side-is [] [] = refl
 side-is [] (y ∷ b) = refl
 side-is (x ∷ a) [] = refl
 side-is (x ∷ a) (y ∷ b) = cases (ltb x y) (λ t. rw t) (λ f. cases (eqb x y) (λ t. rw (f, t) (side-is a b)) (λ n. rw (f, n)))
+
+-- big-endian numbers of one width come in the order of their bytes
+from-mono : (v w : ℕ) (xs ys : List ℕ) → Bytes xs → Bytes ys → length xs ≡ length ys → v < w → be_from v xs < be_from w ys
+unfolding be_from
+from-mono v w [] [] y z l h = h
+from-mono v w [] (b ∷ ys) y z l h = absurd (omega arith)
+from-mono v w (a ∷ xs) [] y z l h = absurd (omega arith)
+from-mono v w (a ∷ xs) (b ∷ ys) y z l h = from-mono (v * 256 + a) (w * 256 + b) xs ys (λ k. y (suc k)) (λ k. z (suc k)) (omega arith) (omega (arith, y 0))
+
+from-side : (v : ℕ) (xs ys : List ℕ) → Bytes xs → Bytes ys → length xs ≡ length ys → nat_cmp (be_from v xs) (be_from v ys) ≡ side_of xs ys
+unfolding be_from side_of
+from-side v [] [] y z l = rw (le-ltb v v (omega arith), eq-eqb v v refl)
+from-side v [] (b ∷ ys) y z l = absurd (omega arith)
+from-side v (a ∷ xs) [] y z l = absurd (omega arith)
+from-side v (a ∷ xs) (b ∷ ys) y z l =
+    let on : (u w : ℕ) → u < w → be_from u xs < be_from w ys = λ u w. from-mono u w xs ys (λ k. y (suc k)) (λ k. z (suc k)) (omega arith) in
+    let back : (u w : ℕ) → u < w → be_from u ys < be_from w xs = λ u w. from-mono u w ys xs (λ k. z (suc k)) (λ k. y (suc k)) (omega arith) in
+    cases (ltb a b)
+    (λ t. let h : a < b = ltb-true a b t in rw (t, lt-ltb _ _ (on (v * 256 + a) (v * 256 + b) (omega arith))))
+    (λ f. cases (eqb a b)
+    (λ t. rw (f, t, ← eqb-true a b t) (from-side (v * 256 + a) xs ys (λ k. y (suc k)) (λ k. z (suc k)) (omega arith)))
+    (λ n. let h : b < a = lt_of (ltb-false a b f) (eqb-false a b n) in
+    let g = back (v * 256 + b) (v * 256 + a) (omega arith) in
+    rw (f, n, le-ltb (be_from (v * 256 + a) xs) (be_from (v * 256 + b) ys) (omega arith), ne_eqb (be_from (v * 256 + a) xs) (be_from (v * 256 + b) ys) (λ e. omega arith))))
+  where
+    lt_of : b ≤ a → (a ≡ b → ⊥) → b < a
+    lt_of h k = cases (ltb b a) (λ t. ltb-true b a t) (λ f. absurd (k (let z = ltb-false b a f in omega arith)))
+
+pub eight-side : (s t : List ℕ) → Bytes s → Bytes t → length s ≡ 8 → length t ≡ 8 → nat_cmp (num s 0 8) (num t 0 8) ≡ side_of s t
+unfolding be
+eight-side s t y z h k =
+    (λ i. nat_cmp (be_from 0 (take_all 8 s (omega arith) i)) (be_from 0 (take_all 8 t (omega arith) i))) ∙ from-side 0 s t y z (omega arith)
 
 pub side-refl : (a : List ℕ) → side_of a a ≡ Equal
 side-refl a = side-is a a ∙ tied_itself nat_list_cmp_total a
