@@ -11,20 +11,14 @@ ghost use Rattle.octets.specs.Words.{little, word_at};
 pub fn minus(a: usize, b: usize) -> usize
     ensures { result ≡ a - b }
 {
-    if a < b {
-        return 0;
-    }
-    a - b
+    a.saturating_sub(b)
 }
 
 // The bytes from a place on.
 pub fn rest(s: &[u8], at: usize) -> &[u8]
     ensures { result.now ≡ drop at s.now }
 {
-    if at < s.len() {
-        return &s[at..];
-    }
-    &s[..0]
+    &s[at.min(s.len())..]
 }
 
 // The n bytes from a place on, or as many of them as there are.
@@ -32,26 +26,20 @@ pub fn part(s: &[u8], at: usize, n: usize) -> &[u8]
     ensures { result.now ≡ part s.now at n }
 {
     let tail = rest(s, at);
-    if n < tail.len() {
-        return &tail[..n];
-    }
-    tail
+    &tail[..n.min(tail.len())]
 }
 
 // Whether n bytes stand from a place on.
 pub fn fits(len: usize, at: usize, n: usize) -> bool
     ensures { result ≡ leb (at + n) len }
 {
-    if len < at {
-        return false;
-    }
-    n <= len - at
+    at <= len && n <= len - at
 }
 
 fn wide(x: u8) -> u64
     ensures { (result ≡ x) × (result < 256) }
 {
-    x as u64
+    u64::from(x)
 }
 
 // The number at a place, n bytes wide. The three widths below are this one.
@@ -60,10 +48,8 @@ fn number(s: &[u8], at: usize, n: usize) -> u64
     ensures { (result ≡ num s.now at n) × (result < 256 ^ n) }
 {
     let mut v: u64 = 0;
-    let mut i: usize = 0;
-    while i < n {
+    for i in 0..n {
         v = v * 256 + wide(s[at + i]);
-        i += 1;
     }
     v
 }
