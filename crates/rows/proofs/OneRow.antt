@@ -4,6 +4,7 @@ use mathlib.Core.Path.{◌≡◌, refl, ap, ◌∙◌}
 use mathlib.Core.Bool.{true, ◌&&◌}
 use mathlib.Core.List.{List, [], ◌∷◌}
 use Rattle.std.specs.Prelude.{Some, None}
+use Rattle.std.specs.Simd.{first_chunks}
 use native.Mathlib.Omega.{arith}
 use native.Mathlib.Numerals.{add-one}
 use lib.Dec.{eqb, leb}
@@ -123,3 +124,8 @@ size-most len n e = leb-true n 256 (both (leb n 256) (eqb len (16 + n * 1312)) (
 pub size_is : (len n : ℕ) → size_ok len n ≡ true → len ≡ 16 + n * 1312
 unfolding size_ok
 size_is len n e = eqb-true len (16 + n * 1312) (both (leb n 256) (eqb len (16 + n * 1312)) (both (leb 1 n) (leb n 256 && eqb len (16 + n * 1312)) e).1).1
+
+-- a slice's runs as the library cuts them
+pub runs-chunks : (n : ℕ) (b : List ℕ) → first_chunks 1312 n b ≡ chunks n b
+runs-chunks zero b = refl
+runs-chunks (suc n) b = ap (λ (rs : List (List ℕ)). take 1312 b ∷ rs) (runs-chunks n (drop 1312 b))
