@@ -47,7 +47,7 @@ pub fn free(s: &[u8]) -> Option<usize>
 fn find_key(s: &[u8], key: &[u8]) -> Option<usize>
     ensures { result ≡ key_row key.now (table_of s.now).rows }
 {
-    if key.len() == 0 {
+    if key.is_empty() {
         return None;
     }
     find(s, key)

@@ -3,9 +3,8 @@
 // inlined in it for having no other caller.
 #![tactic(auto)]
 
-ghost use Rattle.std.specs.Prelude.{◌≡◌, ◌&&◌, ◌+◌, ◌*◌, ◌≤◌, length, drop};
+ghost use Rattle.std.specs.Prelude.{◌≡◌, ◌&&◌, map};
 ghost use Rattle.rows.specs.Row.{row_of};
-ghost use Rattle.rows.specs.Table.{chunks, rows_of};
 ghost use Rattle.rows.specs.RowRules.{all_sound};
 ghost use Rattle.ordered.specs.Order.{follows};
 ghost use Rattle.row_damage.specs.Walk.{in_order, checked_rows};
