@@ -34,10 +34,8 @@ fn rows_sound(rows: &[[u8; ROW]], mark: u64, keyed: bool) -> bool
         if !rows::damage::row_sound(row, mark) {
             return false;
         }
-        if keyed & (0 < i) {
-            if !row_follows(&rows[i - 1], row) {
-                return false;
-            }
+        if keyed && 0 < i && !row_follows(&rows[i - 1], row) {
+            return false;
         }
     }
     true
