@@ -2,15 +2,15 @@
 // is found where the rows are in order is in specs/Claims.antt.
 #![tactic(auto)]
 
-ghost use Rattle.std.specs.Prelude.{◌≡◌, ◌&&◌};
+ghost use Rattle.std.specs.Prelude.{◌≡◌, map};
 ghost use Rattle.rows.specs.Row.{row_of};
 ghost use Rattle.rows.specs.Table.{table_of};
 ghost use Rattle.ordered.specs.Order.{row_side};
-ghost use Rattle.ordered_lookup.specs.Halving.{key_place, last_free, with_room, place_ordered, first_from};
+ghost use Rattle.ordered_lookup.specs.Halving.{key_place, last_free, place_ordered, first_from};
 
-use std::cmp::Ordering;
 use engine::Place;
 use rows::{FIXED, ROW};
+use std::cmp::Ordering;
 
 // On which side of a key a row stands. A free row is above every key.
 fn row_side(r: &[u8], key: &[u8]) -> Ordering

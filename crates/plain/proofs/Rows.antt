@@ -1,6 +1,7 @@
 -- The searches over rows, by a test of each row's bytes, and what a row's first bytes say.
 use Rattle.std.specs.Prelude.{is_some, Some, None}
 use Rattle.std.specs.List.{position_from}
+use Rattle.std.specs.Prelude.{is_none}
 use Prim.Native.Nat.{ℕ, ◌+◌}
 use mathlib.Core.Path.{◌≡◌, refl, ap}
 use mathlib.Core.Bool.{◌&&◌, not, cond}
@@ -13,7 +14,7 @@ use Rattle.octets.specs.Compare.{same}
 use Rattle.octets.proofs.Choices.{cases}
 use Rattle.rows.specs.Row.{Row, slot_of, key_of, row_of}
 use Rattle.rows.specs.Find.{find_row}
-use Rattle.plain.specs.Lookup.{holds, is_free, find_in, free_in, missing}
+use Rattle.plain.specs.Lookup.{holds, is_free, find_in, free_in}
 use Rattle.rows.proofs.OneRow.{row-free, row-used}
 
 -- the place of the first row that passes a test of its bytes
@@ -40,7 +41,7 @@ module _ (r : List ℕ) where
       (λ f. rw (row-used r (eqb-false (num r 0 2) 0 f), f))
 
 -- a key has no place where it has no document
-pub missing-found : (key : List ℕ) (i : ℕ) (ws : List Row) → missing (find_in key i ws) ≡ not (is_some (find_row ws key))
+pub missing-found : (key : List ℕ) (i : ℕ) (ws : List Row) → is_none (find_in key i ws) ≡ not (is_some (find_row ws key))
 missing-found key i [] = refl
 missing-found key i (None ∷ ws) = missing-found key (i + 1) ws
 missing-found key i (Some x ∷ ws) = cases (same x.key key) (λ t. rw t) (λ f. rw f (missing-found key (i + 1) ws))

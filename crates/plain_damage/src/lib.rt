@@ -2,12 +2,9 @@
 // fingerprint vectorises.
 #![tactic(auto)]
 
-ghost use Rattle.std.specs.Prelude.{◌≡◌, ◌&&◌, map, ◌+◌, ◌*◌, ◌≤◌, length, drop};
-ghost use Rattle.octets.specs.Parts.{part};
+ghost use Rattle.std.specs.Prelude.{◌≡◌, ◌&&◌, map, ◌≤◌, ◌∷◌, length};
 ghost use Rattle.rows.specs.Row.{row_of};
-ghost use Rattle.rows.specs.Table.{rows_of};
 ghost use Rattle.plain_damage.specs.Print.{row_print};
-ghost use Rattle.plain.specs.Lookup.{missing};
 ghost use Rattle.plain.specs.Damage.{distinct};
 ghost use Rattle.plain_damage.specs.Distinct.{keys_distinct};
 
@@ -24,39 +21,42 @@ fn row_print(r: &[u8]) -> u32
 }
 
 // Whether a row is free, or none of the later ones has its key: what distinct asks of it. Keys are compared only where a later
-// row has the first one's fingerprint.
-fn first_distinct(row: &[u8], later: &[[u8; ROW]], p: u32, prints: &[u32]) -> bool
+// row has its fingerprint.
+fn first_distinct(row: &[u8], later: &[[u8; ROW]], print: u32, prints: &[u32]) -> bool
+    requires { (print ≡ row_print (row_of row.now)) × (prints.now ≡ map row_print (map row_of later.now)) }
+    ensures { (result && distinct (map row_of later.now)) ≡ distinct (row_of row.now ∷ map row_of later.now) }
 {
     if octets::be16(row, 0) == 0 {
         return true;
     }
-    if !fingerprint::among(p, prints) {
+    if !fingerprint::among(print, prints) {
         return true;
     }
     let key = octets::part(row, FIXED, octets::be16(row, 2) as usize);
     plain::lookup::find_in(later, key).is_none()
 }
 
-// From the last row to the first; the fingerprints of the rows seen stand at the end of prints, and their buckets are marked
-// in seen. A row whose bucket isn't marked has a fingerprint that no later row has.
+// From the last row to the first; the fingerprints of the rows seen stand in prints, each at its row's place, and their buckets
+// are marked in seen. A row whose bucket isn't marked has a fingerprint that no later row has.
 fn rows_distinct(rows: &[[u8; ROW]]) -> bool
+    requires { length rows.now ≤ 256 }
+    ensures { result ≡ distinct (map row_of rows.now) }
 {
     if rows.len() < 2 {
         return true;
     }
+    let n = rows.len();
     let mut prints = [0u32; 256];
     let mut seen = [0u8; 1024];
-    let mut from: usize = 256;
     let mut apart = true;
-    for (i, row) in rows.iter().enumerate().rev() {
-        let p = row_print(row);
-        let b = fingerprint::bucket(p);
+    for i in (0..n).rev() {
+        let print = row_print(&rows[i]);
+        let b = fingerprint::bucket(print);
         if seen[b] != 0 {
-            apart = apart & first_distinct(row, &rows[i + 1..], p, &prints[from..]);
+            apart &= first_distinct(&rows[i], &rows[i + 1..], print, &prints[i + 1..n]);
         }
         seen[b] = 1;
-        from -= 1;
-        prints[from] = p;
+        prints[i] = print;
     }
     apart
 }

@@ -2,7 +2,7 @@
 use Prim.Native.Nat.{ℕ, zero, suc, ◌+◌, ◌-◌, ◌*◌, ◌≤◌, ◌<◌}
 use mathlib.Core.Path.{◌≡◌, refl, ap, ◌∙◌}
 use mathlib.Core.Bool.{true, ◌&&◌}
-use mathlib.Core.List.{List, [], ◌∷◌}
+use mathlib.Core.List.{List, [], ◌∷◌, map}
 use Rattle.std.specs.Prelude.{Some, None}
 use Rattle.std.specs.Simd.{first_chunks}
 use native.Mathlib.Omega.{arith}
@@ -89,7 +89,7 @@ module _ (b : List ℕ) (i : ℕ) where
   pub row-nowhere : row_count b ≤ i → row_at b i ≡ []
   row-nowhere h = chunk-none (row_count b) i (drop 16 b) h
 
-no_row : row_of [] ≡ None
+pub no_row : row_of [] ≡ None
 unfolding row_of slot_of be be_from
 no_row = refl
 
@@ -97,6 +97,10 @@ no_row = refl
 pub row-at : (b : List ℕ) (i : ℕ) → get_or (table_of b).rows i None ≡ row_of (row_at b i)
 unfolding table_of
 row-at b i = rw no_row at (get_or-map row_of (chunks (row_count b) (drop 16 b)) i [])
+
+pub all-rows : (b : List ℕ) (rs : List (List ℕ)) → rs ≡ chunks (row_count b) (drop 16 b) → map row_of rs ≡ (table_of b).rows
+unfolding table_of
+all-rows b rs e = ap (map row_of) e
 
 -- a used row's entry, whose key stands after the fixed part
 module _ (r : List ℕ) where
