@@ -20,10 +20,6 @@ abbrev pub or_else : Option ℕ → Option ℕ → Option ℕ
 or_else (Some i) f = Some i
 or_else None f = f
 
--- the whole rows of a run of bytes
-abbrev pub run_rows : List ℕ → List Row
-run_rows b = rows_of (length b / 1312) b
-
 -- the place of the first row that holds the key, and of the first free row, counted from i
 abbrev pub find_in : List ℕ → ℕ → List Row → Option ℕ
 find_in key i [] = None
@@ -36,10 +32,6 @@ free_in i (w ∷ ws) = cond (is_free w) (Some i) (free_in (i + 1) ws)
 -- the key's row, else the lowest free row
 abbrev pub place_in : List ℕ → List Row → Option ℕ
 place_in key ws = or_else (find_in key 0 ws) (free_in 0 ws)
-
-abbrev pub missing : Option ℕ → Bool
-missing (Some i) = false
-missing None = true
 
 -- a new row's place, and the place of a key's document: over its row, else a new row's
 abbrev pub free_place : Option ℕ → Place

@@ -2,8 +2,9 @@
 use Prim.Native.Nat.{ℕ, zero, suc, ◌+◌, ◌-◌, ◌*◌, ◌≤◌, ◌<◌}
 use mathlib.Core.Path.{◌≡◌, refl, ap, ◌∙◌}
 use mathlib.Core.Bool.{true, ◌&&◌}
-use mathlib.Core.List.{List, [], ◌∷◌}
+use mathlib.Core.List.{List, [], ◌∷◌, map}
 use Rattle.std.specs.Prelude.{Some, None}
+use Rattle.std.specs.Simd.{first_chunks}
 use native.Mathlib.Omega.{arith}
 use native.Mathlib.Numerals.{add-one}
 use lib.Dec.{eqb, leb}
@@ -88,7 +89,7 @@ module _ (b : List ℕ) (i : ℕ) where
   pub row-nowhere : row_count b ≤ i → row_at b i ≡ []
   row-nowhere h = chunk-none (row_count b) i (drop 16 b) h
 
-no_row : row_of [] ≡ None
+pub no_row : row_of [] ≡ None
 unfolding row_of slot_of be be_from
 no_row = refl
 
@@ -96,6 +97,10 @@ no_row = refl
 pub row-at : (b : List ℕ) (i : ℕ) → get_or (table_of b).rows i None ≡ row_of (row_at b i)
 unfolding table_of
 row-at b i = rw no_row at (get_or-map row_of (chunks (row_count b) (drop 16 b)) i [])
+
+pub all-rows : (b : List ℕ) (rs : List (List ℕ)) → rs ≡ chunks (row_count b) (drop 16 b) → map row_of rs ≡ (table_of b).rows
+unfolding table_of
+all-rows b rs e = ap (map row_of) e
 
 -- a used row's entry, whose key stands after the fixed part
 module _ (r : List ℕ) where
@@ -123,3 +128,8 @@ size-most len n e = leb-true n 256 (both (leb n 256) (eqb len (16 + n * 1312)) (
 pub size_is : (len n : ℕ) → size_ok len n ≡ true → len ≡ 16 + n * 1312
 unfolding size_ok
 size_is len n e = eqb-true len (16 + n * 1312) (both (leb n 256) (eqb len (16 + n * 1312)) (both (leb 1 n) (leb n 256 && eqb len (16 + n * 1312)) e).1).1
+
+-- a slice's runs as the library cuts them
+pub runs-chunks : (n : ℕ) (b : List ℕ) → first_chunks 1312 n b ≡ chunks n b
+runs-chunks zero b = refl
+runs-chunks (suc n) b = ap (λ (rs : List (List ℕ)). take 1312 b ∷ rs) (runs-chunks n (drop 1312 b))

@@ -5,8 +5,8 @@
 pub mod damage;
 pub mod row;
 
-ghost use Rattle.std.specs.Prelude.{◌≡◌, ◌-◌, ◌/◌};
-ghost use Rattle.rows.specs.Table.{head_of};
+ghost use Rattle.std.specs.Prelude.{◌≡◌, ◌-◌, ◌/◌, length, drop};
+ghost use Rattle.rows.specs.Table.{head_of, chunks, row_count};
 
 use document::Head;
 use numbers::{Cas, Numbers};
@@ -41,6 +41,13 @@ pub fn head_of(s: &[u8]) -> Head
         clock: octets::be32(s, 4),
         mark: Cas(octets::be64(s, 8)),
     }
+}
+
+// The rows of a table.
+pub fn all(s: &[u8]) -> &[[u8; ROW]]
+    ensures { (result.now ≡ chunks (row_count s.now) (drop 16 s.now)) × (length result.now ≡ row_count s.now) }
+{
+    octets::rest(s, HEADER).as_chunks::<ROW>().0
 }
 
 // How many rows memory of this size has.

@@ -1,12 +1,10 @@
-use Rattle.rows.specs.Row.{slot_of, doc_of}
+use mathlib.Core.Path.{ap}
+use Rattle.document.specs.declared.Metadata.{Metadata}
+use Rattle.rows.specs.declared.Slot.{Slot}
+use Rattle.rows.specs.Row.{doc_of}
+use lib.Dec.{eqb}
 use Rattle.rows.proofs.row.metadata.Goals as goal
 
 pub returns : goal.returns
-unfolding doc_of slot_of
-returns c = simp (
-  c.be16.ensures,
-  c.be32.ensures,
-  c.be32-2.ensures,
-  c.be64.ensures,
-  c.be64-2.ensures,
-)
+unfolding doc_of
+returns c = rw c.slot-s.ensures
