@@ -1,5 +1,6 @@
 // Bytes in hexadecimal, with blanks between them where wanted: xx is one byte, and xx*N the same byte N times.
-ghost use Rattle.std.specs.Prelude.{◌≡◌, ◌<◌, ◌≤◌, length, IfSome};
+ghost use Rattle.std.specs.Prelude.{◌≡◌, ◌<◌, ◌≤◌, ◌==◌, min, length, IfSome};
+ghost use Rattle.std.specs.List.{list_all};
 ghost use Rattle.vector_text.specs.Hexadecimal.{digit_of, byte_of};
 
 use crate::numbers;
@@ -81,7 +82,9 @@ fn first_run(s: &[u8], times: Times) -> Option<Run<'_>>
 }
 
 // Puts a byte so many times at a place, as far as they fit, and answers where they end.
-fn put_run(out: &mut [u8], at: usize, byte: u8, times: usize) -> usize {
+fn put_run(out: &mut [u8], at: usize, byte: u8, times: usize) -> usize
+    ensures { min at (length out.old) ≤ result }
+{
     let end = at.saturating_add(times).min(out.len());
     if let Some(room) = out.get_mut(at..end) {
         room.fill(byte);
@@ -92,7 +95,7 @@ fn put_run(out: &mut [u8], at: usize, byte: u8, times: usize) -> usize {
 // Puts the bytes that a text spells at a place, and answers where they end. Where they fill out to its end, they may have been more.
 pub fn put(out: &mut [u8], from: usize, s: &[u8], times: Times) -> Option<usize>
     ensures len { length out.new ≡ length out.old }
-    ensures end { IfSome result (λ end. end < length out.old) }
+    ensures end { IfSome result (λ end. (from ≤ end) × (end < length out.old)) }
 {
     let mut end = from;
     let mut left = s;
@@ -107,7 +110,15 @@ pub fn put(out: &mut [u8], from: usize, s: &[u8], times: Times) -> Option<usize>
     Some(end)
 }
 
+// The bytes that a text spells, put at the start of a space that is longer than they are.
+pub fn spelled<'a>(space: &'a mut [u8], s: &[u8], times: Times) -> Option<&'a [u8]> {
+    let end = put(space, 0, s, times)?;
+    Some(&space[..end])
+}
+
 // Whether all bytes are such a one.
-pub fn are_all(s: &[u8], byte: u8) -> bool {
+pub fn are_all(s: &[u8], byte: u8) -> bool
+    ensures { result ≡ list_all (λ b. b == byte) s.now }
+{
     s.iter().all(|b| *b == byte)
 }

@@ -47,6 +47,10 @@ pub fn all<const N: usize, F: Fn(&[u8]) -> Option<u64>>(s: &[u8], number: F) -> 
     Some(values)
 }
 
+pub fn decimals<const N: usize>(s: &[u8]) -> Option<[u64; N]> {
+    all(s, decimal)
+}
+
 // The lowest bits of a number.
 pub fn low8(n: u64) -> u8
     ensures { result ≡ n % 0x100 }
