@@ -38,6 +38,23 @@ pub(crate) struct Session {
     pub(crate) recorder: Recorder,
 }
 
+// The memory that is lent to serve in: the table's, and room for replies. Room for received bytes is a parameter of its own, since the
+// proof has no rule for a field that is read while another one is written.
+#[derive(Drop)]
+pub(crate) struct Lent<'a> {
+    pub(crate) table: &'a mut [u8],
+    pub(crate) replies: &'a mut [u8],
+}
+
+// Where frames come from, where replies go, where both are recorded, and by which clock.
+#[derive(Drop)]
+pub(crate) struct Streams<'a, C, R, W, T> {
+    pub(crate) clock: &'a C,
+    pub(crate) input: &'a mut R,
+    pub(crate) output: &'a mut W,
+    pub(crate) trace: &'a mut T,
+}
+
 fn held_of(received: &[u8], h: Held) -> &[u8]
     ensures { result.now ≡ held_of h received.now }
 {
@@ -202,41 +219,51 @@ fn serve_first<W: Write, T: Write>(
 }
 
 // Serves what is held, on rows in key order: all frames at once, or one by one where they are recorded.
-fn serve_some<C: Clock, W: Write, T: Write>(
-    clock: &C,
-    output: &mut W,
-    trace: &mut T,
-    table: &mut [u8],
+fn serve_some<C: Clock, R: Read, W: Write, T: Write>(
+    streams: &mut Streams<C, R, W, T>,
+    lent: &mut Lent,
     received: &[u8],
-    replies: &mut [u8],
     s: Session,
 ) -> Session
     ensures { Waits result.next (held_of result.held received.now) }
 {
     let config = engine::config_for(false);
-    let now = clock::now(clock);
+    let now = clock::now(streams.clock);
     if recorder::is_on(s.recorder) {
-        return serve_first(config, output, trace, table, now, received, replies, s);
+        return serve_first(
+            config,
+            streams.output,
+            streams.trace,
+            lent.table,
+            now,
+            received,
+            lent.replies,
+            s,
+        );
     }
-    serve_held(config, output, table, now, received, replies, s)
+    serve_held(
+        config,
+        streams.output,
+        lent.table,
+        now,
+        received,
+        lent.replies,
+        s,
+    )
 }
 
 fn turn<C: Clock, R: Read, W: Write, T: Write>(
-    clock: &C,
-    input: &mut R,
-    output: &mut W,
-    trace: &mut T,
-    table: &mut [u8],
+    streams: &mut Streams<C, R, W, T>,
+    lent: &mut Lent,
     received: &mut [u8],
-    replies: &mut [u8],
     s: Session,
 ) -> Session
     requires { (1424 ≤ length received.old) × Waits s.next (held_of s.held received.old) }
     ensures { Waits result.next (held_of result.held received.new) }
 {
     match s.next {
-        Next::Receive => receive_on(input, received, s),
-        Next::Serve => serve_some(clock, output, trace, table, received, replies, s),
+        Next::Receive => receive_on(streams.input, received, s),
+        Next::Serve => serve_some(streams, lent, received, s),
         Next::Close => s,
     }
 }
@@ -244,13 +271,9 @@ fn turn<C: Clock, R: Read, W: Write, T: Write>(
 // Serves the input to its end. A proved loop has to end, and nothing says that an input does, so the turns are counted up to a number
 // that no input uses up.
 pub(crate) fn serve_input<C: Clock, R: Read, W: Write, T: Write>(
-    clock: &C,
-    input: &mut R,
-    output: &mut W,
-    trace: &mut T,
-    table: &mut [u8],
+    streams: &mut Streams<C, R, W, T>,
+    lent: &mut Lent,
     received: &mut [u8],
-    replies: &mut [u8],
     recorder: Recorder,
 ) -> Session
     requires { 1424 ≤ length received.old }
@@ -269,7 +292,7 @@ pub(crate) fn serve_input<C: Clock, R: Read, W: Write, T: Write>(
         if matches!(s.next, Next::Close) {
             break;
         }
-        s = turn(clock, input, output, trace, table, received, replies, s);
+        s = turn(streams, lent, received, s);
     }
     s
 }

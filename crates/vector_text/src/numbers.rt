@@ -1,7 +1,7 @@
 // Numbers that words spell.
 ghost use Rattle.std.specs.Prelude.{◌≡◌, ◌%◌, ◌<◌, ◌≤◌, length};
 ghost use Rattle.digits.specs.Decimal.{number_of};
-ghost use Rattle.vector_text.specs.Numbers.{value_of};
+ghost use Rattle.vector_text.specs.Numbers.{value_of, leading_value, leading_left};
 
 use crate::parts::words;
 use digits::Number;
@@ -18,9 +18,12 @@ pub fn decimal(word: &[u8]) -> Option<u64>
 
 // The decimal number at the start of a text, 0 where no digit stands there, and what follows it. Digits that would carry it past
 // 99,999 are left.
+#[tactic(auto, using(crate::proofs::Leading::value_step, crate::proofs::Leading::left_step))]
 pub fn leading(s: &[u8]) -> (usize, &[u8])
-    ensures value { result.0 < 100000 }
-    ensures left { length result.1.now ≤ length s.now }
+    ensures small { result.0 < 100000 }
+    ensures shorter { length result.1.now ≤ length s.now }
+    ensures value { result.0 ≡ leading_value 0 s.now }
+    ensures left { result.1.now ≡ leading_left 0 s.now }
 {
     let mut value = 0;
     for (i, &c) in s.iter().enumerate() {
