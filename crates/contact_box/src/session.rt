@@ -38,6 +38,23 @@ pub(crate) struct Session {
     pub(crate) recorder: Recorder,
 }
 
+// The memory that is lent to serve in: the table's, and room for replies. Room for received bytes is a parameter of its own, since the
+// proof has no rule for a field that is read while another one is written.
+#[derive(Drop)]
+pub(crate) struct Lent<'a> {
+    pub(crate) table: &'a mut [u8],
+    pub(crate) replies: &'a mut [u8],
+}
+
+// Where frames come from, where replies go, where both are recorded, and by which clock.
+#[derive(Drop)]
+pub(crate) struct Streams<'a, C, R, W, T> {
+    pub(crate) clock: &'a C,
+    pub(crate) input: &'a mut R,
+    pub(crate) output: &'a mut W,
+    pub(crate) trace: &'a mut T,
+}
+
 fn held_of(received: &[u8], h: Held) -> &[u8]
     ensures { result.now ≡ held_of h received.now }
 {
@@ -62,10 +79,7 @@ fn receive<R: Read>(input: &mut R, received: &mut [u8], held: usize) -> usize
     ensures came { Consumes (R.remaining input.old) (R.remaining input.new) (take result (drop held received.new)) }
 {
     let space = &mut received[held..];
-    match input.read(space) {
-        Ok(n) => n,
-        Err(_) => 0,
-    }
+    input.read(space).unwrap_or(0)
 }
 
 // Moves the bytes held to the start, and answers how many they are. They go by an array, which the compiler knows to be apart from them.
@@ -74,7 +88,7 @@ fn keep(received: &mut [u8], h: Held) -> usize
     ensures { (result ≡ length (held_of h received.old)) × (take result received.new ≡ held_of h received.old) }
 {
     let held = held_of(received, h);
-    if held.len() == 0 {
+    if held.is_empty() {
         return 0;
     }
     let mut left = [0u8; 1424];
@@ -91,8 +105,6 @@ fn receive_on<R: Read>(input: &mut R, received: &mut [u8], s: Session) -> Sessio
     ensures came { Consumes (R.remaining input.old) (R.remaining input.new)
         (drop (length (held_of s.held received.old)) (held_of result.held received.new)) }
 {
-    let tally = s.tally;
-    let recorder = s.recorder;
     let left = keep(received, s.held);
     let came = receive(input, received, left);
     let held = Held {
@@ -100,19 +112,11 @@ fn receive_on<R: Read>(input: &mut R, received: &mut [u8], s: Session) -> Sessio
         end: left + came,
     };
     if came == 0 {
-        return Session {
-            held,
-            tally,
-            next: Next::Close,
-            recorder,
-        };
+        let next = Next::Close;
+        return Session { held, next, ..s };
     }
-    Session {
-        held,
-        tally,
-        next: Next::Serve,
-        recorder,
-    }
+    let next = Next::Serve;
+    Session { held, next, ..s }
 }
 
 // What is next after an answer, where what was sent was written or not.
@@ -150,18 +154,14 @@ fn serve_held<W: Write>(
         (W.contents output.old) (W.contents output.new) result.next }
 {
     let held = s.held;
-    let recorder = s.recorder;
     let run = held_of(received, held);
     let ran = run::serve_run(config, table, clock, run, replies, s.tally);
     let written = writing::all(output, octets::part(replies, 0, ran.filled));
-    let cursor = ran.cursor;
-    let tally = ran.tally;
-    let stop = ran.stop;
     Session {
-        held: past(held, cursor.at),
-        tally,
-        next: next_after(stop, written),
-        recorder,
+        held: past(held, ran.cursor.at),
+        tally: ran.tally,
+        next: next_after(ran.stop, written),
+        ..s
     }
 }
 
@@ -219,72 +219,67 @@ fn serve_first<W: Write, T: Write>(
 }
 
 // Serves what is held, on rows in key order: all frames at once, or one by one where they are recorded.
-fn serve_some<C: Clock, W: Write, T: Write>(
-    clock: &C,
-    output: &mut W,
-    trace: &mut T,
-    table: &mut [u8],
+fn serve_some<C: Clock, R: Read, W: Write, T: Write>(
+    streams: &mut Streams<C, R, W, T>,
+    lent: &mut Lent,
     received: &[u8],
-    replies: &mut [u8],
     s: Session,
 ) -> Session
     ensures { Waits result.next (held_of result.held received.now) }
 {
     let config = engine::config_for(false);
-    let now = clock::now(clock);
+    let now = clock::now(streams.clock);
     if recorder::is_on(s.recorder) {
-        return serve_first(config, output, trace, table, now, received, replies, s);
+        return serve_first(
+            config,
+            streams.output,
+            streams.trace,
+            lent.table,
+            now,
+            received,
+            lent.replies,
+            s,
+        );
     }
-    serve_held(config, output, table, now, received, replies, s)
+    serve_held(
+        config,
+        streams.output,
+        lent.table,
+        now,
+        received,
+        lent.replies,
+        s,
+    )
 }
 
 fn turn<C: Clock, R: Read, W: Write, T: Write>(
-    clock: &C,
-    input: &mut R,
-    output: &mut W,
-    trace: &mut T,
-    table: &mut [u8],
+    streams: &mut Streams<C, R, W, T>,
+    lent: &mut Lent,
     received: &mut [u8],
-    replies: &mut [u8],
     s: Session,
 ) -> Session
     requires { (1424 ≤ length received.old) × Waits s.next (held_of s.held received.old) }
     ensures { Waits result.next (held_of result.held received.new) }
 {
-    let next = s.next;
-    match next {
-        Next::Receive => receive_on(input, received, s),
-        Next::Serve => serve_some(clock, output, trace, table, received, replies, s),
+    match s.next {
+        Next::Receive => receive_on(streams.input, received, s),
+        Next::Serve => serve_some(streams, lent, received, s),
         Next::Close => s,
     }
 }
 
-fn is_open(s: Session) -> bool {
-    let next = s.next;
-    match next {
-        Next::Receive => true,
-        Next::Serve => true,
-        Next::Close => false,
-    }
-}
-
-// Serves the input to its end. A proved loop has to end, and nothing says that an input does, so the turns are counted down from a number
+// Serves the input to its end. A proved loop has to end, and nothing says that an input does, so the turns are counted up to a number
 // that no input uses up.
 pub(crate) fn serve_input<C: Clock, R: Read, W: Write, T: Write>(
-    clock: &C,
-    input: &mut R,
-    output: &mut W,
-    trace: &mut T,
-    table: &mut [u8],
+    streams: &mut Streams<C, R, W, T>,
+    lent: &mut Lent,
     received: &mut [u8],
-    replies: &mut [u8],
     recorder: Recorder,
 ) -> Session
     requires { 1424 ≤ length received.old }
 {
-    let held = Held { at: 0, end: 0 };
     let mut s = Session {
-        held,
+        held: Held { at: 0, end: 0 },
         tally: Tally {
             served: 0,
             refused: 0,
@@ -293,10 +288,11 @@ pub(crate) fn serve_input<C: Clock, R: Read, W: Write, T: Write>(
         next: Next::Receive,
         recorder,
     };
-    let mut turns = u64::MAX;
-    while 0 < turns && is_open(s) {
-        s = turn(clock, input, output, trace, table, received, replies, s);
-        turns -= 1;
+    for _ in 0..u64::MAX {
+        if matches!(s.next, Next::Close) {
+            break;
+        }
+        s = turn(streams, lent, received, s);
     }
     s
 }

@@ -34,14 +34,6 @@ pub(crate) fn fresh(boat: &mut [u8]) {
     owner::make(boat, ROWS, ACTIVE, BY_REVISION, VBUCKET);
 }
 
-fn size(w: Written) -> usize {
-    match w {
-        Written::Refused => 0,
-        Written::NoRoom => 0,
-        Written::Wrote(n) => n,
-    }
-}
-
 // Serves a request with these parts. Parts that the writer refuses make no frame, and serving says that there is none.
 pub(crate) fn send(
     boat: &mut [u8],
@@ -51,21 +43,23 @@ pub(crate) fn send(
     value: &[u8],
     reply: &mut [u8],
 ) -> Served {
-    let cas = call.cas;
-    let f = Fields {
+    let fields = Fields {
         opcode: call.opcode,
         datatype: 0,
         vbucket: VBUCKET,
         opaque: 0,
-        cas,
+        cas: call.cas,
     };
     let mut frame = [0u8; 256];
-    let n = size(request_writer::write(f, extras, key, value, &mut frame));
+    let len = match request_writer::write(fields, extras, key, value, &mut frame) {
+        Written::Wrote(n) => n,
+        Written::Refused | Written::NoRoom => 0,
+    };
     serve::serve_one(
         config(),
         boat,
         call.clock,
-        octets::part(&frame, 0, n),
+        octets::part(&frame, 0, len),
         reply,
     )
 }

@@ -1,0 +1,74 @@
+// Numbers that words spell.
+ghost use Rattle.std.specs.Prelude.{◌≡◌, ◌%◌, ◌<◌, ◌≤◌, length};
+ghost use Rattle.digits.specs.Decimal.{number_of};
+ghost use Rattle.vector_text.specs.Numbers.{value_of, leading_value, leading_left};
+
+use crate::parts::words;
+use digits::Number;
+
+// The number that 1 to 20 decimal digits say, where it is under 2^64.
+pub fn decimal(word: &[u8]) -> Option<u64>
+    ensures { result ≡ value_of (number_of word.now) }
+{
+    match digits::parse(word) {
+        Number::Value(n) => Some(n),
+        Number::NoNumber => None,
+    }
+}
+
+// The decimal number at the start of a text, 0 where no digit stands there, and what follows it. Digits that would carry it past
+// 99,999 are left.
+#[tactic(auto, using(crate::proofs::Leading::value_step, crate::proofs::Leading::left_step))]
+pub fn leading(s: &[u8]) -> (usize, &[u8])
+    ensures small { result.0 < 100000 }
+    ensures shorter { length result.1.now ≤ length s.now }
+    ensures value { result.0 ≡ leading_value 0 s.now }
+    ensures left { result.1.now ≡ leading_left 0 s.now }
+{
+    let mut value = 0;
+    for (i, &c) in s.iter().enumerate() {
+        if 10000 <= value || !c.is_ascii_digit() {
+            return (value, octets::rest(s, i));
+        }
+        value = value * 10 + usize::from(c - b'0');
+    }
+    (value, b"")
+}
+
+// The numbers that words spell, where there are so many and each is one.
+pub fn all<const N: usize, F: Fn(&[u8]) -> Option<u64>>(s: &[u8], number: F) -> Option<[u64; N]>
+    requires { F.IsAlwaysCallable number }
+{
+    let mut values = [0u64; N];
+    let mut words = words(s);
+    for value in values.iter_mut() {
+        *value = number(words.next()?)?;
+    }
+    if words.next().is_some() {
+        return None;
+    }
+    Some(values)
+}
+
+pub fn decimals<const N: usize>(s: &[u8]) -> Option<[u64; N]> {
+    all(s, decimal)
+}
+
+// The lowest bits of a number.
+pub fn low8(n: u64) -> u8
+    ensures { result ≡ n % 0x100 }
+{
+    (n % 0x100) as u8
+}
+
+pub fn low16(n: u64) -> u16
+    ensures { result ≡ n % 0x10000 }
+{
+    (n % 0x10000) as u16
+}
+
+pub fn low32(n: u64) -> u32
+    ensures { result ≡ n % 0x100000000 }
+{
+    (n % 0x100000000) as u32
+}
