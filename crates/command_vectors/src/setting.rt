@@ -1,7 +1,7 @@
 // What a request is decided on, and the lines that set it.
 use crate::words;
 use commands::Context;
-use document::{Head, Metadata, Stored};
+use document::{Head, Metadata};
 use numbers::{Cas, Numbers, Revision};
 use vector_text::numbers::{low8, low16, low32};
 use vector_text::parts::cut;
@@ -16,7 +16,7 @@ pub(crate) fn first() -> Context {
             clock: 0,
             mark: Cas(0),
         },
-        row: Stored::Nothing,
+        row: None,
         free: true,
         clock: 0,
         number: digits::parse(b""),
@@ -25,7 +25,7 @@ pub(crate) fn first() -> Context {
 }
 
 // value: the stored one
-fn with_row(t: Context, row: Stored, value: &[u8]) -> Context {
+fn with_row(t: Context, row: Option<Metadata>, value: &[u8]) -> Context {
     Context {
         row,
         number: digits::parse(value),
@@ -34,9 +34,9 @@ fn with_row(t: Context, row: Stored, value: &[u8]) -> Context {
     }
 }
 
-fn document(fields: &[u8]) -> Option<Stored> {
+fn document(fields: &[u8]) -> Option<Metadata> {
     let [flags, expiry, revision, cas] = words::all::<4>(fields)?;
-    Some(Stored::Used(Metadata {
+    Some(Metadata {
         tomb: false,
         numbers: Numbers {
             flags: low32(flags),
@@ -44,12 +44,12 @@ fn document(fields: &[u8]) -> Option<Stored> {
             revision: Revision(revision),
             cas: Cas(cas),
         },
-    }))
+    })
 }
 
-fn tombstone(fields: &[u8]) -> Option<Stored> {
+fn tombstone(fields: &[u8]) -> Option<Metadata> {
     let [revision, cas] = words::all::<2>(fields)?;
-    Some(Stored::Used(Metadata {
+    Some(Metadata {
         tomb: true,
         numbers: Numbers {
             flags: 0,
@@ -57,19 +57,19 @@ fn tombstone(fields: &[u8]) -> Option<Stored> {
             revision: Revision(revision),
             cas: Cas(cas),
         },
-    }))
+    })
 }
 
 fn with_row_spelled(row: &[u8], t: Context) -> Option<Context> {
     let (word, rest) = cut(row, b' ');
     match word {
-        b"tomb" => Some(with_row(t, tombstone(rest)?, b"")),
+        b"tomb" => Some(with_row(t, Some(tombstone(rest)?), b"")),
         b"doc" => {
             let (fields, quoted) = cut(rest, b'\'');
             let (value, _) = cut(quoted, b'\'');
-            Some(with_row(t, document(fields)?, value))
+            Some(with_row(t, Some(document(fields)?), value))
         }
-        _ if matches!(row, b"none") => Some(with_row(t, Stored::Nothing, b"")),
+        _ if matches!(row, b"none") => Some(with_row(t, None, b"")),
         _ => None,
     }
 }

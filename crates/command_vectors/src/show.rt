@@ -1,6 +1,6 @@
 // What is printed of a decision.
 use decision::Decision;
-use document::{Head, Metadata, Side, Stored};
+use document::{Head, Metadata, Side};
 use effects::{Reply, Source};
 use numbers::Numbers;
 use vector_text::show::{decimal, hexadecimal, text};
@@ -66,11 +66,11 @@ fn same_but_mark(a: Head, b: Head) -> bool {
 
 // The head is the one that was decided on.
 pub(crate) fn decision(head: Head, d: Decision) {
-    hexadecimal(b"status 0x", u64::from(d.status), 2);
+    hexadecimal(b"status 0x", u64::from(outcome::status_of(d.status)), 2);
     if d.silent {
         text(b" silent");
     }
-    if let Stored::Used(stored) = d.done.store {
+    if let Some(stored) = d.done.store {
         held(stored);
         source(d.done.source);
     }

@@ -2,7 +2,6 @@
 ghost use Rattle.std.specs.Prelude.{◌≡◌, IfOk};
 ghost use Rattle.contact_box.specs.Arguments.{mode_number, Fits, Allowed};
 
-use digits::Number;
 use std::env::{Env, FillError};
 use std::fmt;
 
@@ -73,8 +72,8 @@ fn number_at(args: &impl Env, i: usize) -> Option<u64> {
     let mut word = [0u8; 32];
     let n = args.arg(i, &mut word).ok()?;
     match digits::parse(&word[..n]) {
-        Number::Value(number) => Some(number),
-        Number::NoNumber => None,
+        Some(number) => Some(number),
+        None => None,
     }
 }
 

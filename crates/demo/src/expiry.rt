@@ -2,8 +2,9 @@
 use crate::frames::Call;
 use crate::tell::Line;
 use crate::{frames, tell};
-use numbers::{Cas, Left};
-use owning::{Document, Purged};
+use numbers::Cas;
+use outcome::{Refusal, Status};
+use owning::{Document, ReadError};
 
 const SET_AT: u32 = 1000000;
 
@@ -158,22 +159,24 @@ fn put_read(line: &mut Line, column: usize, clock: u32) {
     set_contact(&mut boat, &mut reply);
     line.go_to(column);
     match owner::read(frames::config(), &boat, clock, b"wreck:north-bank") {
-        Document::Damaged => line.put_outcome(5),
-        Document::Missing | Document::Expired(_) => line.put_status(0x01),
-        Document::Live(_, _, place, len) => {
-            line.put_status(0x00);
-            line.put_found(octets::part(&boat, place, len));
+        Ok(found) => {
+            line.put_status(Ok(()));
+            line.put_found(octets::part(&boat, found.at, found.len));
+        }
+        Err(ReadError::Damaged) => line.put_refusal(Refusal::Damaged),
+        Err(ReadError::Missing | ReadError::Expired(_)) => {
+            line.put_status(Err(Status::NotFound));
         }
     }
 }
 
 // What the owner's read tells of the time that is left.
-fn put_left(line: &mut Line, d: Document) {
-    match d {
-        Document::Damaged => line.put_outcome(5),
-        Document::Missing => line.put_status(0x01),
-        Document::Expired(n) => line.put_left(Left::Seconds(n)),
-        Document::Live(_, left, _, _) => line.put_left(left),
+fn put_left(line: &mut Line, read: Result<Document, ReadError>) {
+    match read {
+        Ok(found) => line.put_left(found.left),
+        Err(ReadError::Damaged) => line.put_refusal(Refusal::Damaged),
+        Err(ReadError::Missing) => line.put_status(Err(Status::NotFound)),
+        Err(ReadError::Expired(seconds)) => line.put_left(Some(seconds)),
     }
 }
 
@@ -206,11 +209,11 @@ fn put_purged(line: &mut Line, column: usize, clock: u32) {
     let held = set_contact(&mut boat, &mut reply);
     line.go_to(column);
     match owner::purge(frames::config(), &mut boat, clock, held) {
-        Purged::Damaged => line.put_outcome(5),
-        Purged::Freed(n) => {
+        Ok(freed) => {
             line.put(b"rows freed: ");
-            line.put_number(n as u64);
+            line.put_number(freed as u64);
         }
+        Err(_) => line.put_refusal(Refusal::Damaged),
     }
 }
 

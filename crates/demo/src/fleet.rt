@@ -5,12 +5,13 @@ ghost use Rattle.std.specs.Slice.Iter.{chunks_exact_size};
 use crate::tell::Line;
 use crate::{frames, shore, tell};
 use engine::Place;
+use outcome::Refusal;
 use serving::Served;
 use std::slice::ChunksExact;
 use tally::Tally;
 
 // Shore's writes, '1' to '6'.
-fn write(boat: &mut [u8], clock: u32, which: u8) -> Served {
+fn write(boat: &mut [u8], clock: u32, which: u8) -> Result<Served, Refusal> {
     let wreck = b"wreck:north-bank";
     let net = b"net:ghost-4";
     let reef = b"reef:gull-rock";

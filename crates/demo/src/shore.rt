@@ -2,8 +2,9 @@
 use crate::frames::Call;
 use crate::tell::Line;
 use crate::{frames, tell};
-use document::{Metadata, Stored};
+use document::Metadata;
 use numbers::{Cas, Numbers, Revision};
+use outcome::Refusal;
 use serving::Served;
 
 const CLOCK_COLUMN: usize = 2;
@@ -61,7 +62,7 @@ fn send(
     key: &[u8],
     value: &[u8],
     reply: &mut [u8],
-) -> Served {
+) -> Result<Served, Refusal> {
     let mut extras = [0u8; 24];
     octet_writer::put_be(&mut extras, 0, 4, u64::from(n.flags));
     octet_writer::put_be(&mut extras, 4, 4, u64::from(n.expiry));
@@ -71,7 +72,14 @@ fn send(
 }
 
 // Serves a copy, and tells the line that names it.
-fn sent(name: &[u8], boat: &mut [u8], call: Call, n: Numbers, key: &[u8], value: &[u8]) -> Served {
+fn sent(
+    name: &[u8],
+    boat: &mut [u8],
+    call: Call,
+    n: Numbers,
+    key: &[u8],
+    value: &[u8],
+) -> Result<Served, Refusal> {
     let mut reply = [0u8; frames::ROOM];
     let mut line = Line::at(CLOCK_COLUMN);
     line.put_clock(call.clock);
@@ -84,7 +92,13 @@ fn sent(name: &[u8], boat: &mut [u8], call: Call, n: Numbers, key: &[u8], value:
     served
 }
 
-pub(crate) fn set(boat: &mut [u8], clock: u32, n: Numbers, key: &[u8], value: &[u8]) -> Served {
+pub(crate) fn set(
+    boat: &mut [u8],
+    clock: u32,
+    n: Numbers,
+    key: &[u8],
+    value: &[u8],
+) -> Result<Served, Refusal> {
     let call = Call {
         clock,
         opcode: 0xa2,
@@ -93,7 +107,12 @@ pub(crate) fn set(boat: &mut [u8], clock: u32, n: Numbers, key: &[u8], value: &[
     sent(b"SetWithMeta", boat, call, n, key, value)
 }
 
-pub(crate) fn delete(boat: &mut [u8], clock: u32, n: Numbers, key: &[u8]) -> Served {
+pub(crate) fn delete(
+    boat: &mut [u8],
+    clock: u32,
+    n: Numbers,
+    key: &[u8],
+) -> Result<Served, Refusal> {
     let call = Call {
         clock,
         opcode: 0xa8,
@@ -130,8 +149,8 @@ pub(crate) fn held(name: &[u8], boat: &[u8], key: &[u8]) {
     put_contact(&mut line, b"holds", key, b"");
     let found = table::find(frames::config(), boat, key, false);
     match found.stored {
-        Stored::Used(m) => put_row(&mut line, m, octets::part(boat, found.at, found.len)),
-        Stored::Nothing => line.put(b"nothing"),
+        Some(m) => put_row(&mut line, m, octets::part(boat, found.at, found.len)),
+        None => line.put(b"nothing"),
     }
     line.tell();
 }

@@ -1,6 +1,6 @@
 // What is printed: texts, and lines whose parts stand in columns.
 use header::Header;
-use numbers::Left;
+use outcome::{Refusal, Status};
 use serving::Served;
 
 pub(crate) fn text(s: &[u8]) {
@@ -80,20 +80,20 @@ impl Line {
     }
 
     // A status: its number, and what it means to who asked.
-    pub(crate) fn put_status(&mut self, status: u8) {
-        self.put_hex(status);
+    pub(crate) fn put_status(&mut self, status: Result<(), Status>) {
+        self.put_hex(outcome::status_of(status));
         match status {
-            0x00 => self.put(b" done"),
-            0x01 => self.put(b" no such contact"),
-            0x02 => self.put(b" what is held stands"),
-            0x05 => self.put(b" nothing to join it to"),
-            _ => self.put(b" refused"),
+            Ok(()) => self.put(b" done"),
+            Err(Status::NotFound) => self.put(b" no such contact"),
+            Err(Status::Exists) => self.put(b" what is held stands"),
+            Err(Status::NotStored) => self.put(b" nothing to join it to"),
+            Err(_) => self.put(b" refused"),
         }
     }
 
-    pub(crate) fn put_outcome(&mut self, outcome: u8) {
+    pub(crate) fn put_refusal(&mut self, refusal: Refusal) {
         self.put(b"not served, outcome ");
-        self.put_number(u64::from(outcome));
+        self.put_number(u64::from(refusal.number()));
     }
 
     pub(crate) fn put_found(&mut self, found: &[u8]) {
@@ -102,10 +102,10 @@ impl Line {
     }
 
     // How long a contact is still good, or how long ago it expired.
-    pub(crate) fn put_left(&mut self, left: Left) {
+    pub(crate) fn put_left(&mut self, left: Option<i64>) {
         match left {
-            Left::Never => self.put(b"never expires"),
-            Left::Seconds(n) => {
+            None => self.put(b"never expires"),
+            Some(n) => {
                 self.put_number(numbers::magnitude(n));
                 if n <= 0 {
                     self.put(b" s past");
@@ -134,7 +134,7 @@ impl Line {
         self.put_found(value);
     }
 
-    fn put_done(&mut self, status: u8, sent: &[u8]) {
+    fn put_done(&mut self, status: Result<(), Status>, sent: &[u8]) {
         self.put_status(status);
         if sent.is_empty() {
             self.put(b", nothing sent");
@@ -144,10 +144,10 @@ impl Line {
     }
 
     // The answer to a request, as it was served.
-    pub(crate) fn put_answer(&mut self, served: Served, reply: &[u8]) {
-        match served {
-            Served::Refused(outcome, _) => self.put_outcome(outcome),
-            Served::Done(status, _, len) => self.put_done(status, octets::part(reply, 0, len)),
+    pub(crate) fn put_answer(&mut self, answer: Result<Served, Refusal>, reply: &[u8]) {
+        match answer {
+            Ok(served) => self.put_done(served.status, octets::part(reply, 0, served.reply)),
+            Err(refusal) => self.put_refusal(refusal),
         }
     }
 }

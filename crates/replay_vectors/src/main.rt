@@ -17,7 +17,7 @@ mod traces;
 ghost use Rattle.std.specs.Prelude.{◌≡◌, ◌≤◌, length};
 
 use engine::Config;
-use replay::Ending;
+use replay::ReplayError;
 use vector_text::parts::lines;
 use vector_text::show::{decimal, text};
 
@@ -44,49 +44,46 @@ fn memory() -> [u8; 42001]
     [FILL; 42001]
 }
 
-fn show_ending(ending: Ending) {
+fn show_ending(ending: Result<usize, ReplayError>) {
     match ending {
-        Ending::Damaged => text(b"damaged"),
-        Ending::Differs(at) => decimal(b"differs ", at as u64),
-        Ending::Stopped(at) => decimal(b"stopped ", at as u64),
-        Ending::Replayed(n) => decimal(b"replayed ", n as u64),
-    }
-}
-
-fn are_same(r: Ending, s: Ending) -> bool {
-    match (r, s) {
-        (Ending::Damaged, Ending::Damaged) => true,
-        (Ending::Differs(a), Ending::Differs(b)) => a == b,
-        (Ending::Stopped(a), Ending::Stopped(b)) => a == b,
-        (Ending::Replayed(a), Ending::Replayed(b)) => a == b,
-        _ => false,
+        Ok(frames) => decimal(b"replayed ", frames as u64),
+        Err(ReplayError::Damaged) => text(b"damaged"),
+        Err(ReplayError::Differs(at)) => decimal(b"differs ", at as u64),
+        Err(ReplayError::Stopped(at)) => decimal(b"stopped ", at as u64),
     }
 }
 
 // Replays a trace in the first n bytes of memory.
-fn replay_in(config: Config, memory: &mut [u8], n: usize, trace: &[u8]) -> Ending
+fn replay_in(
+    config: Config,
+    memory: &mut [u8],
+    n: usize,
+    trace: &[u8],
+) -> Result<usize, ReplayError>
     requires { n ≤ length memory.old }
 {
     replay::replay(config, &mut memory[..n], trace)
 }
 
-fn answer_in(after: &mut [u8], before: &[u8], trace: &[u8]) -> Ending
+fn answer_in(after: &mut [u8], before: &[u8], trace: &[u8]) -> Result<usize, ReplayError>
     requires { 42001 ≤ length after.old }
 {
     let ending = replay_in(engine::config_for(false), after, replay::SIZE, trace);
     show_ending(ending);
-    if matches!(ending, Ending::Damaged | Ending::Stopped(0)) && !compare::same(after, before) {
+    if matches!(ending, Err(ReplayError::Damaged | ReplayError::Stopped(0)))
+        && !compare::same(after, before)
+    {
         text(b" CHANGED");
     }
     ending
 }
 
 // Replays the trace on the plain engine too, and says whether that comes out otherwise.
-fn compare_in(other: &mut [u8], after: &[u8], ending: Ending, trace: &[u8])
+fn compare_in(other: &mut [u8], after: &[u8], ending: Result<usize, ReplayError>, trace: &[u8])
     requires { 42001 ≤ length other.old }
 {
     let plain = replay_in(engine::config_for(true), other, replay::SIZE, trace);
-    if !(are_same(ending, plain) && alike::are_alike(after, other)) {
+    if !(ending == plain && alike::are_alike(after, other)) {
         text(b" ENGINES DIFFER");
     }
 }
@@ -103,7 +100,7 @@ fn is_left_in(after: &mut [u8], before: &[u8], n: usize) -> bool
     requires { n ≤ length after.old }
 {
     let ending = replay_in(engine::config_for(false), after, n, b"\x01\0\x07");
-    matches!(ending, Ending::Damaged) && compare::same(after, before)
+    matches!(ending, Err(ReplayError::Damaged)) && compare::same(after, before)
 }
 
 // Whether memory of so many bytes is refused and stays as it was.

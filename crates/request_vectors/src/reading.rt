@@ -1,7 +1,6 @@
 // The answer to a line that reads.
 use crate::{parts, show};
-use request::{Frame, Reading};
-use request_writer::Written;
+use request::{Frame, Unread};
 use vector_text::bytes;
 use vector_text::bytes::Times;
 use vector_text::show::{decimal, hexadecimal, text};
@@ -16,10 +15,7 @@ fn show_again(received: &[u8], f: Frame) {
     let extras = parts::extras(received);
     let key = parts::key(received);
     let value = parts::value(received);
-    let size = match request_writer::write(f.fields, extras, key, value, &mut out) {
-        Written::Wrote(n) => n,
-        _ => 0,
-    };
+    let size = request_writer::write(f.fields, extras, key, value, &mut out).unwrap_or(0);
     let frame = octets::part(received, 0, 24 + octets::be32(received, 8) as usize);
     if compare::same(octets::part(&out, 0, size), frame) {
         decimal(b" again=", size as u64);
@@ -39,9 +35,9 @@ fn show_accepted(received: &[u8], f: Frame) {
 
 fn show_reading(received: &[u8]) {
     match request::read(received) {
-        Reading::Outcome(n) => decimal(b"outcome ", u64::from(n)),
-        Reading::Status(n) => hexadecimal(b"status 0x", u64::from(n), 2),
-        Reading::Accepted(f) => show_accepted(received, f),
+        Ok(f) => show_accepted(received, f),
+        Err(Unread::Refused(refusal)) => decimal(b"outcome ", u64::from(refusal.number())),
+        Err(Unread::Status(status)) => hexadecimal(b"status 0x", u64::from(status.number()), 2),
     }
 }
 

@@ -3,7 +3,7 @@ ghost use Rattle.std.specs.Prelude.{◌≡◌, ◌≤◌, length, IfSome};
 
 use numbers::Cas;
 use request::Fields;
-use request_writer::Written;
+use request_writer::WriteError;
 use vector_text::bytes;
 use vector_text::bytes::Times;
 use vector_text::numbers::leading;
@@ -72,17 +72,17 @@ fn filled() -> [u8; 4096]
 }
 
 // Prints the writer's answer, and says how many bytes of the output are the frame's.
-fn show_answer(w: Written, out: &[u8]) -> usize {
-    match w {
-        Written::Refused => {
+fn show_answer(written: Result<usize, WriteError>, out: &[u8]) -> usize {
+    match written {
+        Err(WriteError::Refused) => {
             text(b"status 0x04");
             0
         }
-        Written::NoRoom => {
+        Err(WriteError::NoRoom) => {
             text(b"outcome 4");
             0
         }
-        Written::Wrote(n) => {
+        Ok(n) => {
             decimal(b"wrote ", n as u64);
             text(b": ");
             octets(octets::part(out, 0, n));
@@ -97,8 +97,8 @@ fn show_written(asked: Asked)
 {
     let mut out = filled();
     let room = &mut out[..asked.room];
-    let w = request_writer::write(asked.fields, asked.extras, asked.key, asked.value, room);
-    let size = show_answer(w, &out);
+    let written = request_writer::write(asked.fields, asked.extras, asked.key, asked.value, room);
+    let size = show_answer(written, &out);
     if bytes::are_all(octets::rest(&out, size), FILL) {
         text(b" rest unchanged");
     } else {

@@ -7,6 +7,7 @@
 #![tactic(auto)]
 
 use engine::Config;
+use outcome::Refusal;
 use run::{Cursor, Ran};
 use serving::Served;
 use tally::Tally;
@@ -35,15 +36,16 @@ const RUN: usize = 124;
 
 const CUT: usize = 69;
 
-fn answer(r: Served) {
-    match r {
-        Served::Refused(outcome, needed) => {
-            decimal(b"outcome ", u64::from(outcome));
-            decimal(b", needs ", needed as u64);
-        }
-        Served::Done(status, _, len) => {
+fn answer(answer: Result<Served, Refusal>) {
+    match answer {
+        Ok(served) => {
+            let status = outcome::status_of(served.status);
             decimal(b"status ", u64::from(status));
-            decimal(b", reply ", len as u64);
+            decimal(b", reply ", served.reply as u64);
+        }
+        Err(refusal) => {
+            decimal(b"outcome ", u64::from(refusal.number()));
+            decimal(b", needs ", refusal.needed() as u64);
         }
     }
 }
@@ -76,7 +78,7 @@ fn past(table: &mut [u8], run: &[u8], at: usize) {
 fn by_steps(run: &[u8]) {
     let mut table = [0u8; SIZE];
     let mut out = [FILL; ROOM];
-    owner::make(&mut table, ROWS, ACTIVE, BY_REVISION, VBUCKET);
+    let _ = owner::make(&mut table, ROWS, ACTIVE, BY_REVISION, VBUCKET);
     let second = step(&mut table, run, &mut out, 0);
     let third = step(&mut table, run, &mut out, second);
     let fourth = step(&mut table, run, &mut out, third);
@@ -95,7 +97,7 @@ fn ran_by(config: Config, run: &[u8], out: &mut [u8]) -> Ran {
         refused: 0,
         silent: 0,
     };
-    owner::make(&mut table, ROWS, ACTIVE, BY_REVISION, VBUCKET);
+    let _ = owner::make(&mut table, ROWS, ACTIVE, BY_REVISION, VBUCKET);
     run::serve_run(config, &mut table, CLOCK, run, out, none)
 }
 

@@ -3,8 +3,8 @@ use crate::show;
 use crate::store::{FILL, Store};
 use document::{Head, Metadata};
 use engine::Place;
-use numbers::{Cas, Left, Numbers};
-use owning::{Activated, Document, Purged};
+use numbers::{Cas, Numbers};
+use owning::{ActivateError, Document, ReadError};
 use vector_text::bytes;
 use vector_text::show::{decimal, octets, text};
 
@@ -33,20 +33,22 @@ fn show_place(p: Place) {
     }
 }
 
-fn show_live(s: &[u8], n: Numbers, left: Left, at: usize, len: usize) {
-    show::numbers(n);
-    show::left(left);
-    decimal(b" value=", at as u64);
-    decimal(b"+", len as u64);
+fn show_live(s: &[u8], d: Document) {
+    show::numbers(d.numbers);
+    show::left(d.left);
+    decimal(b" value=", d.at as u64);
+    decimal(b"+", d.len as u64);
     text(b" ");
-    octets(octets::part(s, at, len));
+    octets(octets::part(s, d.at, d.len));
 }
 
 impl Store<'_> {
     pub(crate) fn make(&mut self, rows: usize, state: u8, mode: u8, vbucket: u16) {
         self.table.fill(FILL);
-        let outcome = owner::make(self.table, rows, state, mode, vbucket);
-        decimal(b"outcome ", u64::from(outcome));
+        match owner::make(self.table, rows, state, mode, vbucket) {
+            Ok(()) => text(b"outcome 0"),
+            Err(_) => text(b"outcome 5"),
+        }
         show_memory(self.table, state, mode, vbucket);
     }
 
@@ -60,16 +62,16 @@ impl Store<'_> {
 
     pub(crate) fn purge(&mut self, clock: u32, bound: Cas) {
         match owner::purge(self.config, self.table, clock, bound) {
-            Purged::Damaged => text(b"outcome 5"),
-            Purged::Freed(k) => decimal(b"freed ", k as u64),
+            Ok(freed) => decimal(b"freed ", freed as u64),
+            Err(_) => text(b"outcome 5"),
         }
     }
 
     pub(crate) fn activate(&mut self) {
         match owner::activate(self.config, self.table) {
-            Activated::Damaged => text(b"outcome 5"),
-            Activated::Dead => text(b"status 07"),
-            Activated::Active => text(b"outcome 0"),
+            Ok(()) => text(b"outcome 0"),
+            Err(ActivateError::Damaged) => text(b"outcome 5"),
+            Err(ActivateError::Dead) => text(b"status 07"),
         }
     }
 
@@ -105,13 +107,13 @@ impl Store<'_> {
 
     pub(crate) fn read(&self, clock: u32, key: &[u8]) {
         match owner::read(self.config, self.table, clock, key) {
-            Document::Damaged => text(b"outcome 5"),
-            Document::Missing => text(b"status 0x01"),
-            Document::Expired(seconds) => {
+            Ok(document) => show_live(self.table, document),
+            Err(ReadError::Damaged) => text(b"outcome 5"),
+            Err(ReadError::Missing) => text(b"status 0x01"),
+            Err(ReadError::Expired(seconds)) => {
                 text(b"status 0x01");
                 show::seconds(seconds);
             }
-            Document::Live(n, left, at, len) => show_live(self.table, n, left, at, len),
         }
     }
 }

@@ -1,6 +1,7 @@
 // Frames served, and their counts.
 use crate::show;
 use crate::store::{FILL, Store};
+use outcome::Refusal;
 use serving::Served;
 use vector_text::bytes;
 use vector_text::show::{decimal, hexadecimal, octets, text};
@@ -14,20 +15,21 @@ fn show_past(replies: &[u8], len: usize) {
     }
 }
 
-fn show_served(r: Served, replies: &[u8]) {
-    match r {
-        Served::Refused(outcome, needed) => {
-            decimal(b"outcome ", u64::from(outcome));
-            decimal(b" needs ", needed as u64);
-            show_past(replies, 0);
-        }
-        Served::Done(status, used, len) => {
+fn show_served(answer: Result<Served, Refusal>, replies: &[u8]) {
+    match answer {
+        Ok(served) => {
+            let status = outcome::status_of(served.status);
             hexadecimal(b"status ", u64::from(status), 2);
-            decimal(b" used ", used as u64);
-            decimal(b" reply ", len as u64);
+            decimal(b" used ", served.used as u64);
+            decimal(b" reply ", served.reply as u64);
             text(b" ");
-            octets(octets::part(replies, 0, len));
-            show_past(replies, len);
+            octets(octets::part(replies, 0, served.reply));
+            show_past(replies, served.reply);
+        }
+        Err(refusal) => {
+            decimal(b"outcome ", u64::from(refusal.number()));
+            decimal(b" needs ", refusal.needed() as u64);
+            show_past(replies, 0);
         }
     }
 }
@@ -36,14 +38,11 @@ impl Store<'_> {
     // Serves the frame at the start of the bytes, prints the answer, and hands on how many bytes were consumed: none where it is refused.
     pub(crate) fn serve(&mut self, clock: u32, frame: &[u8]) -> usize {
         self.replies.fill(FILL);
-        let served = serve::serve_one(self.config, self.table, clock, frame, self.replies);
-        show_served(served, self.replies);
+        let answer = serve::serve_one(self.config, self.table, clock, frame, self.replies);
+        show_served(answer, self.replies);
         show::table(self.table);
-        self.tally = tally::counted(self.tally, served);
-        match served {
-            Served::Refused(_, _) => 0,
-            Served::Done(_, used, _) => used,
-        }
+        self.tally = tally::counted(self.tally, answer);
+        answer.map_or(0, |served| served.used)
     }
 
     // Serves frame after frame, a line for each, until one is refused.

@@ -1,5 +1,5 @@
 // What is printed.
-use numbers::{Left, Numbers};
+use numbers::Numbers;
 use tally::Tally;
 use vector_text::show::{decimal, hexadecimal, text};
 
@@ -17,10 +17,10 @@ pub(crate) fn seconds(n: i64) {
     decimal(name, numbers::magnitude(n));
 }
 
-pub(crate) fn left(l: Left) {
+pub(crate) fn left(l: Option<i64>) {
     match l {
-        Left::Never => text(b" left=never"),
-        Left::Seconds(n) => seconds(n),
+        None => text(b" left=never"),
+        Some(n) => seconds(n),
     }
 }
 
