@@ -4,7 +4,7 @@
 ghost use Rattle.std.specs.Prelude.{◌≡◌};
 ghost use Rattle.with_meta.specs.WithMeta.{carried_numbers, options_of, section_of, with_meta};
 ghost use Rattle.with_meta.specs.Section.{field_ok, fields_ok, section_ok};
-ghost use Rattle.with_meta.specs.FieldRules.{meta_number, numbers_ok, body_ok, with_meta_ok};
+ghost use Rattle.with_meta.specs.FieldRules.{stored_number, meta_number, numbers_ok, body_ok, with_meta_ok};
 
 use numbers::{Cas, Numbers, Revision};
 
@@ -135,13 +135,12 @@ fn numbers_ok(w: WithMeta) -> bool
 // n: the bytes before the extended meta.
 
 #[tactic(auto, unfolding(crate::specs::FieldRules::body_ok))]
-fn body_ok(stored: Option<Stored>, w: WithMeta, n: usize) -> bool
-    ensures { result ≡ body_ok (meta_number stored) w n }
+fn body_ok(stored: Stored, w: WithMeta, n: usize) -> bool
+    ensures { result ≡ body_ok (stored_number stored) w n }
 {
     match stored {
-        Some(Stored::Document) => 1 <= n,
-        Some(Stored::Tombstone) => n == 0 && w.numbers.flags == 0 && w.numbers.expiry == 0,
-        None => false,
+        Stored::Document => 1 <= n,
+        Stored::Tombstone => n == 0 && w.numbers.flags == 0 && w.numbers.expiry == 0,
     }
 }
 
@@ -150,6 +149,9 @@ fn body_ok(stored: Option<Stored>, w: WithMeta, n: usize) -> bool
 pub fn with_meta_ok(stored: Option<Stored>, w: WithMeta, value: &[u8]) -> bool
     ensures { result ≡ with_meta_ok (meta_number stored) w value.now }
 {
+    let Some(stored) = stored else {
+        return false;
+    };
     let Some(n) = value.len().checked_sub(w.section as usize) else {
         return false;
     };
