@@ -5,7 +5,7 @@
 ghost use Rattle.std.specs.Prelude.{◌≡◌, ℕ, ◌+◌, ◌-◌, ◌^◌, ◌≤◌, ◌<◌, length, drop, leb};
 ghost use Rattle.octets.specs.Parts.{part};
 ghost use Rattle.octets.specs.BigEndian.{num};
-ghost use Rattle.octets.specs.Words.{little, word_at};
+ghost use Rattle.octets.specs.Words.{word_at};
 
 // a - b, or 0 where b is larger.
 pub fn minus(a: usize, b: usize) -> usize
@@ -36,6 +36,7 @@ pub fn fits(len: usize, at: usize, n: usize) -> bool
     at <= len && n <= len - at
 }
 
+// A byte as a number, whose bound the sums below need.
 fn wide(x: u8) -> u64
     ensures { (result ≡ x) × (result < 256) }
 {
@@ -101,22 +102,12 @@ pub fn be64(s: &[u8], at: usize) -> u64
     number_there(s, at, 8)
 }
 
-// Four bytes, the first one the lowest.
-fn quarter(s: &[u8], at: usize) -> u64
-    requires { at + 4 ≤ length s.now }
-    ensures { (result ≡ little (part s.now at 4)) × (result < 4294967296) }
-{
-    wide(s[at]) + 256 * wide(s[at + 1]) + 65536 * wide(s[at + 2]) + 16777216 * wide(s[at + 3])
-}
-
 // The eight bytes at a place as the machine loads them, for comparing and mixing: one load, with no bytes turned.
 pub fn word(s: &[u8], at: usize) -> u64
     ensures { result ≡ word_at s.now at }
 {
-    if !fits(s.len(), at, 8) {
-        return 0;
+    match rest(s, at).first_chunk::<8>() {
+        Some(bytes) => u64::from_le_bytes(*bytes),
+        None => 0,
     }
-    let low = quarter(s, at);
-    let high = quarter(s, at + 4);
-    low + 4294967296 * high
 }
