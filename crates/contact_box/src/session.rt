@@ -140,23 +140,22 @@ fn next_after(answer: Served, written: bool) -> Next
 fn serve_held<W: Write>(
     config: Config,
     output: &mut W,
-    table: &mut [u8],
+    lent: &mut Lent,
     clock: u32,
     received: &[u8],
-    replies: &mut [u8],
     s: Session,
 ) -> Session
     ensures goes { Goes
-        (run_end config clock (held_of s.held received.now) (begun table.old replies.old s.tally))
-        table.new received.now s result }
+        (run_end config clock (held_of s.held received.now) (begun lent.old.table.now lent.old.replies.now s.tally))
+        lent.new.table.now received.now s result }
     ensures sent { SendsAll config clock (held_of s.held received.now)
-        (run_end config clock (held_of s.held received.now) (begun table.old replies.old s.tally))
+        (run_end config clock (held_of s.held received.now) (begun lent.old.table.now lent.old.replies.now s.tally))
         (W.contents output.old) (W.contents output.new) result.next }
 {
     let held = s.held;
     let run = held_of(received, held);
-    let ran = run::serve_run(config, table, clock, run, replies, s.tally);
-    let written = writing::all(output, octets::part(replies, 0, ran.filled));
+    let ran = run::serve_run(config, lent.table, clock, run, lent.replies, s.tally);
+    let written = writing::all(output, octets::part(lent.replies, 0, ran.filled));
     Session {
         held: past(held, ran.cursor.at),
         tally: ran.tally,
@@ -183,6 +182,7 @@ fn length_of(answer: Served) -> usize
 }
 
 // Serves the first of the frames that are held, without what stands behind it, writes its reply, and records both.
+// Its table is no part of a struct: behind one, the proof is not told that the old table holds bytes.
 fn serve_first<W: Write, T: Write>(
     config: Config,
     output: &mut W,
@@ -241,15 +241,7 @@ fn serve_some<C: Clock, R: Read, W: Write, T: Write>(
             s,
         );
     }
-    serve_held(
-        config,
-        streams.output,
-        lent.table,
-        now,
-        received,
-        lent.replies,
-        s,
-    )
+    serve_held(config, streams.output, lent, now, received, s)
 }
 
 fn turn<C: Clock, R: Read, W: Write, T: Write>(

@@ -80,7 +80,7 @@ fn main() {
     let len = answer(
         engine::config_for(false),
         &mut table,
-        octets::part(&trace, 0, n),
+        &trace[..n],
         &mut line,
     );
     io::write_all(1, octets::part(&line, 0, len));
