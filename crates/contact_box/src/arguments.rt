@@ -71,10 +71,7 @@ fn is_there(args: &impl Env, i: usize) -> bool {
 fn number_at(args: &impl Env, i: usize) -> Option<u64> {
     let mut word = [0u8; 32];
     let n = args.arg(i, &mut word).ok()?;
-    match digits::parse(&word[..n]) {
-        Some(number) => Some(number),
-        None => None,
-    }
+    digits::parse(&word[..n])
 }
 
 // The mode that an argument names.

@@ -1,9 +1,11 @@
 // Recording what is served as a trace, to a file.
 ghost use Rattle.std.specs.Prelude.{◌≡◌, ◌+◌, ◌≤◌, length};
+ghost use Rattle.serving.specs.Serve.{served_told};
 ghost use Rattle.trace_writer.specs.Writing.{opening_bytes, frame_fields};
 ghost use Rattle.contact_box.specs.Recorder.{opened, is_on, stopped, grown, Grows, Short, Records, Hands, HandsOn};
 
 use crate::{report, writing};
+use outcome::Refusal;
 use serving::Served;
 use std::env::{Env, FillError};
 use std::fs::Files;
@@ -159,18 +161,18 @@ pub(crate) fn record_answer<T: Write>(
     trace: &mut T,
     r: Recorder,
     clock: u32,
-    answer: Served,
+    answer: Result<Served, Refusal>,
     frame: &[u8],
     reply: &[u8],
 ) -> Recorder
-    requires { Short answer frame.now reply.now }
-    ensures fields { HandsOn answer result.recording (T.contents trace.old) (T.contents trace.new)
+    requires { Short (served_told answer) frame.now reply.now }
+    ensures fields { HandsOn (served_told answer) result.recording (T.contents trace.old) (T.contents trace.new)
         (frame_fields r.clock clock frame.now reply.now) }
-    ensures records { Records r clock answer frame.now reply.now result }
+    ensures records { Records r clock (served_told answer) frame.now reply.now result }
 {
     match answer {
-        Served::Refused(_, _) => r,
-        Served::Done(_, _, _) => record(trace, r, clock, frame, reply),
+        Ok(_) => record(trace, r, clock, frame, reply),
+        Err(_) => r,
     }
 }
 

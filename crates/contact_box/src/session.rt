@@ -2,7 +2,7 @@
 ghost use Rattle.std.specs.Prelude.{◌≡◌, cond, ◌+◌, ◌≤◌, ◌<◌, ◌^◌, length, take, drop};
 ghost use Rattle.std.specs.Io.KnownBytes.{Consumes};
 ghost use Rattle.run.specs.Run.{begun, run_end};
-ghost use Rattle.serving.specs.Serve.{served_length};
+ghost use Rattle.serving.specs.Serve.{served_told, served_length};
 ghost use Rattle.trace_writer.specs.Writing.{frame_fields};
 ghost use Rattle.contact_box.specs.Recorder.{HandsOn};
 ghost use Rattle.contact_box.specs.Session.{held_of, past, Receives, next_of, Waits, Goes, SendsAll, first_frame, GoesOne, first_answer, first_reply, Sends};
@@ -10,6 +10,7 @@ ghost use Rattle.contact_box.specs.Session.{held_of, past, Receives, next_of, Wa
 use crate::recorder::Recorder;
 use crate::{clock, recorder, writing};
 use engine::Config;
+use outcome::Refusal;
 use serving::Served;
 use std::io::{Read, Write};
 use std::time::Clock;
@@ -120,19 +121,16 @@ fn receive_on<R: Read>(input: &mut R, received: &mut [u8], s: Session) -> Sessio
 }
 
 // What is next after an answer, where what was sent was written or not.
-fn next_after(answer: Served, written: bool) -> Next
-    ensures { result ≡ cond written (next_of answer) Next.Close }
+fn next_after(answer: Result<Served, Refusal>, written: bool) -> Next
+    ensures { result ≡ cond written (next_of (served_told answer)) Next.Close }
 {
     if !written {
         return Next::Close;
     }
-    let Served::Refused(outcome, _) = answer else {
-        return Next::Serve;
-    };
-    match outcome {
-        1 => Next::Receive,
-        4 => Next::Serve,
-        _ => Next::Close,
+    match answer {
+        Ok(_) | Err(Refusal::NoRoom) => Next::Serve,
+        Err(Refusal::Incomplete(_)) => Next::Receive,
+        Err(_) => Next::Close,
     }
 }
 
@@ -172,13 +170,10 @@ fn first_frame(run: &[u8]) -> &[u8]
     octets::part(run, 0, layout.end)
 }
 
-fn length_of(answer: Served) -> usize
-    ensures { result ≡ served_length answer }
+fn length_of(answer: Result<Served, Refusal>) -> usize
+    ensures { result ≡ served_length (served_told answer) }
 {
-    match answer {
-        Served::Done(_, _, len) => len,
-        Served::Refused(_, _) => 0,
-    }
+    answer.map_or(0, |served| served.reply)
 }
 
 // Serves the first of the frames that are held, without what stands behind it, writes its reply, and records both.
