@@ -64,17 +64,16 @@ fn row_gone(r: &[u8], clock: u32, bound: Cas) -> bool
     (h.kind != 0) & document::gone(held, clock, bound)
 }
 
-// Frees the row at a place where the purge is to free it, and says whether it did.
-fn purge_row(b: &mut [u8], at: usize, clock: u32, bound: Cas) -> bool
-    requires { at + 1312 ≤ length b.old }
-    ensures { (result ≡ picked (gone_doc clock bound.0) (row_of (part b.old at 1312)))
-        × (b.new ≡ pasted b.old at (purge_row (gone_doc clock bound.0) (part b.old at 1312))) }
+// Frees a row where the purge is to free it, and says whether it did.
+fn purge_row(row: &mut [u8], clock: u32, bound: Cas) -> bool
+    requires { length row.old ≡ 1312 }
+    ensures { (result ≡ picked (gone_doc clock bound.0) (row_of row.old)) × (row.new ≡ purge_row (gone_doc clock bound.0) row.old) }
 {
-    if row_gone(octets::part(b, at, ROW), clock, bound) {
-        octet_writer::put_zeros(b, at, ROW);
-        return true;
+    let gone = row_gone(row, clock, bound);
+    if gone {
+        row.fill(0);
     }
-    false
+    gone
 }
 
 fn purge_rows(b: &mut [u8], n: usize, clock: u32, bound: Cas) -> usize
@@ -82,15 +81,12 @@ fn purge_rows(b: &mut [u8], n: usize, clock: u32, bound: Cas) -> usize
     ensures { (result ≡ purge_count (gone_doc clock bound.0) n (drop 16 b.old))
         × (b.new ≡ take 16 b.old ++ purge_bytes (gone_doc clock bound.0) n (drop 16 b.old)) }
 {
-    let mut at: usize = HEADER;
-    let mut left = n;
     let mut count: usize = 0;
-    while 0 < left {
-        if purge_row(b, at, clock, bound) {
+    for i in 0..n {
+        let at = HEADER + i * ROW;
+        if purge_row(&mut b[at..at + ROW], clock, bound) {
             count += 1;
         }
-        at += ROW;
-        left -= 1;
     }
     count
 }
