@@ -60,9 +60,8 @@ fn insert_row(b: &mut [u8], i: usize, free: usize, key: &[u8], m: Metadata, valu
 pub fn insert(b: &mut [u8], i: usize, key: &[u8], m: Metadata, value: &[u8])
     ensures { b.new ≡ inserted b.old i (record { key = key.entry.now; doc = record { tomb = m.tomb; value = value.now; numbers = m.numbers } }) }
 {
-    match plain::lookup::free(b) {
-        Some(free) => insert_row(b, i, free, key, m, value),
-        None => {}
+    if let Some(free) = plain::lookup::free(b) {
+        insert_row(b, i, free, key, m, value);
     }
 }
 

@@ -9,10 +9,11 @@ use lib.ListN.{length, take, drop, replicate, length-replicate, take-append-drop
 use lib.Seq.{drop-drop}
 use borrow.Rule.Slice.PartMut.{put_mid}
 use Rattle.octets.specs.Parts.{part, pasted}
+use Rattle.octets.specs.BigEndian.{num}
 use Rattle.octets.proofs.Choices.{cases}
 use Rattle.octets.proofs.Lists.{part_length, take-pasted, drop-pasted}
 use Rattle.document.specs.Documents.{Doc}
-use Rattle.document.specs.Stored.{gone, gone_doc}
+use Rattle.document.specs.Stored.{metadata_of, gone, gone_doc}
 use Rattle.rows.specs.Row.{slot_of, doc_of, row_of}
 use Rattle.rows.specs.Table.{row_count}
 use Rattle.rows.proofs.OneRow.{row_cut}
@@ -20,10 +21,9 @@ use Rattle.plain.specs.Purge.{picked, one}
 use Rattle.plain_writer.specs.Change.{purge_row, purge_bytes, purge_count, purged_rows, freed_rows}
 
 -- the test of a row, by its fixed part
-pub gone-row : (clock bound : ℕ) (r : List ℕ)
-    → (not (eqb (slot_of r).kind 0) && gone clock bound (record { tomb = eqb (slot_of r).kind 2; numbers = (slot_of r).numbers })) ≡ picked (gone_doc clock bound) (row_of r)
-unfolding row_of doc_of gone_doc
-gone-row clock bound r = cases (eqb (slot_of r).kind 0) (λ t. rw t) (λ f. rw f)
+pub gone-row : (clock bound : ℕ) (r : List ℕ) → (not (eqb (num r 0 2) 0) && gone clock bound (metadata_of (doc_of r))) ≡ picked (gone_doc clock bound) (row_of r)
+unfolding row_of doc_of slot_of gone_doc
+gone-row clock bound r = cases (eqb (num r 0 2) 0) (λ t. rw t) (λ f. rw f)
 
 module _ (p : Doc → Bool) where
   module _ (r : List ℕ) where
