@@ -15,7 +15,6 @@ use lib.Dec.{ltb, eqb}
 use lib.ListN.{length, drop, get_or, get_or-map, length-map, drop_of_length-le}
 use lib.Seq.{drop-cons}
 use borrow.Author.Tests.{lt-ltb, le-ltb, ltb-true, ltb-false}
-use Rattle.octets.specs.Parts.{part}
 use Rattle.octets.specs.BigEndian.{num}
 use Rattle.octets.proofs.Choices.{cases}
 use Rattle.keys.specs.Keys.{side_of, by_side}
@@ -23,7 +22,7 @@ use Rattle.keys.proofs.KeyLaws.{sides}
 use Rattle.document.specs.Documents.{Key}
 use Rattle.engine.specs.declared.Place.{Place}
 use Rattle.engine.specs.declared.Place.TheVariants.{Over, Into}
-use Rattle.rows.specs.Row.{Row, slot_of, key_of, row_of}
+use Rattle.rows.specs.Row.{Row, key_of, row_of}
 use Rattle.rows.proofs.OneRow.{no_row, row-free, row-used}
 use Rattle.plain.proofs.Rows.{is_free-row}
 use Rattle.ordered.specs.Order.{follows, row_side}
@@ -126,8 +125,7 @@ module _ (r key : List ℕ) where
   pub free-side : num r 0 2 ≡ 0 → row_side key (row_of r) ≡ Greater
   free-side e = rw (row-free r e)
 
-  pub used-side : (num r 0 2 ≡ 0 → ⊥) → side_of (part r 32 (num r 2 2)) key ≡ row_side key (row_of r)
-  unfolding key_of slot_of
+  pub used-side : (num r 0 2 ≡ 0 → ⊥) → side_of (key_of r) key ≡ row_side key (row_of r)
   used-side n = rw (row-used r n)
 
 -- rows in order, any two of them

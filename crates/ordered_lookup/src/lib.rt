@@ -9,7 +9,7 @@ ghost use Rattle.ordered.specs.Order.{row_side};
 ghost use Rattle.ordered_lookup.specs.Halving.{key_place, last_free, place_ordered, first_from};
 
 use engine::Place;
-use rows::{FIXED, ROW};
+use rows::ROW;
 use std::cmp::Ordering;
 
 // On which side of a key a row stands. A free row is above every key.
@@ -19,7 +19,7 @@ fn row_side(r: &[u8], key: &[u8]) -> Ordering
     if octets::be16(r, 0) == 0 {
         return Ordering::Greater;
     }
-    keys::compare(octets::part(r, FIXED, octets::be16(r, 2) as usize), key)
+    keys::compare(rows::row::key(r), key)
 }
 
 // The key's row, or the place of the first row above it: where a new row goes if there is room. Not `binary_search_by`, which says

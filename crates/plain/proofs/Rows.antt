@@ -33,8 +33,7 @@ module _ (r : List ℕ) where
       (λ t. rw (row-free r (eqb-true (num r 0 2) 0 t), t))
       (λ f. rw (row-used r (eqb-false (num r 0 2) 0 f), f))
 
-  pub row-holds : (key : List ℕ) → (not (eqb (num r 0 2) 0) && same (part r 32 (num r 2 2)) key) ≡ holds key (row_of r)
-  unfolding key_of slot_of
+  pub row-holds : (key : List ℕ) → (not (eqb (num r 0 2) 0) && same (key_of r) key) ≡ holds key (row_of r)
   row-holds key =
       cases (eqb (num r 0 2) 0)
       (λ t. rw (row-free r (eqb-true (num r 0 2) 0 t), t))

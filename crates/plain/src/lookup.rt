@@ -5,15 +5,13 @@ ghost use Rattle.rows.specs.Table.{table_of};
 ghost use Rattle.plain.specs.Lookup.{holds, is_free, find_in, free_in, free_place, key_row, place_by};
 
 use engine::Place;
-use rows::{FIXED, ROW};
+use rows::ROW;
 
 // Whether a row is used and has this key.
 fn row_holds(r: &[u8], key: &[u8]) -> bool
     ensures { result ≡ holds key.now (row_of r.now) }
 {
-    let kind = octets::be16(r, 0);
-    let k = octets::be16(r, 2) as usize;
-    (kind != 0) & compare::same(octets::part(r, FIXED, k), key)
+    (octets::be16(r, 0) != 0) & compare::same(rows::row::key(r), key)
 }
 
 fn is_free(r: &[u8]) -> bool

@@ -6,9 +6,8 @@ use mathlib.Core.List.{List, ◌∷◌, map}
 use lib.ListN.{drop}
 use borrow.Author.Tests.{lt-leb, le-leb}
 use Rattle.std.specs.Prelude.{is_none}
-use Rattle.octets.specs.Parts.{part}
 use Rattle.octets.specs.BigEndian.{num}
-use Rattle.rows.specs.Row.{Row, slot_of, key_of, row_of}
+use Rattle.rows.specs.Row.{Row, key_of, row_of}
 use Rattle.rows.specs.Table.{chunks, row_count}
 use Rattle.plain.specs.Lookup.{find_in}
 use Rattle.plain.specs.Damage.{distinct}
@@ -21,9 +20,8 @@ module _ (r : List ℕ) (ws : List Row) where
   pub distinct-free : num r 0 2 ≡ 0 → distinct ws ≡ distinct (row_of r ∷ ws)
   distinct-free e = rw (row-free r e)
 
-  pub distinct-used : (num r 0 2 ≡ 0 → ⊥) → (is_none (find_in (part r 32 (num r 2 2)) 0 ws) && distinct ws) ≡ distinct (row_of r ∷ ws)
-  unfolding key_of slot_of
-  distinct-used e = ap (λ (t : Bool). t && distinct ws) (missing-found (part r 32 (num r 2 2)) 0 ws) ∙ rw (row-used r e)
+  pub distinct-used : (num r 0 2 ≡ 0 → ⊥) → (is_none (find_in (key_of r) 0 ws) && distinct ws) ≡ distinct (row_of r ∷ ws)
+  distinct-used e = ap (λ (t : Bool). t && distinct ws) (missing-found (key_of r) 0 ws) ∙ rw (row-used r e)
 
 -- whether all keys differ, in the order of the code's tests
 module _ (b : List ℕ) where

@@ -11,13 +11,12 @@ use lib.Dec.{eqb}
 use lib.ListN.{length, take, drop, get_or, set, replicate, length-replicate}
 use lib.Seq.{drop-length}
 use borrow.Author.Tests.{eq-eqb, eqb-true, eqb-false}
-use Rattle.octets.specs.Parts.{part}
 use Rattle.octets.specs.BigEndian.{num}
 use Rattle.octets.specs.Compare.{same}
 use Rattle.octets.proofs.Choices.{cases, neither}
 use Rattle.octets.proofs.Tests.{same_true}
 use Rattle.fingerprint.specs.Fingerprint.{fingerprint, bucket_of, print_among}
-use Rattle.rows.specs.Row.{Row, row_of, key_of, slot_of}
+use Rattle.rows.specs.Row.{Row, row_of, key_of}
 use Rattle.plain.specs.Lookup.{find_in}
 use Rattle.plain.specs.Damage.{distinct}
 use Rattle.plain_damage.specs.Print.{row_print}
@@ -29,8 +28,7 @@ module _ (r : List ℕ) where
   pub print-free : num r 0 2 ≡ 0 → row_print (row_of r) ≡ 0
   print-free e = rw (row-free r e)
 
-  pub print-used : (num r 0 2 ≡ 0 → ⊥) → row_print (row_of r) ≡ fingerprint (part r 32 (num r 2 2))
-  unfolding key_of slot_of
+  pub print-used : (num r 0 2 ≡ 0 → ⊥) → row_print (row_of r) ≡ fingerprint (key_of r)
   print-used e = rw (row-used r e)
 
 -- a key whose fingerprint no row has is no row's
@@ -49,7 +47,7 @@ not-among key i (Some x ∷ ws) e =
 
 pub distinct-unprinted : (r : List ℕ) (ws : List Row) → (num r 0 2 ≡ 0 → ⊥) → print_among (row_print (row_of r)) (map row_print ws) ≡ false → distinct ws ≡ distinct (row_of r ∷ ws)
 distinct-unprinted r ws u e =
-    let m = not-among (part r 32 (num r 2 2)) 0 ws (ap (λ (p : ℕ). print_among p (map row_print ws)) (sym (print-used r u)) ∙ e) in
+    let m = not-among (key_of r) 0 ws (ap (λ (p : ℕ). print_among p (map row_print ws)) (sym (print-used r u)) ∙ e) in
     sym (ap (λ (t : Bool). t && distinct ws) m) ∙ distinct-used r ws u
 
 -- one row alone has no other's key

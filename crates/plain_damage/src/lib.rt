@@ -8,7 +8,7 @@ ghost use Rattle.plain_damage.specs.Print.{row_print};
 ghost use Rattle.plain.specs.Damage.{distinct};
 ghost use Rattle.plain_damage.specs.Distinct.{keys_distinct};
 
-use rows::{FIXED, ROW};
+use rows::ROW;
 
 // The fingerprint of a row's key, 0 where the row is free.
 fn row_print(r: &[u8]) -> u32
@@ -17,7 +17,7 @@ fn row_print(r: &[u8]) -> u32
     if octets::be16(r, 0) == 0 {
         return 0;
     }
-    fingerprint::of_key(octets::part(r, FIXED, octets::be16(r, 2) as usize))
+    fingerprint::of_key(rows::row::key(r))
 }
 
 // Whether a row is free, or none of the later ones has its key: what distinct asks of it. Keys are compared only where a later
@@ -32,7 +32,7 @@ fn first_distinct(row: &[u8], later: &[[u8; ROW]], print: u32, prints: &[u32]) -
     if !fingerprint::among(print, prints) {
         return true;
     }
-    let key = octets::part(row, FIXED, octets::be16(row, 2) as usize);
+    let key = rows::row::key(row);
     plain::lookup::find_in(later, key).is_none()
 }
 

@@ -23,9 +23,9 @@ use Rattle.plain.specs.Plain.{used_rows}
 use Rattle.plain_listing.specs.Places.{key_at, is_listed, row_key, with_key, keys_listed, fitting_keys}
 
 -- the key of a row that was cut out at its place
-pub key-cut : (b r : List ℕ) (i : ℕ) → i < row_count b → r ≡ part b (16 + i * 1312) 1312 → part r 32 (num r 2 2) ≡ key_at b i
-unfolding key_at key_of slot_of
-key-cut b r i h e = ap (λ (x : List ℕ). part x 32 (num x 2 2)) (e ∙ sym (row-there b i h))
+pub key-cut : (b r : List ℕ) (i : ℕ) → i < row_count b → r ≡ part b (16 + i * 1312) 1312 → key_of r ≡ key_at b i
+unfolding key_at
+key-cut b r i h e = ap key_of (e ∙ sym (row-there b i h))
 
 pub key-short : (b : List ℕ) (i : ℕ) → i < row_count b → length (key_at b i) ≤ 1280
 unfolding key_at
@@ -40,8 +40,7 @@ module _ (clock : ℕ) (start : Key) (r : List ℕ) where
     listed-dead kind expiry k x e = rw (row-used r u, row-alive r clock kind expiry k x, e)
 
     pub listed-live : (kind expiry : ℕ) → kind ≡ num r 0 2 → expiry ≡ num r 12 4 → alive (eqb kind 2) expiry clock ≡ true
-        → is_listed clock start (row_of r) ≡ not (key_below (part r 32 (num r 2 2)) start)
-    unfolding key_of slot_of
+        → is_listed clock start (row_of r) ≡ not (key_below (key_of r) start)
     listed-live kind expiry k x e = rw (row-used r u, row-alive r clock kind expiry k x, e)
 
     pub listed-key : row_key (row_of r) ≡ key_of r

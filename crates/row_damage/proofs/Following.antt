@@ -3,13 +3,12 @@ use Prim.Native.Nat.{ℕ}
 use mathlib.Core.Path.{◌≡◌, refl, sym, ap, ◌∙◌}
 use mathlib.Core.Bool.{true, false}
 use mathlib.Core.List.{List}
-use Rattle.octets.specs.Parts.{part}
 use Rattle.octets.specs.BigEndian.{num}
 use Rattle.std.specs.declared.cmp.Ordering.{Ordering}
 use Rattle.std.specs.declared.cmp.Ordering.TheVariants.{Less, Equal, Greater}
 use Rattle.std.specs.Ordering.{is_lt}
 use Rattle.keys.specs.Keys.{side_of, by_side}
-use Rattle.rows.specs.Row.{slot_of, key_of, row_of}
+use Rattle.rows.specs.Row.{key_of, row_of}
 use Rattle.rows.proofs.OneRow.{row-free, row-used}
 use Rattle.ordered.specs.Order.{follows}
 
@@ -26,7 +25,6 @@ module _ (v w : List ℕ) where
     pub used-after-free : num v 0 2 ≡ 0 → follows (row_of v) (row_of w) ≡ false
     used-after-free e = rw (row-free v e, row-used w u)
 
-    pub used-follows : (num v 0 2 ≡ 0 → ⊥) → (o : Ordering) → o ≡ side_of (part v 32 (num v 2 2)) (part w 32 (num w 2 2))
+    pub used-follows : (num v 0 2 ≡ 0 → ⊥) → (o : Ordering) → o ≡ side_of (key_of v) (key_of w)
         → follows (row_of v) (row_of w) ≡ is_lt o
-    unfolding key_of slot_of
     used-follows n o e = rw (row-used v n, row-used w u) (ap (λ (d : Ordering). by_side d true false false) (sym e)) ∙ sym (below-side o)

@@ -10,7 +10,7 @@ ghost use Rattle.ordered.specs.Order.{follows};
 ghost use Rattle.row_damage.specs.Walk.{in_order, checked_rows};
 
 use document::Head;
-use rows::{FIXED, HEADER, ROW};
+use rows::{HEADER, ROW};
 
 // Whether a row may stand right after another: a free row after any, a used one only after a used one with a smaller key.
 fn row_follows(v: &[u8], w: &[u8]) -> bool
@@ -22,8 +22,8 @@ fn row_follows(v: &[u8], w: &[u8]) -> bool
     if octets::be16(v, 0) == 0 {
         return false;
     }
-    let a = octets::part(v, FIXED, octets::be16(v, 2) as usize);
-    let b = octets::part(w, FIXED, octets::be16(w, 2) as usize);
+    let a = rows::row::key(v);
+    let b = rows::row::key(w);
     keys::compare(a, b).is_lt()
 }
 

@@ -1,9 +1,9 @@
 // A row's fixed part, read.
 ghost use Rattle.std.specs.Prelude.{◌≡◌};
 ghost use Rattle.document.specs.Stored.{metadata_of};
-ghost use Rattle.rows.specs.Row.{slot_of, doc_of};
+ghost use Rattle.rows.specs.Row.{slot_of, doc_of, key_of};
 
-use crate::Slot;
+use crate::{FIXED, Slot};
 use document::Metadata;
 use numbers::{Cas, Numbers, Revision};
 
@@ -22,6 +22,13 @@ pub fn slot(r: &[u8]) -> Slot
             cas: Cas(octets::be64(r, 24)),
         },
     }
+}
+
+// A row's key.
+pub fn key(r: &[u8]) -> &[u8]
+    ensures { result.now ≡ key_of r.now }
+{
+    octets::part(r, FIXED, octets::be16(r, 2) as usize)
 }
 
 // What a used row holds for its key, the value aside.

@@ -9,8 +9,8 @@ returns-in-Some c =
     let e : Entry = record { key = a.key.now; doc = record { tomb = a.m.tomb; value = a.value.now; numbers = a.m.numbers } } in
     c.insert_row.ensures ∙ ap (inserted_by a.b.now a.i e) (sym c.in-Some.is ∙ c.free.ensures)
 
-pub returns-in-None : goal.returns-in-None
-returns-in-None c =
+pub returns-in_default : goal.returns-in_default
+returns-in_default c =
     let a = c.args in
     let e : Entry = record { key = a.key.now; doc = record { tomb = a.m.tomb; value = a.value.now; numbers = a.m.numbers } } in
-    ap (inserted_by a.b.now a.i e) (sym c.in-None.is ∙ c.free.ensures)
+    ap (inserted_by a.b.now a.i e) (sym c.in_default.is ∙ c.free.ensures)

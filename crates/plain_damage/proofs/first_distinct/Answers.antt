@@ -3,7 +3,6 @@ use mathlib.Core.Bool.{Bool, true, false, not, ◌&&◌}
 use mathlib.Core.List.{List, map}
 use Prim.Native.Nat.{ℕ}
 use Rattle.std.specs.Prelude.{is_none}
-use Rattle.octets.specs.Parts.{part}
 use Rattle.fingerprint.specs.Fingerprint.{print_among}
 use Rattle.rows.specs.Row.{row_of}
 use Rattle.plain.specs.Damage.{distinct}
@@ -31,6 +30,5 @@ pub returns : goal.returns
 returns c =
     let a = c.args in
     let ws = map row_of a.later.now in
-    let key = c.part-key.ensures ∙ ap (part a.row.now 32) c.be16-2.ensures in
-    ap (λ (t : Bool). t && distinct ws) (opposite c.is_none.result _ c.is_none.ensures ∙ ap is_none (c.find_in.ensures ∙ ap (λ (k : List ℕ). find_in k 0 ws) key))
+    ap (λ (t : Bool). t && distinct ws) (opposite c.is_none.result _ c.is_none.ensures ∙ ap is_none (c.find_in.ensures ∙ ap (λ (k : List ℕ). find_in k 0 ws) c.key-key.ensures))
     ∙ distinct-used a.row.now ws (λ z. c.if-be16-eq0.false (c.be16.ensures ∙ z))

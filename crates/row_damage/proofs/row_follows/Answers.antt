@@ -1,5 +1,4 @@
-use mathlib.Core.Path.{sym, ap, ◌∙◌}
-use Rattle.octets.specs.Parts.{part}
+use mathlib.Core.Path.{sym, ◌∙◌}
 use Rattle.keys.specs.Keys.{side_of}
 use Rattle.row_damage.proofs.Following.{free-follows, used-after-free, used-follows}
 use Rattle.row_damage.proofs.row_follows.Goals as goal
@@ -19,11 +18,9 @@ pub returns : goal.returns
 returns c =
     let v = c.args.v.now in
     let w = c.args.w.now in
-    let p = c.part-a.ensures ∙ ap (part v 32) c.be16-3.ensures in
-    let q = c.part-b.ensures ∙ ap (part w 32) c.be16-4.ensures in
     c.is_lt.ensures
     ∙ sym (used-follows v w
     (λ z. c.if-be16-eq0.false (c.be16.ensures ∙ z))
     (λ z. c.if-be16-eq0-2.false (c.be16-2.ensures ∙ z))
     c.compare.result
-    (c.compare.ensures ∙ (λ i. side_of (p i) (q i))))
+    (c.compare.ensures ∙ (λ i. side_of (c.key-a.ensures i) (c.key-b.ensures i))))
