@@ -1,7 +1,6 @@
 // The numbers that words spell: decimal, or hexadecimal after 0x.
 use vector_text::bytes::digit;
 use vector_text::numbers;
-use vector_text::numbers::decimal;
 
 // The number that hexadecimal digits say, where it is under 2^64.
 fn hexadecimal(digits: &[u8]) -> Option<u64> {
@@ -13,7 +12,7 @@ fn hexadecimal(digits: &[u8]) -> Option<u64> {
 fn number(word: &[u8]) -> Option<u64> {
     match word {
         [b'0', b'x', _, ..] => hexadecimal(&word[2..]),
-        _ => decimal(word),
+        _ => digits::parse(word),
     }
 }
 

@@ -2,7 +2,6 @@
 ghost use Rattle.std.specs.Prelude.{◌≡◌, ◌<◌, length, IfSome};
 
 use vector_text::bytes::{byte, digit};
-use vector_text::numbers::decimal;
 use vector_text::parts::split_once;
 
 // Puts the bytes that pairs of hexadecimal digits spell at a place, and answers where they end, if they fit.
@@ -21,7 +20,7 @@ fn put_pairs(out: &mut [u8], from: usize, pairs: &[[u8; 2]]) -> Option<usize>
 fn digits_and_times(segment: &[u8]) -> Option<(&[u8], u64)> {
     match split_once(segment, b'*') {
         None => Some((segment, 1)),
-        Some((digits, times)) if times.len() <= 5 => Some((digits, decimal(times)?)),
+        Some((digits, times)) if times.len() <= 5 => Some((digits, digits::parse(times)?)),
         Some(_) => None,
     }
 }

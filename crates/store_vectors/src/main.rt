@@ -42,7 +42,6 @@ mod store;
 use engine::Config;
 use store::Store;
 use tally::Tally;
-use vector_text::numbers;
 use vector_text::numbers::decimals;
 use vector_text::parts::{cut, lines, words};
 use vector_text::show::text;
@@ -58,7 +57,7 @@ struct Lent {
 
 // The first number of those that a line gives, 0 where it is none: make and lend lend so much even where the line is wrong otherwise.
 fn first_number(given: &[u8]) -> usize {
-    words(given).next().and_then(numbers::decimal).unwrap_or(0) as usize
+    words(given).next().and_then(digits::parse).unwrap_or(0) as usize
 }
 
 // What a line finds lent: engine names another one, make and lend a new size, room and tally a new room or counts.

@@ -1,13 +1,5 @@
 -- What decimal digits say.
 use Rattle.std.specs.Prelude.{ℕ, ◌+◌, ◌-◌, ◌*◌, Bool, not, ◌&&◌, ◌||◌, cond, List, [], ◌∷◌, nat_le}
-use Rattle.std.specs.declared.option.Option.{Option}
-use Rattle.std.specs.declared.option.Option.TheVariants.{Some, None}
-use Rattle.digits.specs.declared.Number.{Number}
-use Rattle.digits.specs.declared.Number.TheVariants.{Value, NoNumber}
-
-abbrev pub value_of : Number → Option ℕ
-value_of (Value n) = Some n
-value_of NoNumber = None
 
 -- a number is left at what is no digit, and from 10,000 on
 abbrev pub stops : ℕ → ℕ → Bool

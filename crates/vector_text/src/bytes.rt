@@ -53,7 +53,7 @@ fn times_of(s: &[u8], times: Times) -> Option<(usize, &[u8])>
         }
         Times::Word => {
             let (word, left) = cut(s, b' ');
-            Some((numbers::decimal(word)? as usize, left))
+            Some((digits::parse(word)? as usize, left))
         }
     }
 }

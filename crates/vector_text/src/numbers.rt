@@ -1,20 +1,8 @@
 // Numbers that words spell.
 ghost use Rattle.std.specs.Prelude.{◌≡◌, ◌%◌, ◌<◌, ◌≤◌, length};
-ghost use Rattle.digits.specs.Decimal.{number_of};
-ghost use Rattle.vector_text.specs.Numbers.{value_of, leading_value, leading_left};
+ghost use Rattle.vector_text.specs.Numbers.{leading_value, leading_left};
 
 use crate::parts::words;
-use digits::Number;
-
-// The number that 1 to 20 decimal digits say, where it is under 2^64.
-pub fn decimal(word: &[u8]) -> Option<u64>
-    ensures { result ≡ value_of (number_of word.now) }
-{
-    match digits::parse(word) {
-        Number::Value(n) => Some(n),
-        Number::NoNumber => None,
-    }
-}
 
 // The decimal number at the start of a text, 0 where no digit stands there, and what follows it. Digits that would carry it past
 // 99,999 are left.
@@ -51,7 +39,7 @@ pub fn all<const N: usize, F: Fn(&[u8]) -> Option<u64>>(s: &[u8], number: F) -> 
 }
 
 pub fn decimals<const N: usize>(s: &[u8]) -> Option<[u64; N]> {
-    all(s, decimal)
+    all(s, digits::parse)
 }
 
 // The lowest bits of a number.
