@@ -15,7 +15,7 @@ use std::io::{Read, Write};
 use std::time::Clock;
 use tally::Tally;
 
-// What is next: read on, serve on with the reply area free again, or end.
+// What is next: read on, serve on with the reply area free again, or end. An end by its name is plainer than None in an Option of two.
 #[derive(Clone, Copy)]
 pub(crate) enum Next {
     Receive,
