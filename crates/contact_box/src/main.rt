@@ -32,7 +32,6 @@ ghost use Rattle.contact_box.specs.Arguments.{mode_number, Fits};
 
 use arguments::{Asked, Setup};
 use recorder::Recorder;
-use session::{Lent, Streams};
 use std::io::Write;
 
 const ACTIVE: u8 = 1;
@@ -76,18 +75,17 @@ fn serve<T: Write>(rt: &HostRuntime, setup: Setup, trace: &mut T, recorder: Reco
     make_table(table, setup);
     let mut input = rt.stdin();
     let mut output = rt.stdout();
-    let mut streams = Streams {
-        clock: rt,
-        input: &mut input,
-        output: &mut output,
+    let end = session::serve_input(
+        rt,
+        &mut input,
+        &mut output,
         trace,
-    };
-    let mut lent = Lent {
         table,
-        replies: &mut replies,
-    };
-    let end = session::serve_input(&mut streams, &mut lent, &mut received, recorder);
-    let head = rows::head_of(lent.table);
+        &mut received,
+        &mut replies,
+        recorder,
+    );
+    let head = rows::head_of(table);
     let mut said = rt.stderr();
     report::ended(&mut said, end.tally, head.clock);
     recorder::ended(&mut said, end.recorder);

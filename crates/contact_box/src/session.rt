@@ -16,7 +16,7 @@ use std::io::{Read, Write};
 use std::time::Clock;
 use tally::Tally;
 
-// What is next: read on, serve on with the reply area free again, or end.
+// What is next: read on, serve on with the reply area free again, or end. An end by its name is plainer than None in an Option of two.
 #[derive(Clone, Copy)]
 pub(crate) enum Next {
     Receive,
@@ -37,23 +37,6 @@ pub(crate) struct Session {
     pub(crate) tally: Tally,
     next: Next,
     pub(crate) recorder: Recorder,
-}
-
-// The memory that is lent to serve in: the table's, and room for replies. Room for received bytes is a parameter of its own, since the
-// proof has no rule for a field that is read while another one is written.
-#[derive(Drop)]
-pub(crate) struct Lent<'a> {
-    pub(crate) table: &'a mut [u8],
-    pub(crate) replies: &'a mut [u8],
-}
-
-// Where frames come from, where replies go, where both are recorded, and by which clock.
-#[derive(Drop)]
-pub(crate) struct Streams<'a, C, R, W, T> {
-    pub(crate) clock: &'a C,
-    pub(crate) input: &'a mut R,
-    pub(crate) output: &'a mut W,
-    pub(crate) trace: &'a mut T,
 }
 
 fn held_of(received: &[u8], h: Held) -> &[u8]
@@ -138,22 +121,23 @@ fn next_after(answer: Result<Served, Refusal>, written: bool) -> Next
 fn serve_held<W: Write>(
     config: Config,
     output: &mut W,
-    lent: &mut Lent,
+    table: &mut [u8],
     clock: u32,
     received: &[u8],
+    replies: &mut [u8],
     s: Session,
 ) -> Session
     ensures goes { Goes
-        (run_end config clock (held_of s.held received.now) (begun lent.old.table.now lent.old.replies.now s.tally))
-        lent.new.table.now received.now s result }
+        (run_end config clock (held_of s.held received.now) (begun table.old replies.old s.tally))
+        table.new received.now s result }
     ensures sent { SendsAll config clock (held_of s.held received.now)
-        (run_end config clock (held_of s.held received.now) (begun lent.old.table.now lent.old.replies.now s.tally))
+        (run_end config clock (held_of s.held received.now) (begun table.old replies.old s.tally))
         (W.contents output.old) (W.contents output.new) result.next }
 {
     let held = s.held;
     let run = held_of(received, held);
-    let ran = run::serve_run(config, lent.table, clock, run, lent.replies, s.tally);
-    let written = writing::all(output, octets::part(lent.replies, 0, ran.filled));
+    let ran = run::serve_run(config, table, clock, run, replies, s.tally);
+    let written = writing::all(output, octets::part(replies, 0, ran.filled));
     Session {
         held: past(held, ran.cursor.at),
         tally: ran.tally,
@@ -177,7 +161,6 @@ fn length_of(answer: Result<Served, Refusal>) -> usize
 }
 
 // Serves the first of the frames that are held, without what stands behind it, writes its reply, and records both.
-// Its table is no part of a struct: behind one, the proof is not told that the old table holds bytes.
 fn serve_first<W: Write, T: Write>(
     config: Config,
     output: &mut W,
@@ -214,43 +197,42 @@ fn serve_first<W: Write, T: Write>(
 }
 
 // Serves what is held, on rows in key order: all frames at once, or one by one where they are recorded.
-fn serve_some<C: Clock, R: Read, W: Write, T: Write>(
-    streams: &mut Streams<C, R, W, T>,
-    lent: &mut Lent,
+fn serve_some<C: Clock, W: Write, T: Write>(
+    clock: &C,
+    output: &mut W,
+    trace: &mut T,
+    table: &mut [u8],
     received: &[u8],
+    replies: &mut [u8],
     s: Session,
 ) -> Session
     ensures { Waits result.next (held_of result.held received.now) }
 {
     let config = engine::config_for(false);
-    let now = clock::now(streams.clock);
+    let now = clock::now(clock);
     if recorder::is_on(s.recorder) {
-        return serve_first(
-            config,
-            streams.output,
-            streams.trace,
-            lent.table,
-            now,
-            received,
-            lent.replies,
-            s,
-        );
+        return serve_first(config, output, trace, table, now, received, replies, s);
     }
-    serve_held(config, streams.output, lent, now, received, s)
+    serve_held(config, output, table, now, received, replies, s)
 }
 
+// Structs of the streams and of what is lent were tried: 894 instructions a frame in place of 885.
 fn turn<C: Clock, R: Read, W: Write, T: Write>(
-    streams: &mut Streams<C, R, W, T>,
-    lent: &mut Lent,
+    clock: &C,
+    input: &mut R,
+    output: &mut W,
+    trace: &mut T,
+    table: &mut [u8],
     received: &mut [u8],
+    replies: &mut [u8],
     s: Session,
 ) -> Session
     requires { (1424 ≤ length received.old) × Waits s.next (held_of s.held received.old) }
     ensures { Waits result.next (held_of result.held received.new) }
 {
     match s.next {
-        Next::Receive => receive_on(streams.input, received, s),
-        Next::Serve => serve_some(streams, lent, received, s),
+        Next::Receive => receive_on(input, received, s),
+        Next::Serve => serve_some(clock, output, trace, table, received, replies, s),
         Next::Close => s,
     }
 }
@@ -258,9 +240,13 @@ fn turn<C: Clock, R: Read, W: Write, T: Write>(
 // Serves the input to its end. A proved loop has to end, and nothing says that an input does, so the turns are counted up to a number
 // that no input uses up.
 pub(crate) fn serve_input<C: Clock, R: Read, W: Write, T: Write>(
-    streams: &mut Streams<C, R, W, T>,
-    lent: &mut Lent,
+    clock: &C,
+    input: &mut R,
+    output: &mut W,
+    trace: &mut T,
+    table: &mut [u8],
     received: &mut [u8],
+    replies: &mut [u8],
     recorder: Recorder,
 ) -> Session
     requires { 1424 ≤ length received.old }
@@ -279,7 +265,7 @@ pub(crate) fn serve_input<C: Clock, R: Read, W: Write, T: Write>(
         if matches!(s.next, Next::Close) {
             break;
         }
-        s = turn(streams, lent, received, s);
+        s = turn(clock, input, output, trace, table, received, replies, s);
     }
     s
 }

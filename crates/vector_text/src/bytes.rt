@@ -93,6 +93,7 @@ fn put_run(out: &mut [u8], at: usize, byte: u8, times: usize) -> usize
 }
 
 // Puts the bytes that a text spells at a place, and answers where they end. Where they fill out to its end, they may have been more.
+// The contract doesn't say which bytes they are: that would be all of `first_run` a second time.
 pub fn put(out: &mut [u8], from: usize, s: &[u8], times: Times) -> Option<usize>
     ensures len { length out.new ≡ length out.old }
     ensures end { IfSome result (λ end. (from ≤ end) × (end < length out.old)) }
