@@ -57,13 +57,13 @@ pub clock-back : ClockBack
 unfolding field_by
 clock-back clock rest h =
     let l : length (bytes_of 4 clock) ≡ 4 = length-bytes 4 clock in
-    field-by 1 (bytes_of 4 clock) rest (omega arith) (omega arith) (Some (Clock clock)) (rw l (ap Clock (number-back 1 4 clock rest h)))
+    field-by 1 (bytes_of 4 clock) rest (omega arith) (omega arith) (Some (Clock clock)) (rw l (ap (λ (n : ℕ). Some (Clock n)) (number-back 1 4 clock rest h)))
 
 pub purge-back : PurgeBack
 unfolding field_by
 purge-back bound rest h =
     let l : length (bytes_of 8 bound) ≡ 8 = length-bytes 8 bound in
-    field-by 4 (bytes_of 8 bound) rest (omega arith) (omega arith) (Some (Purge (record { 0 = bound }))) (rw l (ap (λ (n : ℕ). Purge (record { 0 = n })) (number-back 4 8 bound rest h)))
+    field-by 4 (bytes_of 8 bound) rest (omega arith) (omega arith) (Some (Purge (record { 0 = bound }))) (rw l (ap (λ (n : ℕ). Some (Purge (record { 0 = n }))) (number-back 4 8 bound rest h)))
 
 pub frame_back : FrameBack
 unfolding field_by
