@@ -1,6 +1,6 @@
 -- The live rows from a place on: whether the row there is live, its key, and the keys of the rows after it.
 use native.Mathlib.Omega.{arith}
-use Prim.Native.Nat.{ℕ, ◌+◌, ◌-◌, ◌*◌, ◌≤◌, ◌<◌}
+use Prim.Native.Nat.{ℕ, ◌+◌, ◌≤◌, ◌<◌}
 use mathlib.Core.Path.{◌≡◌, refl, sym, ap, ◌∙◌}
 use mathlib.Core.Bool.{true, false, not, ◌&&◌, false≢true}
 use mathlib.Core.List.{List, [], ◌∷◌, map}
@@ -9,14 +9,13 @@ use lib.Dec.{eqb}
 use lib.ListN.{length, drop, get_or, get_or-map, length-map, drop_of_length-le}
 use Rattle.std.proofs.lemmas.List.{drop_more}
 use borrow.Author.Tests.{eqb-true, eqb-false, lt-ltb, le-ltb}
-use Rattle.octets.specs.Parts.{part}
 use Rattle.octets.specs.BigEndian.{num}
 use Rattle.octets.proofs.Choices.{cases}
 use Rattle.document.specs.Documents.{Key}
 use Rattle.document.specs.Stored.{alive}
 use Rattle.listing.specs.Listing.{taken, keys_bytes}
-use Rattle.rows.specs.Row.{Row, slot_of, key_of, row_of}
-use Rattle.rows.specs.Table.{row_count, table_of}
+use Rattle.rows.specs.Row.{Row, key_of, row_of}
+use Rattle.rows.specs.Table.{table_of}
 use Rattle.rows.proofs.OneRow.{no_row, row-free, row-used, row-alive}
 use Rattle.ordered_lookup.specs.Halving.{first_from}
 use Rattle.ordered_listing.specs.Walk.{is_live, keys_live, keys_walked}

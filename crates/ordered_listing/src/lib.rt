@@ -52,5 +52,11 @@ pub fn put_keys(b: &[u8], clock: u32, start: &[u8], count: u32, out: &mut [u8]) 
     if out.len() < ROOM {
         return 0;
     }
-    put_rows(rows::all(b), ordered_lookup::first_from(b, start), clock, count, out)
+    put_rows(
+        rows::all(b),
+        ordered_lookup::first_from(b, start),
+        clock,
+        count,
+        out,
+    )
 }

@@ -16,7 +16,7 @@ use Rattle.document.specs.Documents.{Key}
 use Rattle.document.specs.Stored.{stored_of, alive, live}
 use Rattle.listing.specs.Listing.{live_keys, insert_key, sort_keys, from_key, keys_bytes, taken, keys_from, listed_keys, listing}
 use Rattle.listing.proofs.Sorting.{from-insert}
-use Rattle.rows.specs.Row.{Row, slot_of, key_of, row_of}
+use Rattle.rows.specs.Row.{Row, key_of, row_of}
 use Rattle.rows.specs.Table.{row_count, row_at, rows_of, table_of}
 use Rattle.rows.proofs.OneRow.{row-free, row-used, row-alive, row-there, row-size, key-inside, first-row}
 use Rattle.plain.specs.Plain.{used_rows}

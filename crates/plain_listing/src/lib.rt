@@ -45,7 +45,8 @@ fn is_listed(r: &[u8], clock: u32, start: &[u8]) -> bool
 }
 
 // Where a key belongs among the places from first on, which are in key order. Before all of them is looked at first: in a
-// table whose keys rise from row to row it is there.
+// table whose keys rise from row to row it is there. Not `partition_point`, whose test must answer for any place: `key_at` is for
+// the places of rows.
 fn position(b: &[u8], order: &[u8], first: usize, key: &[u8]) -> usize
     requires order_len { (length order.now ≡ 256) × (first ≤ 256) }
     requires within { Within (row_count b.now) (drop first order.now) × InOrder (keys_of b.now order.now first) }

@@ -7,6 +7,7 @@ use crate::{FIXED, HEADER, ROW, Slot};
 use document::Head;
 use numbers::{Cas, Numbers, Revision};
 
+// With `&&` for `&`, a walk over 256 rows takes 42,085 instructions and not 40,806.
 fn used_ok(s: Slot, mark: u64) -> bool
     ensures { result ≡ used_ok mark s }
 {
@@ -28,6 +29,7 @@ pub fn row_sound(r: &[u8], mark: u64) -> bool
     used_ok(s, mark) & compare::zero_run(octets::rest(r, FIXED + used))
 }
 
+// Ranges' `contains` was tried, here and below: the proof didn't close by the search.
 pub fn head_ok(h: Head) -> bool
     ensures { result ≡ head_ok h }
 {

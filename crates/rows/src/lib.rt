@@ -54,8 +54,5 @@ pub fn all(s: &[u8]) -> &[[u8; ROW]]
 pub fn rows_in(len: usize) -> usize
     ensures { result ≡ (len - 16) / 1312 }
 {
-    if len < HEADER {
-        return 0;
-    }
-    (len - HEADER) / ROW
+    len.saturating_sub(HEADER) / ROW
 }

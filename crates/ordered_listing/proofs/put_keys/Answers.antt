@@ -6,7 +6,6 @@ use Rattle.octets.specs.Parts.{written}
 use Rattle.rows.proofs.OneRow.{all-rows}
 use lib.ListN.{length, drop}
 use mathlib.Core.Path.{sym, ap, ◌∙◌}
-use Prim.Native.Nat.{ℕ}
 use Rattle.ordered_listing.proofs.put_keys.Goals as goal
 
 pub returns-then-out-lt-ROOM : goal.returns-then-out-lt-ROOM

@@ -1,12 +1,12 @@
 -- `move_rows` meets its contract: what is there is the copy of all rows but those that are left.
 use Prim.Native.Nat.{ℕ, ◌+◌, ◌-◌, ◌*◌, ◌≤◌}
 use mathlib.Core.List.{List}
-use mathlib.Core.Path.{◌≡◌, refl, sym, ap, ◌∙◌}
+use mathlib.Core.Path.{◌≡◌, sym, ap, ◌∙◌}
 use native.Mathlib.Nat.{add-zero, sub-zero}
 use native.Mathlib.Omega.{arith}
-use lib.ListN.{length, length-take, length-drop}
+use lib.ListN.{length}
 use Rattle.octets.specs.Parts.{part, pasted}
-use Rattle.octets.proofs.Lists.{moved, move-none, move-more, length-pasted}
+use Rattle.octets.proofs.Lists.{moved, move-none, move-more}
 use Rattle.ordered_writer.proofs.move_rows.Goals as goal
 
 -- one more row

@@ -1,6 +1,5 @@
 use Rattle.plain_listing.proofs.Listed.{listed_free, listed-dead, listed-live}
 use Rattle.keys.specs.Keys.{key_below}
-use Rattle.octets.specs.Parts.{part}
 use Prim.Native.Nat.{ℕ}
 use mathlib.Core.List.{List}
 use mathlib.Core.Bool.{not}

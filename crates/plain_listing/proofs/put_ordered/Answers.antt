@@ -1,4 +1,4 @@
-use Rattle.listing.proofs.Writing.{Partly, begun, out-of-count, out-of-keys, out-of-room, one_written}
+use Rattle.listing.proofs.Writing.{begun, out-of-count, out-of-keys, out-of-room, one_written}
 use Rattle.plain_listing.proofs.Placing.{place-below, keys_step, keys_none}
 use Rattle.plain_listing.proofs.Listed.{key-short}
 use Rattle.plain_listing.specs.Places.{keys_of}
