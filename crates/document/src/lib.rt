@@ -7,7 +7,7 @@ ghost use Rattle.document.specs.Stored.{alive, live, is_document, has_row, numbe
 
 use numbers::{Cas, Mode, Numbers, Revision};
 
-// A table's head.
+// A table's head. State and mode stay numbers: `head_of` and `head_bytes` of rows/specs/Table.antt give the head of any bytes, damaged ones too.
 #[derive(Clone, Copy)]
 pub struct Head {
     // 1 active, 2 replica, 3 pending, 4 dead

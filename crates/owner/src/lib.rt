@@ -53,7 +53,8 @@ fn put_fresh(s: &mut [u8], rows: usize, state: u8, mode: u8, vbucket: u16)
     octet_writer::put_zeros(s, HEADER, rows * ROW);
 }
 
-// Makes a fresh table. Where that is refused the memory is unchanged.
+// Makes a fresh table. Where that is refused the memory is unchanged. State and mode are numbers: telling which are in range is this call's part
+// (`make_ok`).
 pub fn make(s: &mut [u8], rows: usize, state: u8, mode: u8, vbucket: u16) -> Result<(), MakeError>
     ensures { (made_told result ≡ make_outcome (length s.old) rows state mode) × (s.new ≡ made s.old rows state mode vbucket) }
 {

@@ -150,6 +150,7 @@ fn replay_fields(
         frames: 0,
         filled: 0,
     };
+    // Each field says how far the next is, so that there is nothing to go over.
     while p.at < trace.len() {
         p = turn(config, b, octets::rest(trace, p.at), out, p)?;
     }

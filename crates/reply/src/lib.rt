@@ -137,14 +137,14 @@ pub fn put_reply(out: &mut [u8], op: u8, opaque: u32, d: Decision, key: &[u8], o
     put_fitting(out, op, opaque, d, key, old)
 }
 
-// Writes a bare header with a status, 24 bytes, where they fit.
+// Writes a bare header with a status, 24 bytes, where they fit. The status is the number that stands in the header: this took any, and takes any.
 pub fn put_bare(out: &mut [u8], op: u8, opaque: u32, status: u8)
     ensures { out.new ≡ written out.old 0 (header_bytes (bare_header op opaque status)) }
 {
     header::put(out, header_with(op, opaque, status, 0, 0, 0, Cas(0)));
 }
 
-// Writes the header of a reply whose value of so many bytes stands after it already.
+// Writes the header of a reply whose value of so many bytes stands after it already. The status is a number, as above.
 pub fn put_value_header(out: &mut [u8], op: u8, opaque: u32, status: u8, size: u32, cas: Cas)
     ensures { out.new ≡ written out.old 0 (header_bytes (header_with op opaque status 0 0 size cas)) }
 {

@@ -25,7 +25,7 @@ pub fn put_head(b: &mut [u8], h: Head)
     octet_writer::put_be(b, 8, 8, h.mark.0);
 }
 
-// Writes the state alone. Memory with no room for it is left unchanged.
+// Writes the state alone, any number, as `put_head` does. Memory with no room for it is left unchanged.
 pub fn put_state(b: &mut [u8], state: u8)
     ensures { b.new ≡ written b.old 0 (bytes_of 1 state) }
 {

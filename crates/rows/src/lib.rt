@@ -24,7 +24,7 @@ pub const SPACE: usize = 1280;
 // The fixed part of a row.
 #[derive(Clone, Copy)]
 pub struct Slot {
-    // 0 free, 1 document, 2 tombstone
+    // 0 free, 1 document, 2 tombstone; in damaged memory any number, which `slot_of` gives
     pub kind: u16,
     pub keylen: u16,
     pub vallen: u32,

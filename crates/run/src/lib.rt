@@ -62,6 +62,7 @@ pub fn serve_frames(
     let mut filled: usize = 0;
     let mut tally = t;
     let mut left = more;
+    // Each step says how far the next is, so that there is nothing to go over.
     loop {
         let head = table::head(b);
         let seen = octets::rest(run, cursor.at);

@@ -15,7 +15,7 @@ pub const OPENING: usize = 3;
 // The bytes of a field before those that it holds: tag and length.
 pub const FRONT: usize = 3;
 
-// How a trace opens: the mode and the vbucket of its table.
+// How a trace opens: the mode, a number as `owner::make` takes it, and the vbucket of its table.
 #[derive(Clone, Copy)]
 pub struct Opening {
     pub mode: u8,
