@@ -2,15 +2,15 @@
 use native.Mathlib.Omega.{arith}
 use native.Mathlib.Nat.{zero-add}
 use mathlib.Core.Path.{◌≡◌, refl, sym, ap, ◌∙◌}
-use mathlib.Core.Bool.{true, false, ◌&&◌, and-false}
+use mathlib.Core.Bool.{and-false}
 use mathlib.Core.List.{List, [], ◌∷◌, ◌++◌}
 use Prim.Native.Nat.{ℕ, ◌+◌, ◌-◌, ◌≤◌, ◌<◌}
-use lib.Dec.{ltb, leb}
+use lib.Dec.{leb}
 use lib.ListN.{length}
-use borrow.Author.Tests.{ltb-true, ltb-false, lt-leb, leb-true, leb-false}
+use borrow.Author.Tests.{lt-leb, leb-true, leb-false}
 use Rattle.octets.specs.Parts.{written}
 use Rattle.octets.specs.BigEndian.{bytes_of}
-use Rattle.octets.proofs.Choices.{cases, both}
+use Rattle.octets.proofs.Choices.{cases}
 use Rattle.octets.proofs.Lists.{written_none, written-not, length-written, then-two}
 use Rattle.octets.proofs.Numbers.{length-bytes}
 use Rattle.document.specs.Documents.{Key}
