@@ -154,35 +154,23 @@ fn meta_decoded(
 // Field rules and command by one reading of the extras, from a frame's header, its opcode's shape, its extras and what
 // follows its key. Each kind of command is made at one place, so that the compiler puts it there, and its extras are read
 // only once the kind is known: each read past their end is a slow one.
-pub fn decoded_by(forcing: bool, shape: Shape, h: Header, extras: &[u8], value: &[u8]) -> Option<Instruction>
+pub fn decoded_by(
+    forcing: bool,
+    shape: Shape,
+    h: Header,
+    extras: &[u8],
+    value: &[u8],
+) -> Option<Instruction>
     ensures { result ≡ decoded_by forcing (shape_told shape) h extras.now value.now }
 {
     let size = value.len();
     let operation = shape.operation;
     match family_of(operation) {
         Family::Bare(c) => Some(instruction_with(shape, h, c, size, false)),
-        Family::Stored(k) => Some(instruction_with(
-            shape,
-            h,
-            plain_of(k, extras),
-            size,
-            false,
-        )),
-        Family::Counted(u) => Some(instruction_with(
-            shape,
-            h,
-            counter_of(u, extras),
-            size,
-            false,
-        )),
+        Family::Stored(k) => Some(instruction_with(shape, h, plain_of(k, extras), size, false)),
+        Family::Counted(u) => Some(instruction_with(shape, h, counter_of(u, extras), size, false)),
         Family::Carried(k) => meta_decoded(forcing, shape, h, k, extras, value),
         Family::Listed => list_decoded(shape, h, extras, size),
-        Family::Touched(s) => Some(instruction_with(
-            shape,
-            h,
-            touch_of(s, extras),
-            size,
-            false,
-        )),
+        Family::Touched(s) => Some(instruction_with(shape, h, touch_of(s, extras), size, false)),
     }
 }

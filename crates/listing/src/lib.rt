@@ -15,12 +15,11 @@ pub const ROOM: usize = 1302;
 // written, where the key doesn't fit.
 #[inline(always)]
 pub fn put_key(out: &mut [u8], size: usize, key: &[u8]) -> Option<usize>
-    requires { (size ≤ 1278) × (length key.now ≤ 1312) }
     ensures { MatchOption result ((1278 - size < 4 + length key.now) × (out.new ≡ out.old))
         (λ n. (4 + length key.now ≤ 1278 - size) × (n ≡ size + (4 + length key.now))
         × (out.new ≡ written (written out.old (24 + size) (bytes_of 4 (length key.now))) (28 + size) key.now)) }
 {
-    if LIMIT - size < 4 + key.len() {
+    if LIMIT.saturating_sub(size) < 4 + key.len() {
         return None;
     }
     octet_writer::put_be(out, 24 + size, 4, key.len() as u64);

@@ -20,6 +20,10 @@ abbrev pub or_else : Option ℕ → Option ℕ → Option ℕ
 or_else (Some i) f = Some i
 or_else None f = f
 
+-- the whole rows of a run of bytes
+abbrev pub run_rows : List ℕ → List Row
+run_rows b = rows_of (length b / 1312) b
+
 -- the place of the first row that holds the key, and of the first free row, counted from i
 abbrev pub find_in : List ℕ → ℕ → List Row → Option ℕ
 find_in key i [] = None

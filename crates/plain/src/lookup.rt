@@ -2,7 +2,7 @@
 ghost use Rattle.std.specs.Prelude.{◌≡◌, cond, map};
 ghost use Rattle.rows.specs.Row.{row_of};
 ghost use Rattle.rows.specs.Table.{table_of};
-ghost use Rattle.plain.specs.Lookup.{holds, is_free, find_in, free_in, free_place, key_row, place_by};
+ghost use Rattle.plain.specs.Lookup.{holds, is_free, run_rows, find_in, free_in, free_place, key_row, place_by};
 
 use engine::Place;
 use rows::ROW;
@@ -21,17 +21,24 @@ fn is_free(r: &[u8]) -> bool
 }
 
 // The first of these rows that holds the key.
-pub fn find_in(rows: &[[u8; ROW]], key: &[u8]) -> Option<usize>
+pub fn find_among(rows: &[[u8; ROW]], key: &[u8]) -> Option<usize>
     ensures { result ≡ find_in key.now 0 (map row_of rows.now) }
 {
     rows.iter().position(|row| row_holds(row, key))
+}
+
+// The first row of a run of rows, whatever stands in it, that holds the key.
+pub fn find_in(s: &[u8], key: &[u8]) -> Option<usize>
+    ensures { result ≡ find_in key.now 0 (run_rows s.now) }
+{
+    find_among(s.as_chunks::<ROW>().0, key)
 }
 
 // The place of the row that holds the key.
 pub fn find(s: &[u8], key: &[u8]) -> Option<usize>
     ensures { result ≡ find_in key.now 0 (table_of s.now).rows }
 {
-    find_in(rows::all(s), key)
+    find_among(rows::all(s), key)
 }
 
 // The place of the lowest free row.

@@ -33,7 +33,7 @@ fn first_distinct(row: &[u8], later: &[[u8; ROW]], print: u32, prints: &[u32]) -
         return true;
     }
     let key = rows::row::key(row);
-    plain::lookup::find_in(later, key).is_none()
+    plain::lookup::find_among(later, key).is_none()
 }
 
 // From the last row to the first; the fingerprints of the rows seen stand in prints, each at its row's place, and their buckets

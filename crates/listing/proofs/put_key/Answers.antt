@@ -8,4 +8,4 @@ use Rattle.listing.proofs.put_key.Goals as goal
 pub returns : goal.returns
 returns c =
     let a = c.args in
-    (c.if-size-key.false, omega arith, c.put_bytes.ensures ∙ ap (λ (s : List ℕ). written s (28 + a.size) a.key.now) c.put_be.ensures)
+    (omega (arith, c.if-saturating_sub-key.false, c.saturating_sub.ensures), omega arith, c.put_bytes.ensures ∙ ap (λ (s : List ℕ). written s (28 + a.size) a.key.now) c.put_be.ensures)

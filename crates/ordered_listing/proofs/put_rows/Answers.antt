@@ -12,13 +12,6 @@ use Rattle.ordered_listing.proofs.put_rows.Goals.{then-is_live+in-Some, else-is_
 pub returns-then-left-eq0 : goal.returns-then-left-eq0
 returns-then-left-eq0 c = out-of-count _ _ _ _ _ _ c.loop-i.invariant c.if-left-eq0.true
 
-pub put_key-requires : goal.put_key-requires
-put_key-requires c =
-    let l = c.loop-i in
-    let row = get_or c.args.rows.now l.i [] in
-    let h : length row ≡ 1312 = c.told-rows l.i c.loop-i-test.true in
-    (l.invariant.within, omega (arith, ap length c.key.ensures, key-inside row (omega (arith, h))))
-
 pub returns-in-None : goal.returns-in-None
 returns-in-None c =
     let l = c.loop-i in

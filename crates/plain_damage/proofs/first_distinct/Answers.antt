@@ -30,5 +30,5 @@ pub returns : goal.returns
 returns c =
     let a = c.args in
     let ws = map row_of a.later.now in
-    ap (λ (t : Bool). t && distinct ws) (opposite c.is_none.result _ c.is_none.ensures ∙ ap is_none (c.find_in.ensures ∙ ap (λ (k : List ℕ). find_in k 0 ws) c.key-key.ensures))
+    ap (λ (t : Bool). t && distinct ws) (opposite c.is_none.result _ c.is_none.ensures ∙ ap is_none (c.find_among.ensures ∙ ap (λ (k : List ℕ). find_in k 0 ws) c.key-key.ensures))
     ∙ distinct-used a.row.now ws (λ z. c.if-be16-eq0.false (c.be16.ensures ∙ z))

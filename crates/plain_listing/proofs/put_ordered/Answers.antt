@@ -22,13 +22,6 @@ key_at-requires c =
     let l = c.loop-j in
     place-below (row_count a.b.now) a.order.now a.first l.j c.requires.1.1.1 l.auto.j c.loop-j-test.true
 
-pub put_key-requires : goal.put_key-requires
-put_key-requires c =
-    let a = c.args in
-    let l = c.loop-j in
-    let p = place-below (row_count a.b.now) a.order.now a.first l.j c.requires.1.1.1 l.auto.j c.loop-j-test.true in
-    (l.invariant.within, omega (arith, key-short a.b.now (get_or a.order.now l.j 0) p, ap length c.key_at.ensures))
-
 pub returns-in-None : goal.returns-in-None
 returns-in-None c =
     let a = c.args in

@@ -8,4 +8,4 @@ use Rattle.plain.proofs.lookup.find.Goals as goal
 
 pub returns : goal.returns
 unfolding table_of
-returns c = c.find_in.ensures ∙ ap (λ (rs : List (List ℕ)). find_in c.args.key.now 0 (map row_of rs)) c.all.ensures.0
+returns c = c.find_among.ensures ∙ ap (λ (rs : List (List ℕ)). find_in c.args.key.now 0 (map row_of rs)) c.all.ensures.0

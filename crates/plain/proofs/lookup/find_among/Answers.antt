@@ -7,7 +7,7 @@ use Rattle.std.proofs.lemmas.Iterator.Search.{position_from_yields_List}
 use Rattle.rows.specs.Row.{row_of}
 use Rattle.plain.specs.Lookup.{holds}
 use Rattle.plain.proofs.Rows.{found-in}
-use Rattle.plain.proofs.lookup.find_in.Goals as goal
+use Rattle.plain.proofs.lookup.find_among.Goals as goal
 
 pub returns : goal.returns
 returns c =
