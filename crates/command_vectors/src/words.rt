@@ -1,6 +1,6 @@
 // The numbers that words spell: decimal, or hexadecimal after 0x.
 use vector_text::bytes::digit;
-use vector_text::numbers;
+use vector_text::parts;
 
 // The number that hexadecimal digits say, where it is under 2^64.
 fn hexadecimal(digits: &[u8]) -> Option<u64> {
@@ -16,7 +16,16 @@ fn number(word: &[u8]) -> Option<u64> {
     }
 }
 
-// So many numbers, and nothing else.
-pub(crate) fn all<const N: usize>(words: &[u8]) -> Option<[u64; N]> {
-    numbers::all(words, number)
+// So many numbers, and nothing else. `decimals` of store_vectors is this for decimal ones alone: a public function with a closure would need a
+// `requires`, which none here has.
+pub(crate) fn all<const N: usize>(s: &[u8]) -> Option<[u64; N]> {
+    let mut values = [0u64; N];
+    let mut words = parts::words(s);
+    for value in values.iter_mut() {
+        *value = number(words.next()?)?;
+    }
+    if words.next().is_some() {
+        return None;
+    }
+    Some(values)
 }

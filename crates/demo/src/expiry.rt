@@ -49,7 +49,7 @@ fn set_contact(boat: &mut [u8], reply: &mut [u8]) -> Cas {
         cas: Cas(0),
     };
     frames::fresh(boat);
-    frames::send(boat, call, &extras, b"wreck:north-bank", b"38", reply);
+    let _ = frames::send(boat, call, &extras, b"wreck:north-bank", b"38", reply);
     Cas(octets::be64(reply, 16))
 }
 

@@ -40,9 +40,8 @@ mod show;
 mod store;
 
 use engine::Config;
-use store::Store;
+use store::{Store, decimals};
 use tally::Tally;
-use vector_text::numbers::decimals;
 use vector_text::parts::{cut, lines, words};
 use vector_text::show::text;
 

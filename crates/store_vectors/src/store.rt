@@ -3,11 +3,11 @@ use crate::show;
 use engine::Config;
 use numbers::{Cas, Numbers, Revision};
 use tally::Tally;
-use vector_text::bytes;
 use vector_text::bytes::Times;
-use vector_text::numbers::{decimals, low8, low16, low32};
+use vector_text::numbers::{low8, low16, low32};
 use vector_text::parts::cut;
 use vector_text::show::{decimal, octets, text};
+use vector_text::{bytes, parts};
 
 // What the memory holds before a table is made in it, and the reply area before a frame is served.
 pub(crate) const FILL: u8 = 0xee;
@@ -35,6 +35,25 @@ fn entry<'a>(space: &'a mut [u8], spelled: &[u8]) -> Option<(&'a [u8], &'a [u8])
     let middle = bytes::put(space, 0, key, Times::Word)?;
     let end = bytes::put(space, middle, value, Times::Word)?;
     Some((&space[..middle], &space[middle..end]))
+}
+
+// The bytes that a text spells, put at the start of a space that is longer than they are.
+fn bytes_spelled<'a>(space: &'a mut [u8], spelled: &[u8]) -> Option<&'a [u8]> {
+    let end = bytes::put(space, 0, spelled, Times::Word)?;
+    Some(&space[..end])
+}
+
+// So many decimal numbers, and nothing else.
+pub(crate) fn decimals<const N: usize>(s: &[u8]) -> Option<[u64; N]> {
+    let mut values = [0u64; N];
+    let mut words = parts::words(s);
+    for value in values.iter_mut() {
+        *value = digits::parse(words.next()?)?;
+    }
+    if words.next().is_some() {
+        return None;
+    }
+    Some(values)
 }
 
 impl Store<'_> {
@@ -128,7 +147,7 @@ impl Store<'_> {
         match word {
             b"poke" => {
                 let [at] = decimals::<1>(given)?;
-                match bytes::spelled(space, spelled, Times::Word) {
+                match bytes_spelled(space, spelled) {
                     Some(bytes) => self.poke(at as usize, bytes),
                     None => text(b"what?"),
                 }
@@ -148,7 +167,7 @@ impl Store<'_> {
             }
             b"read" => {
                 let [clock] = decimals::<1>(given)?;
-                match bytes::spelled(space, spelled, Times::Word) {
+                match bytes_spelled(space, spelled) {
                     Some(key) => self.read(low32(clock), key),
                     None => text(b"what?"),
                 }
@@ -166,7 +185,7 @@ impl Store<'_> {
         space: &mut [u8],
     ) -> Option<()> {
         let [clock] = decimals::<1>(given)?;
-        let frames = bytes::spelled(space, spelled, Times::Word)?;
+        let frames = bytes_spelled(space, spelled)?;
         match word {
             b"serve" => {
                 self.serve(low32(clock), frames);

@@ -111,12 +111,6 @@ pub fn put(out: &mut [u8], from: usize, s: &[u8], times: Times) -> Option<usize>
     Some(end)
 }
 
-// The bytes that a text spells, put at the start of a space that is longer than they are.
-pub fn spelled<'a>(space: &'a mut [u8], s: &[u8], times: Times) -> Option<&'a [u8]> {
-    let end = put(space, 0, s, times)?;
-    Some(&space[..end])
-}
-
 // Whether all bytes are such a one.
 pub fn are_all(s: &[u8], byte: u8) -> bool
     ensures { result ≡ list_all (λ b. b == byte) s.now }

@@ -2,8 +2,6 @@
 ghost use Rattle.std.specs.Prelude.{◌≡◌, ◌%◌, ◌<◌, ◌≤◌, length};
 ghost use Rattle.vector_text.specs.Numbers.{leading_value, leading_left};
 
-use crate::parts::words;
-
 // The decimal number at the start of a text, 0 where no digit stands there, and what follows it. Digits that would carry it past
 // 99,999 are left.
 #[tactic(auto, using(crate::proofs::Leading::value_step, crate::proofs::Leading::left_step))]
@@ -21,25 +19,6 @@ pub fn leading(s: &[u8]) -> (usize, &[u8])
         value = value * 10 + usize::from(c - b'0');
     }
     (value, b"")
-}
-
-// The numbers that words spell, where there are so many and each is one.
-pub fn all<const N: usize, F: Fn(&[u8]) -> Option<u64>>(s: &[u8], number: F) -> Option<[u64; N]>
-    requires { F.IsAlwaysCallable number }
-{
-    let mut values = [0u64; N];
-    let mut words = words(s);
-    for value in values.iter_mut() {
-        *value = number(words.next()?)?;
-    }
-    if words.next().is_some() {
-        return None;
-    }
-    Some(values)
-}
-
-pub fn decimals<const N: usize>(s: &[u8]) -> Option<[u64; N]> {
-    all(s, digits::parse)
 }
 
 // The lowest bits of a number.
