@@ -54,7 +54,7 @@ fn make_table(table: &mut [u8], setup: Setup)
     requires { (length table.old ≡ size_of setup.rows) × Fits setup }
     ensures { table.new ≡ table_bytes (fresh setup.rows 1 (mode_number setup.mode) setup.vbucket) }
 {
-    owner::make(
+    let _ = owner::make(
         table,
         setup.rows,
         ACTIVE,

@@ -42,7 +42,7 @@ module _ (config : Config) where
 
 opening-zero : (config : Config) (b trace : List ℕ) (o : Option Opening) → Zero (on_opening config b trace o)
 opening-zero config b trace None = refl
-opening-zero config b trace (Some (record { mode = mode; vbucket = vbucket })) = walked-zero (ruled_by config trace) (set_out mode vbucket) (fields_in trace)
+opening-zero config b trace (Some o) = walked-zero (ruled_by config trace) (set_out o.mode o.vbucket) (fields_in trace)
 
 pub answers : (config : Config) (b trace : List ℕ) → length b ≡ 42000 → Zero (replayed config b trace)
 unfolding replayed

@@ -82,7 +82,7 @@ old-rule-serves config b trace n o s = serves-under config b trace n o true (say
 -- ---- the caller's rule
 opening-unheard : (config other : Config) (b trace : List ℕ) (o : Option Opening) → config.engine ≡ other.engine → on_opening config b trace o ≡ on_opening other b trace o
 opening-unheard config other b trace None e = refl
-opening-unheard config other b trace (Some (record { mode = mode; vbucket = vbucket })) e = λ i. walked (record { engine = e i; forcing = forcing_in trace }) (set_out mode vbucket) (fields_in trace)
+opening-unheard config other b trace (Some o) e = λ i. walked (record { engine = e i; forcing = forcing_in trace }) (set_out o.mode o.vbucket) (fields_in trace)
 
 pub callers-rule-unheard : CallersRuleUnheard
 unfolding replayed

@@ -11,8 +11,7 @@ use Rattle.std.specs.Io.KnownBytes.{Appends}
 use Rattle.octets.specs.Parts.{part}
 use Rattle.engine.specs.declared.Config.{Config}
 use Rattle.tally.specs.declared.Tally.{Tally}
-use Rattle.run.specs.declared.Ran.{Ran}
-use Rattle.run.specs.Run.{ran_told, called_on, begun, run_end, ran_of}
+use Rattle.run.specs.Run.{Ran, ran_told, called_on, begun, run_end, ran_of}
 use Rattle.contact_box.specs.declared.session.Held.{Held}
 use Rattle.contact_box.specs.declared.session.Next.{Next}
 use Rattle.contact_box.specs.declared.session.Next.TheVariants.{Close}
