@@ -3,14 +3,12 @@ use Prim.Native.Nat.{ℕ, ◌+◌, ◌^◌, ◌≤◌, ◌<◌}
 use mathlib.Core.Path.{◌≡◌, refl, sym, ap, subst, ◌∙◌}
 use mathlib.Core.Bool.{cond}
 use mathlib.Core.List.{List}
-use mathlib.Core.Option.{Option, none, some}
+use Rattle.std.specs.Prelude.{Option, Some, None}
 use lib.ListN.{length}
 use lib.Dec.{ltb}
 use Rattle.octets.specs.Parts.{Bytes, written}
 use Rattle.header.specs.declared.Header.{Header}
-use Rattle.request.specs.declared.Gate.{Gate}
-use Rattle.request.specs.declared.Gate.TheVariants.{Stop, Whole}
-use Rattle.request.specs.Reading.{frame_status, bytes_in, key_span}
+use Rattle.request.specs.Reading.{Gate, Stop, Whole, frame_status, bytes_in, key_span}
 use Rattle.document.specs.Documents.{Key, Doc, doc_value}
 use Rattle.engine.specs.declared.Config.{Config}
 use Rattle.engine.specs.Engine.{store_row}
@@ -18,8 +16,7 @@ use Rattle.engine.specs.Alike.{Alike}
 use Rattle.listing.proofs.Exact.{by-documents}
 use Rattle.effects.specs.declared.Reply.{Reply}
 use Rattle.effects.specs.declared.Reply.TheVariants.{Bare, Found, Counted, Version as VersionReply, Keys}
-use Rattle.decision.specs.declared.Decision.{Decision}
-use Rattle.decision.specs.Decision.{decision}
+use Rattle.decision.specs.Decision.{Decision, decision}
 use Rattle.decision.specs.Decide.{Effect, context_of, instruction_of, effect_of}
 use Rattle.decode.specs.Decode.{request_of}
 use Rattle.rows.specs.Table.{Table, table_of, table_at, clock_at, table_bytes}
@@ -28,8 +25,7 @@ use Rattle.engines.specs.Engines.{engine_of}
 use Rattle.engines.proofs.EngineLaws.{engines-laws, engines-alike}
 use Rattle.engines.proofs.Tables.{good-sound-by}
 use Rattle.serving.specs.Reply.{reply_shows, reply_bytes}
-use Rattle.serving.specs.declared.Served.TheVariants.{Done}
-use Rattle.serving.specs.Serve.{gate_all, reaches_decision, refusal, decision_on, frame_effect, frame_change, frame_table, frame_reply}
+use Rattle.serving.specs.Serve.{Done, gate_all, reaches_decision, refusal, decision_on, frame_effect, frame_change, frame_table, frame_reply}
 use Rattle.serving.specs.Serve.{answer_by, table_by, reply_by, served, served_table, served_reply}
 use Rattle.serving.proofs.Gated.{was-open}
 use Rattle.serving.proofs.Change.{changing, change-good}
@@ -73,8 +69,8 @@ module _ (config other : Config) (t u : Table) (w : Twin config other t u) (now 
     store = (frame_effect config t now s h).store
 
     stored : (o : Option Doc) → store ≡ o → Alike (engine_of config) (engine_of other) (store_row (engine_of config) t.rows key o) (store_row (engine_of other) u.rows key o)
-    stored none e = w.alike
-    stored (some d) e = (engines-alike config other).put t.rows u.rows key d w.alike ((changing config t now s h w.good.good y inside).stores d e).room
+    stored None e = w.alike
+    stored (Some d) e = (engines-alike config other).put t.rows u.rows key d w.alike ((changing config t now s h w.good.good y inside).stores d e).room
 
     pub change-twin : Twin config other (frame_change config t now s h) (frame_change other u now s h)
     change-twin = record {

@@ -4,7 +4,7 @@ use Prim.Native.Nat.{ℕ, zero, suc, ◌+◌, ◌-◌, ◌^◌, ◌<◌}
 use mathlib.Core.Path.{◌≡◌, refl, sym, ap, ◌∙◌}
 use mathlib.Core.Bool.{Bool, false, cond}
 use mathlib.Core.List.{List, [], ◌∷◌, ◌++◌}
-use mathlib.Core.Option.{Option, none, some}
+use Rattle.std.specs.Prelude.{Option, Some, None}
 use lib.ListN.{length, replicate}
 use Rattle.octets.specs.Parts.{part}
 use Rattle.octets.proofs.Choices.{cases}
@@ -26,8 +26,7 @@ use Rattle.engines.specs.Claims.{GoodBy}
 use Rattle.engines.proofs.EngineLaws.{engines-alike}
 use Rattle.engines.proofs.Tables.{good-sound-by, purge-good-by}
 use Rattle.table.proofs.Looking.{finds-good}
-use Rattle.owning.specs.declared.Purged.TheVariants.{Freed}
-use Rattle.owning.specs.Owner.{make_ok, make_outcome, made, shown, read_of, purge_of, purged_table, purged_bytes, is_dead, activate_of, activated, activated_table, activated_bytes}
+use Rattle.owning.specs.Owner.{Freed, make_ok, make_outcome, made, shown, read_of, purge_of, purged_table, purged_bytes, is_dead, activate_of, activated, activated_table, activated_bytes}
 use Rattle.owning.proofs.Activating.{active-good, good-dead, good-active}
 use Rattle.owner.proofs.Making.{accepted, refused, in-range}
 use Rattle.owner.proofs.Reading.{read-sound}
@@ -39,23 +38,23 @@ use Rattle.agreement.proofs.Twins.{Twin, Twins, by-tables, length-alike, clock-a
 module _ (p : Doc → Bool) where
   plain-frees : (ws : List Row) → free_rows (purge_rows ws p) ≡ gone_count p ws + free_rows ws
   plain-frees [] = refl
-  plain-frees (none ∷ ws) = omega (arith, plain-frees ws)
-  plain-frees (some e ∷ ws) = cases (p e.doc) (λ t. rw t (omega (arith, plain-frees ws))) (λ f. rw f (omega (arith, plain-frees ws)))
+  plain-frees (None ∷ ws) = omega (arith, plain-frees ws)
+  plain-frees (Some e ∷ ws) = cases (p e.doc) (λ t. rw t (omega (arith, plain-frees ws))) (λ f. rw f (omega (arith, plain-frees ws)))
 
-  all-free : (n : ℕ) → free_rows (replicate n none) ≡ n
+  all-free : (n : ℕ) → free_rows (replicate n None) ≡ n
   all-free zero = refl
   all-free (suc n) = ap suc (all-free n)
 
-  free-after : (n : ℕ) (ws : List Row) → free_rows (staying_rows p ws ++ replicate n none) ≡ n
+  free-after : (n : ℕ) (ws : List Row) → free_rows (staying_rows p ws ++ replicate n None) ≡ n
   free-after n [] = all-free n
-  free-after n (none ∷ ws) = free-after n ws
-  free-after n (some e ∷ ws) = cases (p e.doc) (λ t. rw t (free-after n ws)) (λ f. rw f (free-after n ws))
+  free-after n (None ∷ ws) = free-after n ws
+  free-after n (Some e ∷ ws) = cases (p e.doc) (λ t. rw t (free-after n ws)) (λ f. rw f (free-after n ws))
 
   -- a row goes, is free or stays
   each_row : (ws : List Row) → gone_count p ws + free_rows ws + length (staying_rows p ws) ≡ length ws
   each_row [] = refl
-  each_row (none ∷ ws) = omega (arith, each_row ws)
-  each_row (some e ∷ ws) = cases (p e.doc) (λ t. rw t (omega (arith, each_row ws))) (λ f. rw f (omega (arith, each_row ws)))
+  each_row (None ∷ ws) = omega (arith, each_row ws)
+  each_row (Some e ∷ ws) = cases (p e.doc) (λ t. rw t (omega (arith, each_row ws))) (λ f. rw f (omega (arith, each_row ws)))
 
   ordered-frees : (ws : List Row) → free_rows (purge_ordered ws p) ≡ gone_count p ws + free_rows ws
   ordered-frees ws = free-after (length ws - length (staying_rows p ws)) ws ∙ omega (arith, each_row ws)
@@ -70,21 +69,21 @@ module _ (p : Doc → Bool) where
 -- ---- what a read shows of a key's document, its place aside
 module _ (now : ℕ) (key : Key) where
   placeless-alike : (rows others : List Row) (o : Option Doc) → placeless (shown rows now key o) ≡ placeless (shown others now key o)
-  placeless-alike rows others none = refl
-  placeless-alike rows others (some d) =
+  placeless-alike rows others None = refl
+  placeless-alike rows others (Some d) =
       cases d.tomb
       (λ t. rw t)
       (λ f. cases (is_past (seconds_left d.numbers.expiry now)) (λ p. rw (f, p)) (λ p. rw (f, p)))
 
   -- the bytes of its value, where it is live
   abbrev value_shown : Option Doc → List ℕ
-  value_shown none = []
-  value_shown (some d) = cond d.tomb [] (cond (is_past (seconds_left d.numbers.expiry now)) [] d.value)
+  value_shown None = []
+  value_shown (Some d) = cond d.tomb [] (cond (is_past (seconds_left d.numbers.expiry now)) [] d.value)
 
   value-shown : (b : List ℕ) (rows : List Row) (o : Option Doc) → part b (value_place rows key 16) (length (doc_value o)) ≡ doc_value o
       → bytes_shown b (shown rows now key o) ≡ value_shown o
-  value-shown b rows none e = refl
-  value-shown b rows (some d) e =
+  value-shown b rows None e = refl
+  value-shown b rows (Some d) e =
       cases d.tomb
       (λ t. rw t)
       (λ f. cases (is_past (seconds_left d.numbers.expiry now)) (λ p. rw (f, p)) (λ p. rw (f, p) e))

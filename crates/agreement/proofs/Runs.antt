@@ -6,9 +6,7 @@ use lib.ListN.{length, take, drop, length-drop}
 use Rattle.octets.specs.Parts.{Bytes}
 use Rattle.octets.proofs.Lists.{bytes_drop}
 use Rattle.engine.specs.declared.Config.{Config}
-use Rattle.serving.specs.declared.Served.{Served}
-use Rattle.serving.specs.declared.Served.TheVariants.{Refused, Done}
-use Rattle.serving.specs.Serve.{served, served_table, served_reply}
+use Rattle.serving.specs.Serve.{Served, Refused, Done, served, served_table, served_reply}
 use Rattle.tally.specs.declared.Tally.{Tally}
 use Rattle.tally.specs.Counts.{counted_of}
 use Rattle.run.specs.Run.{Stand, seen, called_on, further, on_done, stand_after, run_end, begun, ran_of}

@@ -2,17 +2,11 @@
 use Rattle.std.specs.Prelude.{ℕ, ◌^◌, ◌<◌, List, [], ◌∷◌, length}
 use Rattle.octets.specs.Parts.{Bytes, part}
 use Rattle.engine.specs.declared.Config.{Config}
-use Rattle.owning.specs.declared.Document.{Document}
-use Rattle.owning.specs.declared.Document.TheVariants.{Damaged, Missing, Expired, Live}
-use Rattle.owning.specs.declared.Purged.{Purged}
-use Rattle.owning.specs.declared.Activated.{Activated}
-use Rattle.owning.specs.Owner.{made, make_outcome, read_of, purge_of, activate_of}
-use Rattle.serving.specs.declared.Served.{Served}
-use Rattle.serving.specs.Serve.{served_reply}
+use Rattle.owning.specs.Owner.{Activated, Purged, Document, Damaged, Missing, Expired, Live, made, make_outcome, read_of, purge_of, activate_of}
+use Rattle.serving.specs.Serve.{Served, served_reply}
 use Rattle.tally.specs.declared.Tally.{Tally}
 use Rattle.tally.specs.Counts.{counted_of}
-use Rattle.run.specs.declared.Ran.{Ran}
-use Rattle.run.specs.Run.{Stand, begun, run_end, ran_of}
+use Rattle.run.specs.Run.{Ran, Stand, begun, run_end, ran_of}
 use Rattle.promises.specs.Calls.{Call, served_by}
 use Rattle.promises.specs.Clock.{TableCall, Serve, Purge, Read, Activate, Given, table_called}
 

@@ -1,16 +1,12 @@
 -- A worked list of calls on a table of three rows: what the two engines answer, which is the same, and the rows that they leave, which are the same in another order. Proved in proofs/Worked.antt.
-use Rattle.std.specs.Prelude.{ℕ, ◌-◌, ◌≡◌, true, false, List, [], ◌∷◌, ◌++◌, length, replicate}
+use Rattle.std.specs.Prelude.{ℕ, ◌-◌, ◌≡◌, true, false, List, [], ◌∷◌, ◌++◌, length, replicate, None}
 use Rattle.engine.specs.declared.Config.{Config}
 use Rattle.engine.specs.Config.{config_for}
-use Rattle.numbers.specs.declared.Left.TheVariants.{Never}
 use Rattle.document.specs.Documents.{Key}
 use Rattle.rows.specs.Row.{Row}
 use Rattle.rows.specs.Table.{table_bytes, fresh}
-use Rattle.owning.specs.declared.Document.TheVariants.{Live}
-use Rattle.owning.specs.declared.Purged.TheVariants.{Freed}
-use Rattle.owning.specs.declared.Activated.TheVariants.{Active}
-use Rattle.owning.specs.Owner.{read_of}
-use Rattle.serving.specs.declared.Served.TheVariants.{Refused, Done}
+use Rattle.owning.specs.Owner.{Active, Freed, Live, read_of}
+use Rattle.serving.specs.Serve.{Refused, Done}
 use Rattle.tally.specs.declared.Tally.{Tally}
 use Rattle.promises.specs.Clock.{Serve, Purge, Read, Activate}
 use Rattle.promises.specs.Judged.{at, mykey, hello, ask, reply, stored, declined}
@@ -102,14 +98,14 @@ wanted =
     ∷ answer 0x82 38 (declined 1 0x82)
     ∷ Freeing (Freed 1)
     ∷ answer 0 38 (stored 1 5)
-    ∷ Shown (Live (doc 0 1 1).numbers Never 0 1) (1 ∷ [])
+    ∷ Shown (Live (doc 0 1 1).numbers None 0 1) (1 ∷ [])
     ∷ answer 0 29 (reply 0xb8 0 0 0 (item alpha ++ (item delta ++ item mykey)))
     ∷ []
 
 -- ---- by an engine: where the read found the value of `mykey`, and the rows at the end
 pub record LeavesRows (config : Config) (place : ℕ) (rows : List Row) : Type 0 where
   pub answers : any_answers config start worked_calls ≡ wanted
-  pub stands : read_of config (owned_after_all config start first).table 107 mykey ≡ Live (doc 0 1 1).numbers Never place 1
+  pub stands : read_of config (owned_after_all config start first).table 107 mykey ≡ Live (doc 0 1 1).numbers None place 1
   -- every byte of the table
   pub after : owned_after_all config start worked_calls ≡ record { table = table_bytes (record { head = head 1 108 5; rows = rows }); tally = counts 8 1 }
 

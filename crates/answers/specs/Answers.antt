@@ -1,29 +1,16 @@
 -- The answers as C takes them: a struct of numbers for each, in which outcomes and statuses are document 01's. What an answer doesn't have is 0.
-use Rattle.std.specs.Prelude.{ℕ, ℤ, pos}
+use Rattle.std.specs.Prelude.{ℕ, ℤ, pos, Option, Some, None}
 use Rattle.numbers.specs.declared.Numbers.{Numbers}
-use Rattle.numbers.specs.declared.Left.{Left}
-use Rattle.numbers.specs.declared.Left.TheVariants.{Never, Seconds}
 use Rattle.numbers.specs.Expiry.{seconds_in}
 use Rattle.request.specs.declared.Span.{Span}
 use Rattle.request.specs.declared.Frame.{Frame}
 use Rattle.request.specs.declared.Fields.{Fields}
-use Rattle.request.specs.declared.Reading.{Reading}
-use Rattle.request.specs.declared.Reading.TheVariants.{Outcome, Status, Accepted}
-use Rattle.request_writer.specs.declared.Written.{Written}
-use Rattle.request_writer.specs.declared.Written.TheVariants.{Refused as NotWritten, NoRoom, Wrote}
-use Rattle.request.specs.Reading.{reading_outcome, reading_status}
-use Rattle.request_writer.specs.Writing.{status_no, outcome_no}
-use Rattle.serving.specs.declared.Served.{Served}
-use Rattle.serving.specs.Serve.{served_outcome, served_status, served_used, served_length, served_needed}
-use Rattle.owning.specs.declared.Document.{Document}
-use Rattle.owning.specs.declared.Document.TheVariants.{Damaged, Missing, Expired, Live}
-use Rattle.owning.specs.declared.Purged.{Purged}
-use Rattle.owning.specs.declared.Activated.{Activated}
-use Rattle.owning.specs.Owner.{read_outcome, read_status, purge_outcome, purged_count, activate_outcome, activate_status}
-use Rattle.run.specs.declared.Ran.{Ran}
-use Rattle.replay.specs.declared.Ending.{Ending}
-use Rattle.replay.specs.declared.Ending.TheVariants.{Damaged as NotReplayed, Differs, Stopped, Replayed}
-use Rattle.replay.specs.Replay.{replay_outcome}
+use Rattle.request.specs.Reading.{Reading, Outcome, Status, Accepted, reading_outcome, reading_status}
+use Rattle.request_writer.specs.Writing.{Written, Refused as NotWritten, NoRoom, Wrote, status_no, outcome_no}
+use Rattle.serving.specs.Serve.{Served, served_outcome, served_status, served_used, served_length, served_needed}
+use Rattle.owning.specs.Owner.{Activated, Purged, Document, Damaged, Missing, Expired, Live, read_outcome, read_status, purge_outcome, purged_count, activate_outcome, activate_status}
+use Rattle.run.specs.Run.{Ran}
+use Rattle.replay.specs.Replay.{Ending, Damaged as NotReplayed, Differs, Stopped, Replayed, replay_outcome}
 use Rattle.answers.specs.declared.Part.{Part}
 use Rattle.answers.specs.declared.ServedAnswer.{ServedAnswer}
 use Rattle.answers.specs.declared.RanAnswer.{RanAnswer}
@@ -53,12 +40,12 @@ abbrev pub no_part : Part
 no_part = record { at = 0; len = 0 }
 
 -- order 5, what `left` is: 1, the document never expires and `left` is 0; 2, so many seconds are left. 0: there is none to tell
-abbrev pub lifetime_of : Left → ℕ
-lifetime_of Never = 1
-lifetime_of (Seconds n) = 2
+abbrev pub lifetime_of : Option ℤ → ℕ
+lifetime_of None = 1
+lifetime_of (Some n) = 2
 
 -- a document's four numbers, the time that is left and where its value stands
-abbrev pub live_answer : Numbers → Left → ℕ → ℕ → DocumentAnswer
+abbrev pub live_answer : Numbers → Option ℤ → ℕ → ℕ → DocumentAnswer
 live_answer n left at len = record {
   outcome = read_outcome (Live n left at len);
   status = read_status (Live n left at len);
@@ -87,7 +74,7 @@ no_document outcome status lifetime left = record {
 abbrev pub document_answer : Document → DocumentAnswer
 document_answer Damaged = no_document (read_outcome Damaged) (read_status Damaged) 0 (pos 0)
 document_answer Missing = no_document (read_outcome Missing) (read_status Missing) 0 (pos 0)
-document_answer (Expired s) = no_document (read_outcome (Expired s)) (read_status (Expired s)) (lifetime_of (Seconds s)) s
+document_answer (Expired s) = no_document (read_outcome (Expired s)) (read_status (Expired s)) (lifetime_of (Some s)) s
 document_answer (Live n left at len) = live_answer n left at len
 
 abbrev pub purged_answer : Purged → PurgedAnswer

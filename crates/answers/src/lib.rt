@@ -3,13 +3,21 @@
 #![tactic(auto)]
 
 ghost use Rattle.std.specs.Prelude.{◌≡◌};
+ghost use Rattle.outcome.specs.Outcome.{status_number};
+ghost use Rattle.owning.specs.Owner.{read_told, purged_told, activated_told};
+ghost use Rattle.replay.specs.Replay.{ending_told};
+ghost use Rattle.request.specs.Reading.{reading_told};
+ghost use Rattle.request_writer.specs.Writing.{written_told};
+ghost use Rattle.run.specs.Run.{ran_told};
+ghost use Rattle.serving.specs.Serve.{served_told};
 ghost use Rattle.answers.specs.Answers.{served_answer, ran_answer, part_of, lifetime_of, live_answer, no_document, document_answer, purged_answer, activated_answer, request_refused, request_shown, request_answer, written_answer, replayed_answer};
 
-use numbers::{Left, Numbers};
-use owning::{Activated, Document, Purged};
-use replay::Ending;
-use request::{Frame, Reading, Span};
-use request_writer::Written;
+use numbers::Numbers;
+use outcome::{Refusal, Status};
+use owning::{ActivateError, Document, PurgeError, ReadError};
+use replay::ReplayError;
+use request::{Frame, Span, Unread};
+use request_writer::WriteError;
 use run::Ran;
 use serving::Served;
 use tally::Tally;
@@ -106,32 +114,33 @@ pub struct ReplayedAnswer {
     pub frames: usize,
 }
 
-pub fn served_answer(r: Served) -> ServedAnswer
-    ensures { result ≡ served_answer r }
+const NO_PART: Part = Part { at: 0, len: 0 };
+
+pub fn served_answer(answer: Result<Served, Refusal>) -> ServedAnswer
+    ensures { result ≡ served_answer (served_told answer) }
 {
-    match r {
-        Served::Refused(outcome, needed) => ServedAnswer {
-            outcome,
+    match answer {
+        Ok(served) => ServedAnswer {
+            outcome: 0,
+            status: outcome::status_of(served.status),
+            used: served.used,
+            reply: served.reply,
+            needed: 0,
+        },
+        Err(refusal) => ServedAnswer {
+            outcome: refusal.number(),
             status: 0,
             used: 0,
             reply: 0,
-            needed,
-        },
-        Served::Done(status, used, reply) => ServedAnswer {
-            outcome: 0,
-            status,
-            used,
-            reply,
-            needed: 0,
+            needed: refusal.needed(),
         },
     }
 }
 
 pub fn ran_answer(r: Ran) -> RanAnswer
-    ensures { result ≡ ran_answer r }
+    ensures { result ≡ ran_answer (ran_told r) }
 {
-    let end = r.stop;
-    let stop = served_answer(end);
+    let stop = served_answer(r.stop);
     RanAnswer {
         outcome: stop.outcome,
         used: r.cursor.at,
@@ -156,28 +165,31 @@ fn part_of(p: Span) -> Part
     }
 }
 
-fn lifetime_of(left: Left) -> u8
+fn lifetime_of(left: Option<i64>) -> u8
     ensures { result ≡ lifetime_of left }
 {
     match left {
-        Left::Never => 1,
-        Left::Seconds(_) => 2,
+        None => 1,
+        Some(_) => 2,
     }
 }
 
-fn live_answer(n: Numbers, left: Left, at: usize, len: usize) -> DocumentAnswer
-    ensures { result ≡ live_answer n left at len }
+fn live_answer(d: Document) -> DocumentAnswer
+    ensures { result ≡ live_answer d.numbers d.left d.at d.len }
 {
     DocumentAnswer {
         outcome: 0,
         status: 0,
-        lifetime: lifetime_of(left),
-        flags: n.flags,
-        expiry: n.expiry,
-        revision: n.revision.0,
-        cas: n.cas.0,
-        left: numbers::seconds_in(left),
-        value: Part { at, len },
+        lifetime: lifetime_of(d.left),
+        flags: d.numbers.flags,
+        expiry: d.numbers.expiry,
+        revision: d.numbers.revision.0,
+        cas: d.numbers.cas.0,
+        left: numbers::seconds_in(d.left),
+        value: Part {
+            at: d.at,
+            len: d.len,
+        },
     }
 }
 
@@ -193,51 +205,48 @@ fn no_document(outcome: u8, status: u8, lifetime: u8, left: i64) -> DocumentAnsw
         revision: 0,
         cas: 0,
         left,
-        value: Part { at: 0, len: 0 },
+        value: NO_PART,
     }
 }
 
-pub fn document_answer(d: Document) -> DocumentAnswer
-    ensures { result ≡ document_answer d }
+pub fn document_answer(answer: Result<Document, ReadError>) -> DocumentAnswer
+    ensures { result ≡ document_answer (read_told answer) }
 {
-    match d {
-        Document::Damaged => no_document(5, 0, 0, 0),
-        Document::Missing => no_document(0, 0x01, 0, 0),
-        Document::Expired(seconds) => no_document(0, 0x01, 2, seconds),
-        Document::Live(n, left, at, len) => live_answer(n, left, at, len),
+    match answer {
+        Ok(document) => live_answer(document),
+        Err(ReadError::Damaged) => no_document(5, 0, 0, 0),
+        Err(ReadError::Missing) => no_document(0, 0x01, 0, 0),
+        Err(ReadError::Expired(seconds)) => no_document(0, 0x01, 2, seconds),
     }
 }
 
-pub fn purged_answer(p: Purged) -> PurgedAnswer
-    ensures { result ≡ purged_answer p }
+pub fn purged_answer(answer: Result<usize, PurgeError>) -> PurgedAnswer
+    ensures { result ≡ purged_answer (purged_told answer) }
 {
-    match p {
-        Purged::Damaged => PurgedAnswer {
+    match answer {
+        Ok(freed) => PurgedAnswer { outcome: 0, freed },
+        Err(PurgeError::Damaged) => PurgedAnswer {
             outcome: 5,
             freed: 0,
         },
-        Purged::Freed(n) => PurgedAnswer {
-            outcome: 0,
-            freed: n,
-        },
     }
 }
 
-pub fn activated_answer(a: Activated) -> ActivatedAnswer
-    ensures { result ≡ activated_answer a }
+pub fn activated_answer(answer: Result<(), ActivateError>) -> ActivatedAnswer
+    ensures { result ≡ activated_answer (activated_told answer) }
 {
-    match a {
-        Activated::Damaged => ActivatedAnswer {
+    match answer {
+        Ok(()) => ActivatedAnswer {
+            outcome: 0,
+            status: 0,
+        },
+        Err(ActivateError::Damaged) => ActivatedAnswer {
             outcome: 5,
             status: 0,
         },
-        Activated::Dead => ActivatedAnswer {
+        Err(ActivateError::Dead) => ActivatedAnswer {
             outcome: 0,
             status: 0x07,
-        },
-        Activated::Active => ActivatedAnswer {
-            outcome: 0,
-            status: 0,
         },
     }
 }
@@ -253,9 +262,9 @@ fn request_refused(outcome: u8, status: u8) -> RequestAnswer
         vbucket: 0,
         opaque: 0,
         cas: 0,
-        extras: Part { at: 0, len: 0 },
-        key: Part { at: 0, len: 0 },
-        value: Part { at: 0, len: 0 },
+        extras: NO_PART,
+        key: NO_PART,
+        value: NO_PART,
         meta: 0,
     }
 }
@@ -278,65 +287,67 @@ fn request_shown(f: Frame) -> RequestAnswer
     }
 }
 
-pub fn request_answer(r: Reading) -> RequestAnswer
-    ensures { result ≡ request_answer r }
+pub fn request_answer(answer: Result<Frame, Unread>) -> RequestAnswer
+    ensures { result ≡ request_answer (reading_told answer) }
 {
-    match r {
-        Reading::Outcome(n) => request_refused(n, 0),
-        Reading::Status(n) => request_refused(0, n),
-        Reading::Accepted(f) => request_shown(f),
+    match answer {
+        Ok(frame) => request_shown(frame),
+        Err(Unread::Refused(refusal)) => request_refused(refusal.number(), 0),
+        Err(Unread::Status(status)) => request_refused(0, status.number()),
     }
 }
 
-pub fn written_answer(w: Written) -> WrittenAnswer
-    ensures { result ≡ written_answer w }
+pub fn written_answer(answer: Result<usize, WriteError>) -> WrittenAnswer
+    ensures { result ≡ written_answer (written_told answer) }
 {
-    match w {
-        Written::Refused => WrittenAnswer {
+    match answer {
+        Ok(len) => WrittenAnswer {
+            outcome: 0,
+            status: 0,
+            len,
+        },
+        Err(WriteError::Refused) => WrittenAnswer {
             outcome: 0,
             status: 0x04,
             len: 0,
         },
-        Written::NoRoom => WrittenAnswer {
+        Err(WriteError::NoRoom) => WrittenAnswer {
             outcome: 4,
             status: 0,
             len: 0,
         },
-        Written::Wrote(n) => WrittenAnswer {
-            outcome: 0,
-            status: 0,
-            len: n,
-        },
     }
 }
 
-pub fn replayed_answer(e: Ending) -> ReplayedAnswer
-    ensures { result ≡ replayed_answer e }
+// A replay that ended at a place of its trace: 1 where the reply differs, 2 where it was stopped.
+fn ended_at(end: u8, place: usize) -> ReplayedAnswer
+    ensures { result ≡ (record { outcome = 0; end = end; place = place; frames = 0 }) }
 {
-    match e {
-        Ending::Damaged => ReplayedAnswer {
-            outcome: 5,
-            end: 0,
-            place: 0,
-            frames: 0,
-        },
-        Ending::Differs(place) => ReplayedAnswer {
-            outcome: 0,
-            end: 1,
-            place,
-            frames: 0,
-        },
-        Ending::Stopped(place) => ReplayedAnswer {
-            outcome: 0,
-            end: 2,
-            place,
-            frames: 0,
-        },
-        Ending::Replayed(frames) => ReplayedAnswer {
+    ReplayedAnswer {
+        outcome: 0,
+        end,
+        place,
+        frames: 0,
+    }
+}
+
+pub fn replayed_answer(answer: Result<usize, ReplayError>) -> ReplayedAnswer
+    ensures { result ≡ replayed_answer (ending_told answer) }
+{
+    match answer {
+        Ok(frames) => ReplayedAnswer {
             outcome: 0,
             end: 3,
             place: 0,
             frames,
         },
+        Err(ReplayError::Damaged) => ReplayedAnswer {
+            outcome: 5,
+            end: 0,
+            place: 0,
+            frames: 0,
+        },
+        Err(ReplayError::Differs(place)) => ended_at(1, place),
+        Err(ReplayError::Stopped(place)) => ended_at(2, place),
     }
 }

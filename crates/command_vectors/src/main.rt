@@ -20,47 +20,40 @@
 mod requests;
 mod setting;
 mod show;
-mod text;
+mod words;
 
 use commands::Context;
-use requests::Decoded;
+use vector_text::parts::lines;
+use vector_text::show::text;
 
 fn answer_request(line: &[u8], t: Context) {
-    let a = requests::read(line);
-    match a {
-        Decoded::Request(q) => {
-            let head = t.head;
-            show::text(b": ");
-            show::decision(head, decision::decide(t, q));
+    match requests::read(line) {
+        Some(request) => {
+            text(b": ");
+            show::decision(t.head, decision::decide(t, request));
         }
-        Decoded::Unknown => show::text(b": what?"),
+        None => text(b": what?"),
     }
 }
 
 // Answers a line, and hands on what the next is decided on.
 fn answer_line(line: &[u8], t: Context) -> Context {
-    show::text(line);
-    if (line.len() == 0) | (octets::byte(line, 0) == b'#') {
+    text(line);
+    if line.is_empty() || line.starts_with(b"#") {
         return t;
     }
-    let c = setting::change(line, t);
-    if !c.good {
-        answer_request(line, t);
+    if let Some(changed) = setting::changed(line, t) {
+        return changed;
     }
-    c.setting
+    answer_request(line, t);
+    t
 }
 
 fn answer_lines(input: &[u8]) {
     let mut t = setting::first();
-    let mut at: usize = 0;
-    while at < input.len() {
-        let line = text::before(octets::rest(input, at), b'\n');
+    for line in lines(input) {
         t = answer_line(line, t);
-        show::text(b"\n");
-        if input.len() - at <= line.len() {
-            return;
-        }
-        at += line.len() + 1;
+        text(b"\n");
     }
 }
 

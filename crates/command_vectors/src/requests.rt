@@ -1,200 +1,132 @@
 // The request that a line describes.
-use crate::text;
-use crate::text::Fields;
+use crate::words;
 use commands::{Command, Counter, Instruction, Kind, Meta, MetaKind, Plain, Touching};
 use document::Side;
-use numbers::Cas;
+use numbers::{Cas, Numbers, Revision};
+use vector_text::numbers::{low16, low32};
+use vector_text::parts::cut;
 
-#[derive(Clone, Copy)]
-pub(crate) enum Decoded {
-    Request(Instruction),
-    Unknown,
-}
-
-// The opcode of a command's word, in the form that is not quiet, or 0xff where it is none.
-fn plain_opcode(word: &[u8]) -> u8 {
-    if compare::same(word, b"get") {
-        return 0x00;
-    }
-    if compare::same(word, b"set") {
-        return 0x01;
-    }
-    if compare::same(word, b"add") {
-        return 0x02;
-    }
-    if compare::same(word, b"replace") {
-        return 0x03;
-    }
-    if compare::same(word, b"delete") {
-        return 0x04;
-    }
-    if compare::same(word, b"incr") {
-        return 0x05;
-    }
-    if compare::same(word, b"decr") {
-        return 0x06;
-    }
-    0xff
-}
-
-fn joined_opcode(word: &[u8]) -> u8 {
-    if compare::same(word, b"append") {
-        return 0x0e;
-    }
-    if compare::same(word, b"prepend") {
-        return 0x0f;
-    }
-    if compare::same(word, b"touch") {
-        return 0x1c;
-    }
-    if compare::same(word, b"gat") {
-        return 0x1d;
-    }
-    plain_opcode(word)
-}
-
-fn opcode(word: &[u8]) -> u8 {
-    if compare::same(word, b"noop") {
-        return 0x0a;
-    }
-    if compare::same(word, b"version") {
-        return 0x0b;
-    }
-    if compare::same(word, b"getk") {
-        return 0x0c;
-    }
-    if compare::same(word, b"setm") {
-        return 0xa2;
-    }
-    if compare::same(word, b"addm") {
-        return 0xa4;
-    }
-    if compare::same(word, b"delm") {
-        return 0xa8;
-    }
-    if compare::same(word, b"keys") {
-        return 0xb8;
-    }
-    joined_opcode(word)
-}
-
-// How many fields a command's line has, with vbucket and header CAS.
-fn width(opcode: u8) -> usize {
-    match opcode {
-        0x01 | 0x02 | 0x03 | 0x05 | 0x06 => 5,
-        0xa2 | 0xa4 | 0xa8 => 8,
-        0x0e | 0x0f | 0x1c | 0x1d | 0xb8 => 3,
-        _ => 2,
+// A request that isn't quiet, with what its header says.
+fn request(vbucket: u64, cas: u64, size: u64, command: Command) -> Instruction {
+    Instruction {
+        vbucket: low16(vbucket),
+        cas: Cas(cas),
+        quiet: false,
+        size: size as usize,
+        unsupported: false,
+        command,
     }
 }
 
-fn size(opcode: u8, f: Fields) -> usize {
-    match opcode {
-        0x01 | 0x02 | 0x03 => text::field(f, 4) as usize,
-        0x0e | 0x0f => text::field(f, 2) as usize,
-        0xa2 | 0xa4 | 0xa8 => text::field(f, 7) as usize,
-        _ => 0,
-    }
+fn bare(fields: &[u8], command: Command) -> Option<Instruction> {
+    let [vbucket, cas] = words::all::<2>(fields)?;
+    Some(request(vbucket, cas, 0, command))
 }
 
-fn plain(kind: Kind, f: Fields) -> Command {
-    Command::Write(Plain {
+fn write(fields: &[u8], kind: Kind) -> Option<Instruction> {
+    let [vbucket, cas, flags, expiry, size] = words::all::<5>(fields)?;
+    let plain = Plain {
         kind,
-        flags: text::low32(text::field(f, 2)),
-        expiry: text::low32(text::field(f, 3)),
-    })
+        flags: low32(flags),
+        expiry: low32(expiry),
+    };
+    Some(request(vbucket, cas, size, Command::Write(plain)))
 }
 
-fn counter(up: bool, f: Fields) -> Command {
-    Command::Count(Counter {
+fn count(fields: &[u8], up: bool) -> Option<Instruction> {
+    let [vbucket, cas, delta, initial, expiry] = words::all::<5>(fields)?;
+    let counter = Counter {
         up,
-        delta: text::field(f, 2),
-        initial: text::field(f, 3),
-        expiry: text::low32(text::field(f, 4)),
-    })
+        delta,
+        initial,
+        expiry: low32(expiry),
+    };
+    Some(request(vbucket, cas, 0, Command::Count(counter)))
+}
+
+fn join(fields: &[u8], side: Side) -> Option<Instruction> {
+    let [vbucket, cas, size] = words::all::<3>(fields)?;
+    Some(request(vbucket, cas, size, Command::Join(side)))
+}
+
+fn touch(fields: &[u8], shown: bool) -> Option<Instruction> {
+    let [vbucket, cas, expiry] = words::all::<3>(fields)?;
+    let expiry = low32(expiry);
+    Some(request(vbucket, cas, 0, Command::Touch(Touching { expiry, shown })))
+}
+
+fn keys(fields: &[u8]) -> Option<Instruction> {
+    let [vbucket, cas, most] = words::all::<3>(fields)?;
+    Some(request(vbucket, cas, 0, Command::GetKeys(low32(most))))
 }
 
 fn is_set(options: u64, bit: u64) -> bool {
     options & bit != 0
 }
 
-fn with_meta(kind: MetaKind, f: Fields) -> Command {
-    let numbers = text::numbers(
-        text::field(f, 2),
-        text::field(f, 3),
-        text::field(f, 4),
-        text::field(f, 5),
-    );
-    let options = text::field(f, 6);
-    Command::WithMeta(Meta {
+// Option 0x01, force, is retired.
+fn with_meta(fields: &[u8], kind: MetaKind) -> Option<Instruction> {
+    let [
+        vbucket,
+        cas,
+        flags,
+        expiry,
+        revision,
+        copy_cas,
+        options,
+        size,
+    ] = words::all::<8>(fields)?;
+    let force = is_set(options, 0x01);
+    let meta = Meta {
         kind,
-        numbers,
-        force: is_set(options, 0x01),
+        numbers: Numbers {
+            flags: low32(flags),
+            expiry: low32(expiry),
+            revision: Revision(revision),
+            cas: Cas(copy_cas),
+        },
+        force,
         last: is_set(options, 0x02),
         regenerate: is_set(options, 0x04),
         skip: is_set(options, 0x08),
+    };
+    Some(Instruction {
+        unsupported: force,
+        ..request(vbucket, cas, size, Command::WithMeta(meta))
     })
 }
 
-fn touch(shown: bool, f: Fields) -> Command {
-    Command::Touch(Touching {
-        expiry: text::low32(text::field(f, 2)),
-        shown,
-    })
-}
-
-fn command(opcode: u8, f: Fields) -> Command {
-    match opcode {
-        0x00 => Command::Get(false),
-        0x01 => plain(Kind::Set, f),
-        0x02 => plain(Kind::Add, f),
-        0x03 => plain(Kind::Replace, f),
-        0x04 => Command::Delete,
-        0x05 => counter(true, f),
-        0x06 => counter(false, f),
-        0x0b => Command::Version,
-        0x0c => Command::Get(true),
-        0x0e => Command::Join(Side::Back),
-        0x0f => Command::Join(Side::Front),
-        0x1c => touch(false, f),
-        0x1d => touch(true, f),
-        0xa2 => with_meta(MetaKind::Set, f),
-        0xa4 => with_meta(MetaKind::Add, f),
-        0xa8 => with_meta(MetaKind::Delete, f),
-        0xb8 => Command::GetKeys(text::low32(text::field(f, 2))),
-        _ => Command::Noop,
+fn read_plain(line: &[u8]) -> Option<Instruction> {
+    let (word, fields) = cut(line, b' ');
+    match word {
+        b"get" => bare(fields, Command::Get(false)),
+        b"getk" => bare(fields, Command::Get(true)),
+        b"delete" => bare(fields, Command::Delete),
+        b"noop" => bare(fields, Command::Noop),
+        b"version" => bare(fields, Command::Version),
+        b"set" => write(fields, Kind::Set),
+        b"add" => write(fields, Kind::Add),
+        b"replace" => write(fields, Kind::Replace),
+        b"incr" => count(fields, true),
+        b"decr" => count(fields, false),
+        b"append" => join(fields, Side::Back),
+        b"prepend" => join(fields, Side::Front),
+        b"touch" => touch(fields, false),
+        b"gat" => touch(fields, true),
+        b"keys" => keys(fields),
+        b"setm" => with_meta(fields, MetaKind::Set),
+        b"addm" => with_meta(fields, MetaKind::Add),
+        b"delm" => with_meta(fields, MetaKind::Delete),
+        _ => None,
     }
 }
 
-// Option 0x01 of a with-meta write, which is retired.
-fn is_forced(opcode: u8, f: Fields) -> bool {
-    ((opcode == 0xa2) | (opcode == 0xa4) | (opcode == 0xa8)) & is_set(text::field(f, 6), 0x01)
-}
-
-fn request(opcode: u8, quiet: bool, f: Fields) -> Instruction {
-    let command = command(opcode, f);
-    Instruction {
-        vbucket: text::low16(text::field(f, 0)),
-        cas: Cas(text::field(f, 1)),
-        quiet,
-        size: size(opcode, f),
-        unsupported: is_forced(opcode, f),
-        command,
+pub(crate) fn read(line: &[u8]) -> Option<Instruction> {
+    match cut(line, b' ') {
+        (b"quiet", request) => Some(Instruction {
+            quiet: true,
+            ..read_plain(request)?
+        }),
+        _ => read_plain(line),
     }
-}
-
-fn read_as(line: &[u8], quiet: bool) -> Decoded {
-    let code = opcode(text::before(line, b' '));
-    let f = text::spelled(text::after(line, b' '));
-    if (code != 0xff) & text::are(f, width(code)) {
-        return Decoded::Request(request(code, quiet, f));
-    }
-    Decoded::Unknown
-}
-
-pub(crate) fn read(line: &[u8]) -> Decoded {
-    if compare::same(text::before(line, b' '), b"quiet") {
-        return read_as(text::after(line, b' '), true);
-    }
-    read_as(line, false)
 }

@@ -1,21 +1,13 @@
 // What is printed of a decision.
 use decision::Decision;
-use document::{Head, Metadata, Side, Stored};
+use document::{Head, Metadata, Side};
 use effects::{Reply, Source};
 use numbers::Numbers;
-
-pub(crate) fn text(s: &[u8]) {
-    io::write_all(1, s);
-}
-
-fn decimal(name: &[u8], value: u64) {
-    text(name);
-    io::print_decimal(1, value);
-}
+use vector_text::show::{decimal, hexadecimal, text};
 
 fn numbers(n: Numbers) {
-    decimal(b" flags ", n.flags as u64);
-    decimal(b" expiry ", n.expiry as u64);
+    decimal(b" flags ", u64::from(n.flags));
+    decimal(b" expiry ", u64::from(n.expiry));
     decimal(b" revision ", n.revision.0);
     decimal(b" cas ", n.cas.0);
 }
@@ -29,20 +21,14 @@ fn counted(n: u64) {
     text(b"'");
 }
 
-fn joined(side: Side) {
-    match side {
-        Side::Front => text(b" value of the frame, then the stored one"),
-        Side::Back => text(b" value stored, then the frame's"),
-    }
-}
-
 fn source(s: Source) {
     match s {
         Source::Empty => text(b" value empty"),
         Source::Frame => text(b" value of the frame"),
         Source::Digits(n) => counted(n),
         Source::Kept => text(b" value kept"),
-        Source::Joined(side) => joined(side),
+        Source::Joined(Side::Front) => text(b" value of the frame, then the stored one"),
+        Source::Joined(Side::Back) => text(b" value stored, then the frame's"),
     }
 }
 
@@ -52,22 +38,11 @@ fn held(d: Metadata) {
     } else {
         text(b", stores a document");
     }
-    let n = d.numbers;
-    numbers(n);
-}
-
-fn store(s: Stored, from: Source) {
-    match s {
-        Stored::Nothing => (),
-        Stored::Used(d) => {
-            held(d);
-            source(from);
-        }
-    }
+    numbers(d.numbers);
 }
 
 fn found(flags: u32, keyed: bool) {
-    decimal(b"flags ", flags as u64);
+    decimal(b"flags ", u64::from(flags));
     if keyed {
         text(b", the key");
     }
@@ -81,35 +56,28 @@ fn reply(r: Reply) {
         Reply::Found(flags, keyed) => found(flags, keyed),
         Reply::Counted(n) => decimal(b"number ", n),
         Reply::Version => text(b"release"),
-        Reply::Keys(n) => decimal(b"keys, at most ", n as u64),
+        Reply::Keys(n) => decimal(b"keys, at most ", u64::from(n)),
     }
 }
 
 fn same_but_mark(a: Head, b: Head) -> bool {
-    (a.state == b.state) & (a.mode == b.mode) & (a.vbucket == b.vbucket) & (a.clock == b.clock)
-}
-
-fn mark(h: Head, after: Head) {
-    decimal(b", mark ", after.mark.0);
-    if !same_but_mark(h, after) {
-        text(b", HEAD CHANGED");
-    }
+    a.state == b.state && a.mode == b.mode && a.vbucket == b.vbucket && a.clock == b.clock
 }
 
 // The head is the one that was decided on.
-pub(crate) fn decision(h: Head, d: Decision) {
-    let done = d.done;
-    text(b"status 0x");
-    io::print_hex(1, d.status as u64, 2);
+pub(crate) fn decision(head: Head, d: Decision) {
+    hexadecimal(b"status 0x", u64::from(outcome::status_of(d.status)), 2);
     if d.silent {
         text(b" silent");
     }
-    let s = done.store;
-    let from = done.source;
-    store(s, from);
-    let r = done.reply;
-    reply(r);
-    decimal(b" cas ", done.cas.0);
-    let after = done.head;
-    mark(h, after);
+    if let Some(stored) = d.done.store {
+        held(stored);
+        source(d.done.source);
+    }
+    reply(d.done.reply);
+    decimal(b" cas ", d.done.cas.0);
+    decimal(b", mark ", d.done.head.mark.0);
+    if !same_but_mark(head, d.done.head) {
+        text(b", HEAD CHANGED");
+    }
 }

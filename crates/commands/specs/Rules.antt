@@ -1,5 +1,5 @@
 -- How each command stands to each test, a row of rules for each, and the statuses in 01's order, first that applies.
-use Rattle.std.specs.Prelude.{ℕ, ◌+◌, Bool, true, false, cond, ◌&&◌, ◌||◌, not, List, [], ◌∷◌, ltb, eqb}
+use Rattle.std.specs.Prelude.{ℕ, ◌+◌, Bool, true, false, cond, ◌&&◌, ◌||◌, not, List, [], ◌∷◌, ltb, eqb, Option, is_some}
 use Rattle.std.specs.Bool.{beq}
 use Rattle.numbers.specs.declared.Mode.{Mode}
 use Rattle.numbers.specs.declared.Mode.TheVariants.{ByRevision, LastWrite}
@@ -7,8 +7,6 @@ use Rattle.numbers.specs.Order.{mode_of}
 use Rattle.numbers.specs.Expiry.{passes}
 use Rattle.document.specs.declared.Head.{Head}
 use Rattle.document.specs.Stored.{accepted, live, has_row, numbers_of}
-use Rattle.digits.specs.declared.Number.{Number}
-use Rattle.digits.specs.declared.Number.TheVariants.{Value, NoNumber}
 use Rattle.commands.specs.declared.Kind.{Kind}
 use Rattle.commands.specs.declared.Kind.TheVariants.{Set, Add, Replace}
 use Rattle.commands.specs.declared.MetaKind.{MetaKind}
@@ -204,9 +202,8 @@ abbrev pub guard : Instruction → Rule → Bool
 guard i t = t.guarded && not (eqb i.cas.0 0)
 
 -- "the value must be 1 to 20 decimal digits of a number under 2^64"
-abbrev pub is_number : Number → Bool
-is_number (Value n) = true
-is_number NoNumber = false
+abbrev pub is_number : Option ℕ → Bool
+is_number n = is_some n
 
 unfoldable pub tests_of : Context → Instruction → Rule → Tests
 tests_of c i t = record {

@@ -5,14 +5,14 @@
 
 pub mod status;
 
-ghost use Rattle.std.specs.Prelude.{◌≡◌};
+ghost use Rattle.std.specs.Prelude.{◌≡◌, not, ◌||◌, eqb, ltb};
+ghost use Rattle.document.specs.Stored.{live, has_row, numbers_of};
 ghost use Rattle.commands.specs.Writes.{is_mutation};
 
-use digits::Number;
-use document::{Head, Side, Stored};
+use document::{Head, Metadata, Side};
 use numbers::{Cas, Numbers};
 
-#[derive(Clone, Copy)]
+#[derive(Clone, Copy, Debug, PartialEq, Eq)]
 pub enum Kind {
     Set,
     Add,
@@ -43,7 +43,7 @@ pub struct Touching {
     pub shown: bool,
 }
 
-#[derive(Clone, Copy)]
+#[derive(Clone, Copy, Debug, PartialEq, Eq)]
 pub enum MetaKind {
     Set,
     Add,
@@ -96,10 +96,10 @@ pub struct Instruction {
 #[derive(Clone, Copy)]
 pub struct Context {
     pub head: Head,
-    pub row: Stored,
+    pub row: Option<Metadata>,
     pub free: bool,
     pub clock: u32,
-    pub number: Number,
+    pub number: Option<u64>,
     pub size: usize,
 }
 
@@ -120,20 +120,73 @@ pub struct Tests {
     pub full: bool,
 }
 
+// No test fails: what a command has no test of, it leaves at this.
+pub const PASSING: Tests = Tests {
+    fault: false,
+    unsupported: false,
+    long: false,
+    elsewhere: false,
+    unstored: false,
+    missing: false,
+    conflict: false,
+    joined: false,
+    number: false,
+    spent: false,
+    full: false,
+};
+
+impl Context {
+    // Whether the key has a live document.
+    pub fn is_live(self) -> bool
+        ensures { result ≡ live self.row self.clock }
+    {
+        document::live(self.row, self.clock)
+    }
+
+    // The numbers of the key's row, all 0 without one.
+    pub fn stored(self) -> Numbers
+        ensures { result ≡ numbers_of self.row }
+    {
+        document::numbers_of(self.row)
+    }
+
+    // Whether a number that a plain write raises is at its end: the row's revision, or the mark.
+    pub fn is_spent(self) -> bool
+        ensures { result ≡ (eqb (numbers_of self.row).revision.0 0xffffffffffffffff || eqb self.head.mark.0 0xffffffffffffffff) }
+    {
+        (self.stored().revision.0 == u64::MAX) | (self.head.mark.0 == u64::MAX)
+    }
+
+    // Whether the key has a row or may have a free one.
+    pub fn has_room(self) -> bool
+        ensures { result ≡ (has_row self.row || self.free) }
+    {
+        self.row.is_some() | self.free
+    }
+}
+
+impl Instruction {
+    // Whether the header CAS guards a write.
+    pub fn is_guarded(self) -> bool
+        ensures { result ≡ not (eqb self.cas.0 0) }
+    {
+        self.cas.0 != 0
+    }
+
+    // Whether the value is over 1,024 bytes.
+    pub fn is_long(self) -> bool
+        ensures { result ≡ ltb 1024 self.size }
+    {
+        1024 < self.size
+    }
+}
+
 // Whether a command writes.
 pub fn writes(c: Command) -> bool
     ensures { result ≡ is_mutation c }
 {
-    match c {
-        Command::Get(_) => false,
-        Command::Write(_) => true,
-        Command::Delete => true,
-        Command::Count(_) => true,
-        Command::Noop => false,
-        Command::Version => false,
-        Command::WithMeta(_) => true,
-        Command::GetKeys(_) => false,
-        Command::Join(_) => true,
-        Command::Touch(_) => true,
-    }
+    !matches!(
+        c,
+        Command::Get(_) | Command::Noop | Command::Version | Command::GetKeys(_)
+    )
 }

@@ -4,15 +4,14 @@
 ghost use Rattle.std.specs.Prelude.{◌≡◌, length};
 ghost use Rattle.octets.specs.Compare.{zeros, same};
 
-// Whether every byte is zero. With no way out of its loop it is compiled to vector code.
+// Whether every byte is zero. With no way out of its loop it is compiled to vector code. As a fold it was tried: the damage test
+// took four instructions more for each row.
 pub fn all_zero(s: &[u8]) -> bool
     ensures { result ≡ zeros s.now }
 {
-    let mut seen = 0u8;
-    let mut i = 0;
-    while i < s.len() {
-        seen = seen | s[i];
-        i += 1;
+    let mut seen = 0;
+    for &byte in s {
+        seen |= byte;
     }
     seen == 0
 }
@@ -36,15 +35,14 @@ fn all_same(s: &[u8], t: &[u8]) -> bool
     ensures { result ≡ same s.now t.now }
 {
     let mut apart = false;
-    let mut i = 0;
-    while i < s.len() {
-        apart = apart | (s[i] != t[i]);
-        i += 1;
+    for (x, y) in s.iter().zip(t) {
+        apart |= x != y;
     }
     !apart
 }
 
-// The same by 32 bytes, and the last 32 once more.
+// The same by 32 bytes, and the last 32 once more. `s == t` was tried in its place: a search took four instructions more for each
+// row that `same` tells by one byte.
 fn same_run(s: &[u8], t: &[u8]) -> bool
     requires { length s.now ≡ length t.now }
     ensures { result ≡ same s.now t.now }
@@ -65,12 +63,9 @@ pub fn same(s: &[u8], t: &[u8]) -> bool
     if s.len() != t.len() {
         return false;
     }
-    if 0 < s.len() {
+    if !s.is_empty() {
         let last = s.len() - 1;
-        if s[last] != t[last] {
-            return false;
-        }
-        if s[0] != t[0] {
+        if s[last] != t[last] || s[0] != t[0] {
             return false;
         }
     }
@@ -83,12 +78,9 @@ pub fn same(s: &[u8], t: &[u8]) -> bool
     same_run(s, t)
 }
 
-// The same test for bytes that are no key and mostly equal: the lengths, and then every byte.
+// The same test for bytes that are no key and mostly equal.
 pub fn equal(s: &[u8], t: &[u8]) -> bool
     ensures { result ≡ same s.now t.now }
 {
-    if t.len() != s.len() {
-        return false;
-    }
-    all_same(s, t)
+    s == t
 }

@@ -14,10 +14,8 @@ use Rattle.octets.proofs.Lists.{part-front}
 use Rattle.header.specs.declared.Header.{Header}
 use Rattle.header.specs.Header.{header_of}
 use Rattle.engine.specs.declared.Config.{Config}
-use Rattle.request.specs.declared.Gate.{Gate}
-use Rattle.request.specs.declared.Gate.TheVariants.{Stop, Whole}
-use Rattle.serving.specs.declared.Served.TheVariants.{Refused, Done}
-use Rattle.serving.specs.Serve.{gate_all, answer_by, served}
+use Rattle.request.specs.Reading.{Gate, Stop, Whole}
+use Rattle.serving.specs.Serve.{Refused, Done, gate_all, answer_by, served}
 use Rattle.serving.proofs.Gated.{was-open}
 use Rattle.contact_box.specs.Session.{first_frame}
 use Rattle.contact_box.proofs.Waiting.{cut}

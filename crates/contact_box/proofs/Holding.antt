@@ -10,11 +10,8 @@ use Rattle.octets.proofs.Lists.{take-pasted, written-fits}
 use Rattle.header.specs.Header.{header_of}
 use Rattle.engine.specs.declared.Config.{Config}
 use Rattle.tally.specs.declared.Tally.{Tally}
-use Rattle.serving.specs.declared.Served.{Served}
-use Rattle.serving.specs.declared.Served.TheVariants.{Refused, Done}
-use Rattle.serving.specs.Serve.{served_used, served}
-use Rattle.run.specs.declared.Ran.{Ran}
-use Rattle.run.specs.Run.{Stand, called_on, further, on_done, stand_after, begun, run_end, ran_of}
+use Rattle.serving.specs.Serve.{Served, Refused, Done, served_used, served}
+use Rattle.run.specs.Run.{Ran, Stand, called_on, further, on_done, stand_after, begun, run_end, ran_of}
 use Rattle.run.proofs.Laws.{used-fits}
 use Rattle.contact_box.specs.declared.session.Held.{Held}
 use Rattle.contact_box.specs.Session.{held_of, past, first_frame}

@@ -13,13 +13,10 @@ use Rattle.std.specs.Io.KnownBytes.{Appends}
 use Rattle.octets.specs.Parts.{Bytes, part, pasted, written}
 use Rattle.octets.proofs.Lists.{part-most, take-pasted, written-fits, length-pasted}
 use Rattle.engine.specs.declared.Config.{Config}
-use Rattle.request.specs.declared.Gate.{Gate}
-use Rattle.request.specs.declared.Gate.TheVariants.{Stop, Whole}
+use Rattle.request.specs.Reading.{Gate, Stop, Whole}
 use Rattle.engines.proofs.Tables.{sound-plain}
 use Rattle.reply.proofs.Frames.{reply-most}
-use Rattle.serving.specs.declared.Served.{Served}
-use Rattle.serving.specs.declared.Served.TheVariants.{Refused, Done}
-use Rattle.serving.specs.Serve.{served_used, served_length, gate_all, answer_by, served}
+use Rattle.serving.specs.Serve.{Served, Refused, Done, served_used, served_length, gate_all, answer_by, served}
 use Rattle.serving.proofs.Gated.{was-open}
 use Rattle.trace_writer.specs.Writing.{frame_fields, opening_bytes, length_put}
 use Rattle.trace_writer.proofs.FieldLaws.{length-frame, frame-most, length-opening}

@@ -9,14 +9,10 @@ use lib.ListN.{length}
 use borrow.Author.Tests.{eqb-true, ltb-true, ltb-false}
 use Rattle.octets.proofs.Choices.{cases, cond-elim}
 use Rattle.header.specs.Header.{header_of}
-use Rattle.request.specs.declared.Gate.{Gate}
-use Rattle.request.specs.declared.Gate.TheVariants.{Stop, Whole}
-use Rattle.request.specs.Reading.{gate_of}
+use Rattle.request.specs.Reading.{Gate, Stop, Whole, gate_of}
 use Rattle.engine.specs.declared.Config.{Config}
 use Rattle.engines.specs.Damage.{sound_by}
-use Rattle.serving.specs.declared.Served.{Served}
-use Rattle.serving.specs.declared.Served.TheVariants.{Refused, Done}
-use Rattle.serving.specs.Serve.{gate_all, answer_by, served}
+use Rattle.serving.specs.Serve.{Served, Refused, Done, gate_all, answer_by, served}
 use Rattle.contact_box.specs.declared.session.Next.TheVariants.{Close}
 use Rattle.contact_box.specs.Session.{next_of, Waits}
 

@@ -1,7 +1,10 @@
 -- What the arguments may ask for.
-use Rattle.std.specs.Prelude.{ℕ, ◌≤◌}
-use Rattle.contact_box.specs.declared.arguments.Parsed.{Parsed}
-use Rattle.contact_box.specs.declared.arguments.Parsed.TheVariants.{Table, Recorded, Wrong}
+use Rattle.std.specs.Prelude.{ℕ, ◌≤◌, ◌≡◌}
+use Rattle.contact_box.specs.declared.arguments.Mode.{Mode}
+use Rattle.contact_box.specs.declared.arguments.Mode.TheVariants.{Revision, LastWriteWins}
+use Rattle.contact_box.specs.declared.arguments.Setup.{Setup}
+use Rattle.contact_box.specs.declared.arguments.Asked.{Asked}
+use Rattle.contact_box.specs.declared.arguments.Asked.TheVariants.{Serve, Record}
 
 -- there is a table of so many rows in such a mode
 pub record Makes (rows mode : ℕ) : Type 0 where
@@ -10,7 +13,14 @@ pub record Makes (rows mode : ℕ) : Type 0 where
   pub first : 1 ≤ mode
   pub last : mode ≤ 2
 
-abbrev pub Allowed : Parsed → Type 0
-Allowed (Table rows vbucket mode) = Makes rows mode
-Allowed (Recorded vbucket mode) = Makes 32 mode
-Allowed (Wrong f) = Unit {0}
+-- as a table's head has it
+abbrev pub mode_number : Mode → ℕ
+mode_number Revision = 1
+mode_number LastWriteWins = 2
+
+abbrev pub Fits : Setup → Type 0
+Fits setup = Makes setup.rows (mode_number setup.mode)
+
+abbrev pub Allowed : Asked → Type 0
+Allowed (Serve setup) = Fits setup
+Allowed (Record setup) = Fits setup × (setup.rows ≡ 32)

@@ -4,8 +4,7 @@ use Rattle.std.specs.Prelude.{ℕ, ◌+◌, ◌-◌, ◌≤◌, Bool, true, fals
 use Rattle.std.specs.declared.option.Option.{Option}
 use Rattle.std.specs.Io.KnownBytes.{Appends, Keeps}
 use Rattle.numbers.specs.Growth.{next}
-use Rattle.serving.specs.declared.Served.{Served}
-use Rattle.serving.specs.declared.Served.TheVariants.{Refused, Done}
+use Rattle.serving.specs.Serve.{Served, Refused, Done}
 use Rattle.trace_writer.specs.Writing.{frame_fields}
 use Rattle.contact_box.specs.declared.recorder.Recording.{Recording}
 use Rattle.contact_box.specs.declared.recorder.Recording.TheVariants.{Off, On, Full, Failed}

@@ -4,9 +4,7 @@ use Rattle.std.specs.declared.option.Option.{Option}
 use Rattle.std.specs.Io.KnownBytes.{Appends}
 use Rattle.header.specs.Header.{header_of}
 use Rattle.engine.specs.declared.Config.{Config}
-use Rattle.serving.specs.declared.Served.{Served}
-use Rattle.serving.specs.declared.Served.TheVariants.{Refused, Done}
-use Rattle.serving.specs.Serve.{served_used, served_length, served, served_table, served_reply}
+use Rattle.serving.specs.Serve.{Served, Refused, Done, served_used, served_length, served, served_table, served_reply}
 use Rattle.tally.specs.Counts.{counted_of}
 use Rattle.run.specs.Run.{Stand, called_on}
 use Rattle.contact_box.specs.declared.session.Next.{Next}

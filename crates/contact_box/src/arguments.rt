@@ -1,18 +1,46 @@
 // What the program's arguments ask for.
-ghost use Rattle.std.specs.Prelude.{◌≤◌, length};
-ghost use Rattle.contact_box.specs.Arguments.{Allowed};
+ghost use Rattle.std.specs.Prelude.{◌≡◌, IfOk};
+ghost use Rattle.contact_box.specs.Arguments.{mode_number, Fits, Allowed};
 
-use crate::report;
-use digits::Number;
 use std::env::{Env, FillError};
-use std::io::Write;
+use std::fmt;
 
-const REVISION: u8 = 1;
+// What decides which of two copies of a document stands.
+#[derive(Clone, Copy)]
+pub(crate) enum Mode {
+    Revision,
+    LastWriteWins,
+}
 
-const LAST_WRITE_WINS: u8 = 2;
+impl Mode {
+    // As a table's head has it.
+    pub(crate) fn number(self) -> u8
+        ensures { result ≡ mode_number self }
+    {
+        match self {
+            Mode::Revision => 1,
+            Mode::LastWriteWins => 2,
+        }
+    }
+}
+
+// The table that is made.
+#[derive(Clone, Copy)]
+pub(crate) struct Setup {
+    pub(crate) rows: usize,
+    pub(crate) vbucket: u16,
+    pub(crate) mode: Mode,
+}
+
+// To serve on a table, or to record too, on one that has the rows of the table that a trace is replayed on.
+#[derive(Clone, Copy)]
+pub(crate) enum Asked {
+    Serve(Setup),
+    Record(Setup),
+}
 
 // What is wrong: that the arguments are not three or four, or one of them.
-#[derive(Clone, Copy)]
+#[derive(Debug, Clone, Copy)]
 pub(crate) enum Fault {
     Count,
     Rows,
@@ -21,127 +49,71 @@ pub(crate) enum Fault {
     Recorded,
 }
 
-// A table to serve on, or one to record on, which has the rows of the table that a trace is replayed on.
-#[derive(Clone, Copy)]
-pub(crate) enum Parsed {
-    Table { rows: usize, vbucket: u16, mode: u8 },
-    Recorded { vbucket: u16, mode: u8 },
-    Wrong(Fault),
+impl fmt::Display for Fault {
+    fn fmt<W: fmt::Write>(&self, f: &mut fmt::Formatter<W>) -> fmt::Result {
+        f.write_str(match self {
+            Fault::Count => "three or four arguments are wanted",
+            Fault::Rows => "ROWS is 1 to 256",
+            Fault::Vbucket => "VBUCKET is 0 to 65535",
+            Fault::Mode => "MODE is revision or last-write-wins",
+            Fault::Recorded => "with a TRACE, ROWS is 32",
+        })
+    }
 }
 
 // Whether there is such an argument, of any length.
 fn is_there(args: &impl Env, i: usize) -> bool {
     let mut word = [0u8; 1];
-    match args.arg(i, &mut word) {
-        Ok(_) => true,
-        Err(FillError::TooLong) => true,
-        Err(FillError::NotPresent) => false,
-    }
-}
-
-// Puts an argument at the start of a word and answers its length, or 0 where it isn't there or is longer.
-fn put_word(args: &impl Env, i: usize, word: &mut [u8]) -> usize
-    ensures { result ≤ length word.new }
-{
-    match args.arg(i, word) {
-        Ok(n) => n,
-        Err(_) => 0,
-    }
+    !matches!(args.arg(i, &mut word), Err(FillError::NotPresent))
 }
 
 // The number that an argument spells.
-fn number_at(args: &impl Env, i: usize) -> Number {
+fn number_at(args: &impl Env, i: usize) -> Option<u64> {
     let mut word = [0u8; 32];
-    let n = put_word(args, i, &mut word);
+    let n = args.arg(i, &mut word).ok()?;
     digits::parse(&word[..n])
 }
 
-// The mode that an argument names, or 0.
-fn mode_at(args: &impl Env, i: usize) -> u8
-    ensures { result ≤ 2 }
-{
+// The mode that an argument names.
+fn mode_at(args: &impl Env, i: usize) -> Option<Mode> {
     let mut word = [0u8; 32];
-    let n = put_word(args, i, &mut word);
-    if compare::same(&word[..n], b"revision") {
-        return REVISION;
-    }
-    if compare::same(&word[..n], b"last-write-wins") {
-        return LAST_WRITE_WINS;
-    }
-    0
-}
-
-fn asked_of(rows: Number, vbucket: Number, mode: u8) -> Parsed
-    requires { mode ≤ 2 }
-    ensures { Allowed result }
-{
-    let Number::Value(r) = rows else {
-        return Parsed::Wrong(Fault::Rows);
-    };
-    if r < 1 {
-        return Parsed::Wrong(Fault::Rows);
-    }
-    if 256 < r {
-        return Parsed::Wrong(Fault::Rows);
-    }
-    let Number::Value(v) = vbucket else {
-        return Parsed::Wrong(Fault::Vbucket);
-    };
-    if 65535 < v {
-        return Parsed::Wrong(Fault::Vbucket);
-    }
-    if mode < 1 {
-        return Parsed::Wrong(Fault::Mode);
-    }
-    Parsed::Table {
-        rows: r as usize,
-        vbucket: v as u16,
-        mode,
+    let n = args.arg(i, &mut word).ok()?;
+    match &word[..n] {
+        b"revision" => Some(Mode::Revision),
+        b"last-write-wins" => Some(Mode::LastWriteWins),
+        _ => None,
     }
 }
 
-// The same table, to record on.
-fn recorded_of(asked: Parsed) -> Parsed
-    requires { Allowed asked }
-    ensures { Allowed result }
+fn setup_of(rows: Option<u64>, vbucket: Option<u64>, mode: Option<Mode>) -> Result<Setup, Fault>
+    ensures { IfOk result Fits }
 {
-    let Parsed::Table {
-        rows,
-        vbucket,
-        mode,
-    } = asked
-    else {
-        return asked;
+    let Some(rows @ 1..=256) = rows else {
+        return Err(Fault::Rows);
     };
-    if rows != 32 {
-        return Parsed::Wrong(Fault::Recorded);
-    }
-    Parsed::Recorded { vbucket, mode }
+    let Some(vbucket @ ..=0xffff) = vbucket else {
+        return Err(Fault::Vbucket);
+    };
+    Ok(Setup {
+        rows: rows as usize,
+        vbucket: vbucket as u16,
+        mode: mode.ok_or(Fault::Mode)?,
+    })
 }
 
 // The program's own name is argument 0.
-pub(crate) fn read(args: &impl Env) -> Parsed
-    ensures { Allowed result }
+pub(crate) fn read(args: &impl Env) -> Result<Asked, Fault>
+    ensures { IfOk result Allowed }
 {
-    if !is_there(args, 3) {
-        return Parsed::Wrong(Fault::Count);
+    if !is_there(args, 3) || is_there(args, 5) {
+        return Err(Fault::Count);
     }
-    if is_there(args, 5) {
-        return Parsed::Wrong(Fault::Count);
+    let setup = setup_of(number_at(args, 1), number_at(args, 2), mode_at(args, 3))?;
+    if !is_there(args, 4) {
+        return Ok(Asked::Serve(setup));
     }
-    let asked = asked_of(number_at(args, 1), number_at(args, 2), mode_at(args, 3));
-    if is_there(args, 4) {
-        return recorded_of(asked);
+    if setup.rows != 32 {
+        return Err(Fault::Recorded);
     }
-    asked
-}
-
-pub(crate) fn complain<W: Write>(to: &mut W, f: Fault) {
-    match f {
-        Fault::Count => report::wrong(to, b"three or four arguments are wanted"),
-        Fault::Rows => report::wrong(to, b"ROWS is 1 to 256"),
-        Fault::Vbucket => report::wrong(to, b"VBUCKET is 0 to 65535"),
-        Fault::Mode => report::wrong(to, b"MODE is revision or last-write-wins"),
-        Fault::Recorded => report::wrong(to, b"with a TRACE, ROWS is 32"),
-    }
+    Ok(Asked::Record(setup))
 }

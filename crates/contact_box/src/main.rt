@@ -28,9 +28,9 @@ mod writing;
 ghost use Rattle.std.specs.Prelude.{◌≡◌, length};
 ghost use Rattle.rows.specs.Table.{table_bytes, fresh};
 ghost use Rattle.owning.specs.Owner.{size_of};
-ghost use Rattle.contact_box.specs.Arguments.{Makes};
+ghost use Rattle.contact_box.specs.Arguments.{mode_number, Fits};
 
-use arguments::Parsed;
+use arguments::{Asked, Setup};
 use recorder::Recorder;
 use std::io::Write;
 
@@ -50,30 +50,29 @@ fn area() -> [u8; 65536]
     [0; 65536]
 }
 
-fn make_table(table: &mut [u8], rows: usize, vbucket: u16, mode: u8)
-    requires { (length table.old ≡ size_of rows) × Makes rows mode }
-    ensures { table.new ≡ table_bytes (fresh rows 1 mode vbucket) }
+fn make_table(table: &mut [u8], setup: Setup)
+    requires { (length table.old ≡ size_of setup.rows) × Fits setup }
+    ensures { table.new ≡ table_bytes (fresh setup.rows 1 (mode_number setup.mode) setup.vbucket) }
 {
-    owner::make(table, rows, ACTIVE, mode, vbucket);
+    let _ = owner::make(
+        table,
+        setup.rows,
+        ACTIVE,
+        setup.mode.number(),
+        setup.vbucket,
+    );
 }
 
 // Serves standard input, and records to a trace where the recorder is on.
-fn serve<T: Write>(
-    rt: &HostRuntime,
-    rows: usize,
-    vbucket: u16,
-    mode: u8,
-    trace: &mut T,
-    recorder: Recorder,
-)
-    requires { Makes rows mode }
+fn serve<T: Write>(rt: &HostRuntime, setup: Setup, trace: &mut T, recorder: Recorder)
+    requires { Fits setup }
 {
     let mut memory = memory();
     let mut received = area();
     let mut replies = area();
-    let size = owner::size(rows);
+    let size = owner::size(setup.rows);
     let table = &mut memory[..size];
-    make_table(table, rows, vbucket, mode);
+    make_table(table, setup);
     let mut input = rt.stdin();
     let mut output = rt.stdout();
     let end = session::serve_input(
@@ -93,32 +92,20 @@ fn serve<T: Write>(
 }
 
 // Serves and records, if the file that the fourth argument names can be opened.
-fn record(rt: &HostRuntime, vbucket: u16, mode: u8)
-    requires { Makes 32 mode }
+fn record(rt: &HostRuntime, setup: Setup)
+    requires { Fits setup }
 {
     let mut said = rt.stderr();
-    let Some(mut file) = recorder::open(rt, &mut said, 4) else {
-        return;
-    };
-    let recorder = recorder::begin(&mut file, mode, vbucket);
-    serve(rt, 32, vbucket, mode, &mut file, recorder);
+    if let Some(mut file) = recorder::open(rt, &mut said, 4) {
+        let recorder = recorder::begin(&mut file, setup.mode.number(), setup.vbucket);
+        serve(rt, setup, &mut file, recorder);
+    }
 }
 
 fn main(rt: HostRuntime) {
     match arguments::read(&rt) {
-        Parsed::Table {
-            rows,
-            vbucket,
-            mode,
-        } => serve(
-            &rt,
-            rows,
-            vbucket,
-            mode,
-            &mut std::io::sink(),
-            recorder::none(),
-        ),
-        Parsed::Recorded { vbucket, mode } => record(&rt, vbucket, mode),
-        Parsed::Wrong(why) => arguments::complain(&mut rt.stderr(), why),
+        Ok(Asked::Serve(setup)) => serve(&rt, setup, &mut std::io::sink(), recorder::none()),
+        Ok(Asked::Record(setup)) => record(&rt, setup),
+        Err(fault) => report::wrong(&mut rt.stderr(), fault),
     }
 }

@@ -1,14 +1,16 @@
 // Recording what is served as a trace, to a file.
 ghost use Rattle.std.specs.Prelude.{◌≡◌, ◌+◌, ◌≤◌, length};
+ghost use Rattle.serving.specs.Serve.{served_told};
 ghost use Rattle.trace_writer.specs.Writing.{opening_bytes, frame_fields};
 ghost use Rattle.contact_box.specs.Recorder.{opened, is_on, stopped, grown, Grows, Short, Records, Hands, HandsOn};
 
 use crate::{report, writing};
+use outcome::Refusal;
 use serving::Served;
 use std::env::{Env, FillError};
 use std::fs::Files;
 use std::io::Write;
-use std::{fs, io};
+use std::{fmt, fs, io};
 use trace::LONGEST;
 use trace_writer::BEGINNING;
 
@@ -54,28 +56,28 @@ fn error_of(why: FillError) -> io::Error {
     }
 }
 
-// Opens the file of a name, which is empty then, or says why it can't.
-fn open_named<R: Files, W: Write>(files: &R, said: &mut W, name: &[u8]) -> Option<R::File> {
+// Opens the file of a name, which is empty then.
+fn open_named<R: Files>(files: &R, name: &[u8]) -> io::Result<R::File> {
     let Ok(path) = std::str::from_utf8(name) else {
-        report::failed(said, name, io::Error::from_raw_os_error(NOT_TEXT));
-        return None;
+        return Err(io::Error::from_raw_os_error(NOT_TEXT));
     };
-    match fs::create(files, path) {
-        Ok(file) => Some(file),
-        Err(why) => {
-            report::failed(said, name, why);
-            None
-        }
-    }
+    fs::create(files, path)
 }
 
 // Opens the file that an argument names, or says why it can't.
 pub(crate) fn open<R: Env + Files, W: Write>(rt: &R, said: &mut W, i: usize) -> Option<R::File> {
     let mut name = [0u8; 4096];
-    match rt.arg(i, &mut name) {
-        Ok(n) => open_named(rt, said, &name[..n]),
+    let n = match rt.arg(i, &mut name) {
+        Ok(n) => n,
         Err(why) => {
             report::failed(said, b"contact_box: TRACE", error_of(why));
+            return None;
+        }
+    };
+    match open_named(rt, &name[..n]) {
+        Ok(file) => Some(file),
+        Err(why) => {
+            report::failed(said, &name[..n], why);
             None
         }
     }
@@ -113,13 +115,7 @@ pub(crate) fn begin<T: Write>(trace: &mut T, mode: u8, vbucket: u16) -> Recorder
 pub(crate) fn is_on(r: Recorder) -> bool
     ensures { result ≡ is_on r.recording }
 {
-    let recording = r.recording;
-    match recording {
-        Recording::On => true,
-        Recording::Off => false,
-        Recording::Full => false,
-        Recording::Failed => false,
-    }
+    matches!(r.recording, Recording::On)
 }
 
 // The recorder after n bytes more for one frame, which were written or not.
@@ -141,12 +137,7 @@ fn grown(r: Recorder, clock: u32, n: usize, written: bool) -> Recorder
 fn stopped(r: Recorder, recording: Recording) -> Recorder
     ensures { result ≡ stopped r recording }
 {
-    Recorder {
-        at: r.at,
-        frames: r.frames,
-        clock: r.clock,
-        recording,
-    }
+    Recorder { recording, ..r }
 }
 
 // Records a frame that was served at a clock, and its reply, which is empty for a silent frame.
@@ -170,50 +161,44 @@ pub(crate) fn record_answer<T: Write>(
     trace: &mut T,
     r: Recorder,
     clock: u32,
-    answer: Served,
+    answer: Result<Served, Refusal>,
     frame: &[u8],
     reply: &[u8],
 ) -> Recorder
-    requires { Short answer frame.now reply.now }
-    ensures fields { HandsOn answer result.recording (T.contents trace.old) (T.contents trace.new)
+    requires { Short (served_told answer) frame.now reply.now }
+    ensures fields { HandsOn (served_told answer) result.recording (T.contents trace.old) (T.contents trace.new)
         (frame_fields r.clock clock frame.now reply.now) }
-    ensures records { Records r clock answer frame.now reply.now result }
+    ensures records { Records r clock (served_told answer) frame.now reply.now result }
 {
     match answer {
-        Served::Refused(_, _) => r,
-        Served::Done(_, _, _) => record(trace, r, clock, frame, reply),
+        Ok(_) => record(trace, r, clock, frame, reply),
+        Err(_) => r,
     }
 }
 
-// Says what was recorded, or where the recording stopped.
+// What was recorded, or where the recording stopped.
+impl fmt::Display for Recorder {
+    fn fmt<W: fmt::Write>(&self, f: &mut fmt::Formatter<W>) -> fmt::Result {
+        let at = self.at;
+        let frames = self.frames;
+        match self.recording {
+            Recording::Off => Ok(()),
+            Recording::On => write!(f, "recorded {frames} frames, {at} bytes"),
+            Recording::Full => write!(
+                f,
+                "recording stopped at {at} after {frames} frames: the trace is full"
+            ),
+            Recording::Failed => write!(
+                f,
+                "recording stopped at {at} after {frames} frames: the file can't be written and may end in a cut field"
+            ),
+        }
+    }
+}
+
+// Says so, where anything was to be recorded.
 pub(crate) fn ended<W: Write>(said: &mut W, r: Recorder) {
-    let recording = r.recording;
-    let at = r.at as u64;
-    match recording {
-        Recording::Off => {}
-        Recording::On => report::counts(
-            said,
-            b"contact_box: recorded ",
-            r.frames,
-            b" frames, ",
-            at,
-            b" bytes\n",
-        ),
-        Recording::Full => report::counts(
-            said,
-            b"contact_box: recording stopped at ",
-            at,
-            b" after ",
-            r.frames,
-            b" frames: the trace is full\n",
-        ),
-        Recording::Failed => report::counts(
-            said,
-            b"contact_box: recording stopped at ",
-            at,
-            b" after ",
-            r.frames,
-            b" frames: the file can't be written and may end in a cut field\n",
-        ),
+    if !matches!(r.recording, Recording::Off) {
+        report::line(said, &r);
     }
 }

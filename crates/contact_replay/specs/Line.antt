@@ -1,8 +1,7 @@
 -- Order 6, the line that the program writes: "`differs` and the place of the first tag 3 that isn't the last frame's reply [..]; `stopped` and a place; or `replayed` and the number of frames, all decimal", "one space in it".
 use Rattle.std.specs.Prelude.{ℕ, List, [], ◌∷◌, ◌++◌}
 use Rattle.digits.specs.Decimal.{digits}
-use Rattle.replay.specs.declared.Ending.{Ending}
-use Rattle.replay.specs.declared.Ending.TheVariants.{Damaged, Differs, Stopped, Replayed}
+use Rattle.replay.specs.Replay.{Ending, Damaged, Differs, Stopped, Replayed}
 
 -- the words, each with the space after it
 abbrev pub differs_text : List ℕ

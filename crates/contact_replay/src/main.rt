@@ -16,11 +16,11 @@
 #![tactic(auto)]
 
 ghost use Rattle.std.specs.Prelude.{◌≡◌, ◌+◌, ◌≤◌, length, take};
-ghost use Rattle.replay.specs.Replay.{replayed, replay_outcome};
+ghost use Rattle.replay.specs.Replay.{ending_told, replayed, replay_outcome};
 ghost use Rattle.contact_replay.specs.Line.{said, line_of};
 
 use engine::Config;
-use replay::Ending;
+use replay::ReplayError;
 
 // Room for a trace, and for one byte more, which tells that it is too long. The contract gives only the length, which lending needs.
 fn room() -> [u8; 65537]
@@ -51,15 +51,15 @@ fn put_said(out: &mut [u8], word: &[u8], n: u64) -> usize
 }
 
 // Puts the line that says how a replay ended at the start of out, and answers how many bytes it has.
-fn put_line(out: &mut [u8], r: Ending) -> usize
+fn put_line(out: &mut [u8], ending: Result<usize, ReplayError>) -> usize
     requires { 30 ≤ length out.old }
-    ensures { take result out.new ≡ line_of r }
+    ensures { take result out.new ≡ line_of (ending_told ending) }
 {
-    match r {
-        Ending::Damaged => 0,
-        Ending::Differs(at) => put_said(out, b"differs ", at as u64),
-        Ending::Stopped(at) => put_said(out, b"stopped ", at as u64),
-        Ending::Replayed(n) => put_said(out, b"replayed ", n as u64),
+    match ending {
+        Ok(frames) => put_said(out, b"replayed ", frames as u64),
+        Err(ReplayError::Damaged) => 0,
+        Err(ReplayError::Differs(at)) => put_said(out, b"differs ", at as u64),
+        Err(ReplayError::Stopped(at)) => put_said(out, b"stopped ", at as u64),
     }
 }
 
@@ -80,7 +80,7 @@ fn main() {
     let len = answer(
         engine::config_for(false),
         &mut table,
-        octets::part(&trace, 0, n),
+        &trace[..n],
         &mut line,
     );
     io::write_all(1, octets::part(&line, 0, len));

@@ -43,7 +43,10 @@ pub extern "C" fn contacts_size(rows: usize) -> usize
 pub extern "C" fn contacts_make(b: &mut [u8], rows: usize, state: u8, mode: u8, vbucket: u16) -> u8
     ensures { (result ≡ make_outcome (length b.old) rows state mode) × (b.new ≡ made b.old rows state mode vbucket) }
 {
-    owner::make(b, rows, state, mode, vbucket)
+    match owner::make(b, rows, state, mode, vbucket) {
+        Ok(()) => 0,
+        Err(_) => 5,
+    }
 }
 
 // Whether the memory is a table that is not damaged.

@@ -5,7 +5,7 @@ use Prim.Native.Nat.{ℕ, ◌+◌, ◌<◌, ◌≤◌, ◌^◌, max}
 use mathlib.Core.Path.{◌≡◌, refl, sym, ◌∙◌}
 use mathlib.Core.Bool.{Bool, true, false, cond, not, ◌&&◌, ◌||◌, false≢true}
 use mathlib.Core.List.{List, []}
-use mathlib.Core.Option.{Option, none, some}
+use Rattle.std.specs.Prelude.{Option, Some, None}
 use lib.ListN.{length, length-append}
 use lib.Dec.{eqb, ltb}
 use borrow.Author.Tests.{eqb-true, ne_eqb, ltb-false, not-false}
@@ -18,8 +18,6 @@ use Rattle.document.specs.declared.Head.{Head}
 use Rattle.document.specs.declared.Metadata.{Metadata}
 use Rattle.document.specs.declared.Side.{Side}
 use Rattle.document.specs.declared.Side.TheVariants.{Front, Back}
-use Rattle.document.specs.declared.Stored.{Stored}
-use Rattle.document.specs.declared.Stored.TheVariants.{Nothing, Used}
 use Rattle.document.specs.Head.{marked}
 use Rattle.document.specs.Documents.{Doc, doc_value, joined}
 use Rattle.document.specs.Stored.{live, has_row, numbers_of}
@@ -63,17 +61,17 @@ writes c (GetKeys n) = refl
 writes c (Join side) = refl
 writes c (Touch t) = refl
 
-no-doc {ℓ} : {X : Type ℓ} (d : Doc) → none ≡ some d → X
+no-doc {ℓ} : {X : Type ℓ} (d : Doc) → None ≡ Some d → X
 no-doc d e = let z : ◌≡◌ {A = ℕ} 0 1 = cc in absurd (omega arith)
 
-has_some : (s : Stored) (value : List ℕ) (d : Doc) → doc_from s value ≡ some d → has_row s ≡ true
-has_some Nothing value d e = no-doc d e
-has_some (Used r) value d e = refl
+has_some : (s : Option Metadata) (value : List ℕ) (d : Doc) → doc_from s value ≡ Some d → has_row s ≡ true
+has_some None value d e = no-doc d e
+has_some (Some r) value d e = refl
 
 -- what is stored is stored with status 0
-by-status : (b : Bool) (x y : Done) (frame stored : List ℕ) (d : Doc) → y.store ≡ Nothing
-    → doc_from (cond b x y).store (bytes_from (cond b x y).source frame stored) ≡ some d
-    → (b ≡ true) × (doc_from x.store (bytes_from x.source frame stored) ≡ some d)
+by-status : (b : Bool) (x y : Done) (frame stored : List ℕ) (d : Doc) → y.store ≡ None
+    → doc_from (cond b x y).store (bytes_from (cond b x y).source frame stored) ≡ Some d
+    → (b ≡ true) × (doc_from x.store (bytes_from x.source frame stored) ≡ Some d)
 by-status true x y frame stored d n e = (refl, e)
 by-status false x y frame stored d n e = no-doc d (rw n at e)
 
@@ -83,9 +81,9 @@ free-left w free p e = not-false free (rw p at e)
 pub stores-with-room : StoresWithRoom
 unfolding decide decision tests_of
 stores-with-room h free clock q d e =
-    let c = context_of h none free clock in
+    let c = context_of h None free clock in
     let x = done_of c q.command in
-    let t = tests_for h none free clock q in
+    let t = tests_for h None free clock q in
     let (z, y) = by-status (eqb (first_status t) 0) x _ q.value [] d refl e in
     let p = passed t (eqb-true _ _ z) in
     free-left (rule_of c q.command).writes free
@@ -112,7 +110,7 @@ joined_length Back stored frame = length-append stored frame
 module _ (h : Head) (low : h.mark.0 < 2 ^ 64) (frame stored : List ℕ) where
   -- what `StoredSound` says of a decision, said of what is done
   record Safe (x : Done) : Type 0 where
-    doc : (d : Doc) → doc_from x.store (bytes_from x.source frame stored) ≡ some d → SoundDoc x.head.mark.0 d
+    doc : (d : Doc) → doc_from x.store (bytes_from x.source frame stored) ≡ Some d → SoundDoc x.head.mark.0 d
     head : x.head ≡ marked h x.head.mark.0
     grows : h.mark.0 ≤ x.head.mark.0
     fits : x.head.mark.0 < 2 ^ 64

@@ -2,7 +2,7 @@
 use mathlib.Core.Path.{◌≡◌, refl}
 use mathlib.Core.Bool.{Bool, true, false, true≢false, cond}
 use lib.Dec.{eqb}
-use Rattle.document.specs.declared.Stored.TheVariants.{Nothing}
+use Rattle.std.specs.Prelude.{None}
 use Rattle.document.specs.Stored.{has_row}
 use Rattle.commands.specs.declared.Context.{Context}
 use Rattle.commands.specs.declared.Instruction.{Instruction}
@@ -15,7 +15,7 @@ use Rattle.effects.specs.Done.{nothing, done_of}
 use Rattle.decision.specs.Decision.{decision}
 use Rattle.commands.specs.Writes.{is_mutation}
 
-either-none : (t : Bool) (x y : Done) → x.store ≡ Nothing → y.store ≡ Nothing → (cond t x y).store ≡ Nothing
+either-none : (t : Bool) (x y : Done) → x.store ≡ None → y.store ≡ None → (cond t x y).store ≡ None
 either-none true x y p q = p
 either-none false x y p q = q
 
@@ -36,7 +36,7 @@ module _ (c : Context) (i : Instruction) where
   unread-by free (Join side) e w = absurd (true≢false w)
   unread-by free (Touch t) e w = absurd (true≢false w)
 
-  done_none : (x : Command) → is_mutation x ≡ false → (done_of c x).store ≡ Nothing
+  done_none : (x : Command) → is_mutation x ≡ false → (done_of c x).store ≡ None
   unfolding done_of
   done_none (Get keyed) w = refl
   done_none (Write p) w = absurd (true≢false w)
@@ -82,7 +82,7 @@ module _ (c : Context) (i : Instruction) where
   pub free-unread : (free : Bool) → is_mutation i.command ≡ false → decision c i ≡ decision (free_as free) i
   free-unread free w = unread-by free i.command refl w
 
-  pub stores-none : is_mutation i.command ≡ false → (decision c i).done.store ≡ Nothing
+  pub stores-none : is_mutation i.command ≡ false → (decision c i).done.store ≡ None
   unfolding decision
   stores-none w =
       either-none (eqb (decision c i).status 0) (done_of c i.command) (nothing c.head Bare (record { 0 = 0 }))

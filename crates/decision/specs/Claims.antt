@@ -1,6 +1,5 @@
 -- What is claimed of decisions. Proved in proofs/.
-use Rattle.std.specs.Prelude.{ℕ, ◌^◌, ◌<◌, ◌≤◌, max, ◌≡◌, Bool, true, cond, ◌||◌, [], length}
-use Rattle.std.proofs.Math.Option.{Option, none, some}
+use Rattle.std.specs.Prelude.{ℕ, ◌^◌, ◌<◌, ◌≤◌, max, ◌≡◌, Bool, true, cond, ◌||◌, [], length, Option, Some, None}
 use Rattle.numbers.specs.Claims.{NumbersFit}
 use Rattle.numbers.specs.Order.{mode_of}
 use Rattle.document.specs.declared.Head.{Head}
@@ -43,15 +42,15 @@ Formed (Touch t) = t.expiry < 2 ^ 32
 abbrev pub StatusStoresNothing : Type 0
 StatusStoresNothing =
     (h : Head) (row : Option Doc) (free : Bool) (clock : ℕ) (q : Request) → ((decide h row free clock q).status ≡ 0 → ⊥)
-    → ((decide h row free clock q).store ≡ none) × ((decide h row free clock q).head ≡ h)
+    → ((decide h row free clock q).store ≡ None) × ((decide h row free clock q).head ≡ h)
 
 -- a key without a row is stored for only where a row is free
 abbrev pub StoresWithRoom : Type 0
-StoresWithRoom = (h : Head) (free : Bool) (clock : ℕ) (q : Request) (d : Doc) → (decide h none free clock q).store ≡ some d → free ≡ true
+StoresWithRoom = (h : Head) (free : Bool) (clock : ℕ) (q : Request) (d : Doc) → (decide h None free clock q).store ≡ Some d → free ≡ true
 
 -- what is stored fits the table's rules under the new mark, which is no lower than the old one and below 2^64, and nothing else of the head changes
 pub record StoredSound (h : Head) (row : Option Doc) (free : Bool) (clock : ℕ) (q : Request) : Type 0 where
-  pub doc : (d : Doc) → (decide h row free clock q).store ≡ some d → SoundDoc (decide h row free clock q).head.mark.0 d
+  pub doc : (d : Doc) → (decide h row free clock q).store ≡ Some d → SoundDoc (decide h row free clock q).head.mark.0 d
   pub head : (decide h row free clock q).head ≡ marked h (decide h row free clock q).head.mark.0
   pub grows : h.mark.0 ≤ (decide h row free clock q).head.mark.0
   pub fits : (decide h row free clock q).head.mark.0 < 2 ^ 64
@@ -63,10 +62,10 @@ StoresSound =
 
 -- the effect of a write of demand 3: stored, with the mark raised where lower, or refused with 0x02
 abbrev pub keep : Head → Doc → Effect
-keep h d = record { status = 0; store = some d; head = marked h (max h.mark.0 d.numbers.cas.0) }
+keep h d = record { status = 0; store = Some d; head = marked h (max h.mark.0 d.numbers.cas.0) }
 
 abbrev pub refuse : Head → ℕ → Effect
-refuse h s = record { status = s; store = none; head = h }
+refuse h s = record { status = s; store = None; head = h }
 
 abbrev pub MergingDecided : Type 0
 MergingDecided =

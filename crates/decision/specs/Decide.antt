@@ -1,13 +1,11 @@
 -- What a request does, seen only through the row of its key: the decision on numbers, with the bytes put in.
-use Rattle.std.specs.Prelude.{ℕ, Bool, cond, List, [], ◌∷◌, length}
-use Rattle.std.proofs.Math.Option.{Option, none, some}
+use Rattle.std.specs.Prelude.{ℕ, Bool, cond, List, [], ◌∷◌, length, Option, Some, None}
+use Rattle.document.specs.declared.Metadata.{Metadata}
 use Rattle.octets.specs.BigEndian.{bytes_of}
 use Rattle.digits.specs.Decimal.{digits, number_of}
 use Rattle.numbers.specs.declared.Cas.{Cas}
 use Rattle.document.specs.Documents.{Key, Doc, doc_value, joined}
 use Rattle.document.specs.Stored.{stored_of}
-use Rattle.document.specs.declared.Stored.{Stored}
-use Rattle.document.specs.declared.Stored.TheVariants.{Nothing, Used}
 use Rattle.document.specs.declared.Head.{Head}
 use Rattle.commands.specs.declared.Command.{Command}
 use Rattle.commands.specs.declared.Context.{Context}
@@ -16,8 +14,7 @@ use Rattle.effects.specs.declared.Source.{Source}
 use Rattle.effects.specs.declared.Source.TheVariants.{Empty, Frame, Digits, Kept, Joined}
 use Rattle.effects.specs.declared.Reply.{Reply}
 use Rattle.effects.specs.declared.Reply.TheVariants.{Bare, Found, Counted, Version as VersionReply, Keys}
-use Rattle.decision.specs.declared.Decision.{Decision}
-use Rattle.decision.specs.Decision.{decision}
+use Rattle.decision.specs.Decision.{Decision, decision}
 
 -- a request whose form is right
 pub record Request : Type 0 where
@@ -47,9 +44,9 @@ bytes_from (Digits n) frame stored = digits n
 bytes_from Kept frame stored = stored
 bytes_from (Joined side) frame stored = joined side stored frame
 
-abbrev pub doc_from : Stored → List ℕ → Option Doc
-doc_from Nothing value = none
-doc_from (Used r) value = some (record { tomb = r.tomb; value = value; numbers = r.numbers })
+abbrev pub doc_from : Option Metadata → List ℕ → Option Doc
+doc_from None value = None
+doc_from (Some r) value = Some (record { tomb = r.tomb; value = value; numbers = r.numbers })
 
 abbrev pub reply_extras : Reply → List ℕ
 reply_extras Bare = []

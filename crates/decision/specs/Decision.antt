@@ -1,12 +1,23 @@
 -- The decision on a request: the status of its command, and what it does where that is 0.
-use Rattle.std.specs.Prelude.{ℕ, cond, ◌&&◌, eqb}
+use Rattle.std.specs.Prelude.{ℕ, Bool, cond, ◌&&◌, eqb}
 use Rattle.commands.specs.declared.Context.{Context}
 use Rattle.commands.specs.declared.Instruction.{Instruction}
 use Rattle.effects.specs.declared.Reply.TheVariants.{Bare}
 use Rattle.effects.specs.declared.Done.{Done}
-use Rattle.decision.specs.declared.Decision.{Decision}
+use Rattle.outcome.specs.Outcome.{status_of}
+use Rattle.decision.specs.declared.Decision.{Decision as Told}
 use Rattle.commands.specs.Rules.{Rule, rule_of, status_by}
 use Rattle.effects.specs.Done.{nothing, done_of}
+
+-- a decision in 01's numbers: its status, whether the frame is silent, and what is done
+pub record Decision : Type 0 where
+  pub status : ℕ
+  pub silent : Bool
+  pub done : Done
+
+-- the code's decision in these numbers
+abbrev pub decision_told : Told → Decision
+decision_told d = record { status = status_of d.status; silent = d.silent; done = d.done }
 
 -- all of it where the status is 0, else the status alone, "CAS 0": "A non-zero status changes no table byte." The quiet form sends nothing on one status.
 abbrev pub with_status : Context → Instruction → ℕ → ℕ → Done → Decision

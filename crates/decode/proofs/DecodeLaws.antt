@@ -13,9 +13,8 @@ use borrow.Author.Tests.{eqb-true, eqb-false}
 use Rattle.octets.specs.Parts.{part}
 use Rattle.octets.proofs.Choices.{cond-elim}
 use Rattle.octets.proofs.Lists.{part_length}
-use Rattle.shape.specs.Shapes.{commands, shape_of}
+use Rattle.shape.specs.Shapes.{Shape, commands, shape_of}
 use Rattle.shape.proofs.ShapeLaws.{same_shape}
-use Rattle.shape.specs.declared.Shape.{Shape}
 use Rattle.header.specs.declared.Header.{Header}
 use Rattle.with_meta.specs.WithMeta.{with_meta}
 use Rattle.with_meta.specs.FieldRules.{with_meta_ok}
@@ -26,18 +25,17 @@ use Rattle.commands.specs.declared.Instruction.{Instruction}
 use Rattle.decision.specs.Decide.{instruction_of}
 use Rattle.decode.specs.declared.Family.{Family}
 use Rattle.decode.specs.declared.Family.TheVariants.{Bare, Stored, Counted, Carried, Listed, Touched}
-use Rattle.decode.specs.declared.Decoded.{Decoded}
-use Rattle.decode.specs.declared.Decoded.TheVariants.{Broken, Whole}
+use Rattle.std.specs.Prelude.{Option, Some, None}
 use Rattle.decode.specs.Decode.{family_of, command_by, command_of, bare_value, instruction_with, decoded_status, list_decoded, meta_decoded, decoded_as, decoded_by, request_of}
 
 -- which of the two it is, and the ask of one that has one
-told : Decoded → ℕ
-told Broken = 0
-told (Whole a) = 1
+told : Option Instruction → ℕ
+told None = 0
+told (Some a) = 1
 
-ask_in : Instruction → Decoded → Instruction
-ask_in other Broken = other
-ask_in other (Whole a) = a
+ask_in : Instruction → Option Instruction → Instruction
+ask_in other None = other
+ask_in other (Some a) = a
 
 -- a shape's meta is 0 unless its command is with meta
 plainly : Family → Bool
@@ -70,7 +68,7 @@ module _ (forcing : Bool) (s : Shape) (h : Header) (extras value : List ℕ) whe
   made f n unsupported = instruction_with s h (command_by f extras) n unsupported
 
   -- what is whole is a plain command, or one with meta whose field rules are kept; a count is kept by both
-  by-family {ℓ} : {X : Type ℓ} (f : Family) (a : Instruction) → decoded_as forcing f s h extras value ≡ Whole a
+  by-family {ℓ} : {X : Type ℓ} (f : Family) (a : Instruction) → decoded_as forcing f s h extras value ≡ Some a
       → (plainly f ≡ true → counted f extras ≡ true → made f (length value) false ≡ a → X)
       → (plainly f ≡ false → counted f extras ≡ true → with_meta_ok s.meta (with_meta extras) value ≡ true
       → made f (length value - (with_meta extras).section) (is_forced (with_meta extras) && not forcing) ≡ a → X)
@@ -90,7 +88,7 @@ module _ (forcing : Bool) (s : Shape) (h : Header) (extras value : List ℕ) whe
       (λ u z. p refl (rw u) (ap (ask_in a) z))
 
   -- what is broken is a listing of no keys, or one with meta whose field rules are not kept
-  broken : (f : Family) → decoded_as forcing f s h extras value ≡ Broken
+  broken : (f : Family) → decoded_as forcing f s h extras value ≡ None
       → (counted f extras ≡ false) ⊎ ((plainly f ≡ false) × (counted f extras ≡ true) × (with_meta_ok s.meta (with_meta extras) value ≡ false))
   unfolding list_decoded meta_decoded plainly counted told
   broken (Bare c) e = absurd (omega (arith, ap told e))
@@ -114,7 +112,7 @@ module _ (forcing : Bool) (h : Header) (extras value : List ℕ) where
   family = family_of shape.operation
 
   -- broken, so it breaks the field rules, whose status is the answer's
-  pub asked-breaks : decoded_by forcing shape h extras value ≡ Broken → field_rules_ok shape extras value ≡ false
+  pub asked-breaks : decoded_by forcing shape h extras value ≡ None → field_rules_ok shape extras value ≡ false
   unfolding decoded_by
   asked-breaks e =
       ⊎_elim
@@ -122,10 +120,10 @@ module _ (forcing : Bool) (h : Header) (extras value : List ℕ) where
       (λ (t, c, u). rules-meta shape extras value (counts h.opcode extras ∙ c) (eqb-false shape.meta 0 (metas h.opcode ∙ t)) ∙ u)
       (broken forcing shape h extras value family e)
 
-  pub asked-broken : decoded_by forcing shape h extras value ≡ Broken → field_status shape extras value ≡ decoded_status Broken
+  pub asked-broken : decoded_by forcing shape h extras value ≡ None → field_status shape extras value ≡ decoded_status None
   asked-broken e = field-broken shape extras value (asked-breaks e)
 
-  by_kind {ℓ} : {X : Type ℓ} (a : Instruction) → decoded_by forcing shape h extras value ≡ Whole a
+  by_kind {ℓ} : {X : Type ℓ} (a : Instruction) → decoded_by forcing shape h extras value ≡ Some a
       → (eqb shape.meta 0 ≡ true → count_ok shape.extras extras ≡ true → instruction_with shape h (command_of shape.operation extras) (length value) false ≡ a → X)
       → (eqb shape.meta 0 ≡ false → count_ok shape.extras extras ≡ true → with_meta_ok shape.meta (with_meta extras) value ≡ true
       → instruction_with shape h (command_of shape.operation extras) (length value - (with_meta extras).section) (is_forced (with_meta extras) && not forcing) ≡ a → X)
@@ -136,7 +134,7 @@ module _ (forcing : Bool) (h : Header) (extras value : List ℕ) where
       (λ t c z. p (metas h.opcode ∙ t) (counts h.opcode extras ∙ c) z)
       (λ t c u z. m (metas h.opcode ∙ t) (counts h.opcode extras ∙ c) u z)
 
-  pub asked-goes : (a : Instruction) → decoded_by forcing shape h extras value ≡ Whole a → field_rules_ok shape extras value ≡ true
+  pub asked-goes : (a : Instruction) → decoded_by forcing shape h extras value ≡ Some a → field_rules_ok shape extras value ≡ true
   asked-goes a e =
       by_kind a e
       (λ t c z. rules-plain shape extras value c (eqb-true shape.meta 0 t))
@@ -159,7 +157,7 @@ module _ (forcing : Bool) (h : Header) (extras value : List ℕ) where
   meta-supported t = rw t
 
   -- the ask is of the definition's command, and of what is left of the value
-  asked-with : (a : Instruction) → decoded_by forcing shape h extras value ≡ Whole a
+  asked-with : (a : Instruction) → decoded_by forcing shape h extras value ≡ Some a
       → a ≡ instruction_with shape h (command_of shape.operation extras) (length value - meta_size shape extras) (forces shape extras && not forcing)
   unfolding meta_size forces with_meta
   asked-with a e =
@@ -188,7 +186,7 @@ module _ (forcing : Bool) (s : List ℕ) (h : Header) (whole : 24 + h.body ≤ l
   sized : length value - meta_size (shape_of h.opcode) extras ≡ left
   sized = ap (λ (n : ℕ). n - meta_size (shape_of h.opcode) extras) (fits len (omega arith))
 
-  module _ (a : Instruction) (e : decoded_by forcing (shape_of h.opcode) h extras value ≡ Whole a) where
+  module _ (a : Instruction) (e : decoded_by forcing (shape_of h.opcode) h extras value ≡ Some a) where
     abbrev asks : ℕ → Instruction
     asks n = instruction_with (shape_of h.opcode) h (command_of (shape_of h.opcode).operation extras) n (forces (shape_of h.opcode) extras && not forcing)
 

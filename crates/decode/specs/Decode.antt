@@ -1,9 +1,8 @@
 -- What a whole frame asks for: the command that its opcode and extras spell, with key and value.
-use Rattle.std.specs.Prelude.{ℕ, ◌-◌, ◌/◌, ◌%◌, Bool, true, false, not, cond, ◌&&◌, List, length, eqb}
+use Rattle.std.specs.Prelude.{ℕ, ◌-◌, ◌/◌, ◌%◌, Bool, true, false, not, cond, ◌&&◌, List, length, eqb, Option, Some, None}
 use Rattle.octets.specs.Parts.{part}
 use Rattle.octets.specs.BigEndian.{num}
-use Rattle.shape.specs.Shapes.{shape_of}
-use Rattle.shape.specs.declared.Shape.{Shape}
+use Rattle.shape.specs.Shapes.{Shape, shape_of}
 use Rattle.shape.specs.declared.Operation.{Operation}
 use Rattle.shape.specs.declared.Operation.TheVariants as Operations
 use Rattle.header.specs.declared.Header.{Header}
@@ -23,8 +22,6 @@ use Rattle.commands.specs.declared.Instruction.{Instruction}
 use Rattle.decision.specs.Decide.{Request}
 use Rattle.decode.specs.declared.Family.{Family}
 use Rattle.decode.specs.declared.Family.TheVariants.{Bare, Stored, Counted, Carried, Listed, Touched}
-use Rattle.decode.specs.declared.Decoded.{Decoded}
-use Rattle.decode.specs.declared.Decoded.TheVariants.{Broken, Whole}
 
 -- "8 extras (flags, expiry)"
 unfoldable pub plain_of : Kind → List ℕ → Command
@@ -94,31 +91,31 @@ abbrev pub instruction_with : Shape → Header → Command → ℕ → Bool → 
 instruction_with s h command size unsupported = record { vbucket = h.vbucket; cas = h.cas; quiet = s.quiet; size = size; unsupported = unsupported; command = command }
 
 -- 01's number for each answer: "any field rule below" is 0x04, and 0 where none is broken
-abbrev pub decoded_status : Decoded → ℕ
-decoded_status Broken = 0x04
-decoded_status (Whole i) = 0
+abbrev pub decoded_status : Option Instruction → ℕ
+decoded_status None = 0x04
+decoded_status (Some i) = 0
 
 -- order 1, a listing: "count 0 is 0x04"
-unfoldable pub list_decoded : Shape → Header → List ℕ → ℕ → Decoded
-list_decoded s h extras size = cond (eqb (count_of extras) 0) Broken (Whole (instruction_with s h (GetKeys (count_of extras)) size false))
+unfoldable pub list_decoded : Shape → Header → List ℕ → ℕ → Option Instruction
+list_decoded s h extras size = cond (eqb (count_of extras) 0) None (Some (instruction_with s h (GetKeys (count_of extras)) size false))
 
 -- a with-meta command unless its fields break the rules; forcing: option 0x01 is taken
-unfoldable pub meta_decoded : Bool → Shape → Header → MetaKind → List ℕ → List ℕ → Decoded
+unfoldable pub meta_decoded : Bool → Shape → Header → MetaKind → List ℕ → List ℕ → Option Instruction
 meta_decoded forcing s h k extras value =
     cond (with_meta_ok s.meta (with_meta extras) value)
-    (Whole (instruction_with s h (meta_command k (with_meta extras)) (length value - (with_meta extras).section) (is_forced (with_meta extras) && not forcing)))
-    Broken
+    (Some (instruction_with s h (meta_command k (with_meta extras)) (length value - (with_meta extras).section) (is_forced (with_meta extras) && not forcing)))
+    None
 
-abbrev pub decoded_as : Bool → Family → Shape → Header → List ℕ → List ℕ → Decoded
-decoded_as forcing (Bare c) s h extras value = Whole (instruction_with s h c (length value) false)
-decoded_as forcing (Stored k) s h extras value = Whole (instruction_with s h (plain_of k extras) (length value) false)
-decoded_as forcing (Counted up) s h extras value = Whole (instruction_with s h (counter_of up extras) (length value) false)
+abbrev pub decoded_as : Bool → Family → Shape → Header → List ℕ → List ℕ → Option Instruction
+decoded_as forcing (Bare c) s h extras value = Some (instruction_with s h c (length value) false)
+decoded_as forcing (Stored k) s h extras value = Some (instruction_with s h (plain_of k extras) (length value) false)
+decoded_as forcing (Counted up) s h extras value = Some (instruction_with s h (counter_of up extras) (length value) false)
 decoded_as forcing (Carried k) s h extras value = meta_decoded forcing s h k extras value
 decoded_as forcing Listed s h extras value = list_decoded s h extras (length value)
-decoded_as forcing (Touched shown) s h extras value = Whole (instruction_with s h (touch_of shown extras) (length value) false)
+decoded_as forcing (Touched shown) s h extras value = Some (instruction_with s h (touch_of shown extras) (length value) false)
 
 -- what a frame asks for unless it breaks the field rules, from its header, its opcode's shape, its extras and what follows its key
-unfoldable pub decoded_by : Bool → Shape → Header → List ℕ → List ℕ → Decoded
+unfoldable pub decoded_by : Bool → Shape → Header → List ℕ → List ℕ → Option Instruction
 unfolding list_decoded meta_decoded
 decoded_by forcing s h extras value = decoded_as forcing (family_of s.operation) s h extras value
 

@@ -2,6 +2,7 @@
 #![tactic(auto)]
 
 ghost use Rattle.std.specs.Prelude.{◌≡◌};
+ghost use Rattle.shape.specs.Shapes.{shape_told};
 ghost use Rattle.decode.specs.Decode.{plain_of, counter_of, touch_of, meta_command, family_of, instruction_with, list_decoded, meta_decoded, decoded_by};
 
 use commands::{Command, Counter, Instruction, Kind, Meta, MetaKind, Plain, Touching};
@@ -102,7 +103,7 @@ fn instruction_with(
     size: usize,
     unsupported: bool,
 ) -> Instruction
-    ensures { result ≡ instruction_with shape h command size unsupported }
+    ensures { result ≡ instruction_with (shape_told shape) h command size unsupported }
 {
     let cas = h.cas;
     Instruction {
@@ -115,22 +116,15 @@ fn instruction_with(
     }
 }
 
-// A frame's field rules are broken, or what it asks for.
-#[derive(Clone, Copy)]
-pub enum Decoded {
-    Broken,
-    Whole(Instruction),
-}
-
 // A listing, unless its count is 0.
-fn list_decoded(shape: Shape, h: Header, extras: &[u8], size: usize) -> Decoded
-    ensures { result ≡ list_decoded shape h extras.now size }
+fn list_decoded(shape: Shape, h: Header, extras: &[u8], size: usize) -> Option<Instruction>
+    ensures { result ≡ list_decoded (shape_told shape) h extras.now size }
 {
     let count = rules::count_of(extras);
     if count == 0 {
-        return Decoded::Broken;
+        return None;
     }
-    Decoded::Whole(instruction_with(shape, h, Command::GetKeys(count), size, false))
+    Some(instruction_with(shape, h, Command::GetKeys(count), size, false))
 }
 
 // A with-meta command, unless its fields break the rules. forcing: option 0x01 is taken.
@@ -141,18 +135,18 @@ fn meta_decoded(
     kind: MetaKind,
     extras: &[u8],
     value: &[u8],
-) -> Decoded
-    ensures { result ≡ meta_decoded forcing shape h kind extras.now value.now }
+) -> Option<Instruction>
+    ensures { result ≡ meta_decoded forcing (shape_told shape) h kind extras.now value.now }
 {
     let w = with_meta::read(extras);
-    if !with_meta::with_meta_ok(shape.meta, w, value) {
-        return Decoded::Broken;
+    if !with_meta::with_meta_ok(shape.form.meta, w, value) {
+        return None;
     }
-    Decoded::Whole(instruction_with(
+    Some(instruction_with(
         shape,
         h,
         meta_of(kind, w),
-        octets::minus(value.len(), w.section as usize),
+        value.len().saturating_sub(usize::from(w.section)),
         rules::is_forced(w) & !forcing,
     ))
 }
@@ -160,35 +154,23 @@ fn meta_decoded(
 // Field rules and command by one reading of the extras, from a frame's header, its opcode's shape, its extras and what
 // follows its key. Each kind of command is made at one place, so that the compiler puts it there, and its extras are read
 // only once the kind is known: each read past their end is a slow one.
-pub fn decoded_by(forcing: bool, shape: Shape, h: Header, extras: &[u8], value: &[u8]) -> Decoded
-    ensures { result ≡ decoded_by forcing shape h extras.now value.now }
+pub fn decoded_by(
+    forcing: bool,
+    shape: Shape,
+    h: Header,
+    extras: &[u8],
+    value: &[u8],
+) -> Option<Instruction>
+    ensures { result ≡ decoded_by forcing (shape_told shape) h extras.now value.now }
 {
     let size = value.len();
     let operation = shape.operation;
     match family_of(operation) {
-        Family::Bare(c) => Decoded::Whole(instruction_with(shape, h, c, size, false)),
-        Family::Stored(k) => Decoded::Whole(instruction_with(
-            shape,
-            h,
-            plain_of(k, extras),
-            size,
-            false,
-        )),
-        Family::Counted(u) => Decoded::Whole(instruction_with(
-            shape,
-            h,
-            counter_of(u, extras),
-            size,
-            false,
-        )),
+        Family::Bare(c) => Some(instruction_with(shape, h, c, size, false)),
+        Family::Stored(k) => Some(instruction_with(shape, h, plain_of(k, extras), size, false)),
+        Family::Counted(u) => Some(instruction_with(shape, h, counter_of(u, extras), size, false)),
         Family::Carried(k) => meta_decoded(forcing, shape, h, k, extras, value),
         Family::Listed => list_decoded(shape, h, extras, size),
-        Family::Touched(s) => Decoded::Whole(instruction_with(
-            shape,
-            h,
-            touch_of(s, extras),
-            size,
-            false,
-        )),
+        Family::Touched(s) => Some(instruction_with(shape, h, touch_of(s, extras), size, false)),
     }
 }

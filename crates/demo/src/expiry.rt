@@ -1,8 +1,10 @@
 // The first failure: one command forgot that contacts expire.
 use crate::frames::Call;
+use crate::tell::Line;
 use crate::{frames, tell};
-use numbers::{Cas, Left};
-use owning::{Document, Purged};
+use numbers::Cas;
+use outcome::{Refusal, Status};
+use owning::{Document, ReadError};
 
 const SET_AT: u32 = 1000000;
 
@@ -16,7 +18,7 @@ const BEFORE_COLUMN: usize = 27;
 
 const EXPIRY_COLUMN: usize = 62;
 
-// A command's opcode, and whether its request names the contact's CAS.
+// A command's opcode, and whether its request names the contact's CAS. Opcodes are numbers: each stands once, beside its name.
 #[derive(Clone, Copy)]
 struct Try {
     opcode: u8,
@@ -37,13 +39,6 @@ fn by_cas(opcode: u8) -> Try {
     }
 }
 
-fn cas_for(t: Try, held: Cas) -> Cas {
-    if t.by_cas {
-        return held;
-    }
-    Cas(0)
-}
-
 // Sets the contact on a fresh table, to live for a minute, and answers the CAS that the reply gives it.
 fn set_contact(boat: &mut [u8], reply: &mut [u8]) -> Cas {
     let mut extras = [0u8; 8];
@@ -54,21 +49,21 @@ fn set_contact(boat: &mut [u8], reply: &mut [u8]) -> Cas {
         cas: Cas(0),
     };
     frames::fresh(boat);
-    frames::send(boat, call, &extras, b"wreck:north-bank", b"38", reply);
+    let _ = frames::send(boat, call, &extras, b"wreck:north-bank", b"38", reply);
     Cas(octets::be64(reply, 16))
 }
 
 // Tries a command at a clock, on a table of its own, and puts the answer at a column.
-fn put_tried(line: &mut [u8], at: usize, clock: u32, t: Try, extras: &[u8], value: &[u8]) -> usize {
+fn put_tried(line: &mut Line, column: usize, clock: u32, t: Try, extras: &[u8], value: &[u8]) {
     let mut boat = [0u8; frames::SIZE];
     let mut reply = [0u8; frames::ROOM];
     let held = set_contact(&mut boat, &mut reply);
     let call = Call {
         clock,
         opcode: t.opcode,
-        cas: cas_for(t, held),
+        cas: if t.by_cas { held } else { Cas(0) },
     };
-    let r = frames::send(
+    let served = frames::send(
         &mut boat,
         call,
         extras,
@@ -76,15 +71,16 @@ fn put_tried(line: &mut [u8], at: usize, clock: u32, t: Try, extras: &[u8], valu
         value,
         &mut reply,
     );
-    tell::put_answer(line, at, r, &reply)
+    line.go_to(column);
+    line.put_answer(served, &reply);
 }
 
 fn tried(name: &[u8], t: Try, extras: &[u8], value: &[u8]) {
-    let mut line = [b' '; 128];
-    tell::put(&mut line, NAME_COLUMN, name);
+    let mut line = Line::at(NAME_COLUMN);
+    line.put(name);
     put_tried(&mut line, BEFORE_COLUMN, BEFORE, t, extras, value);
-    let end = put_tried(&mut line, EXPIRY_COLUMN, EXPIRY, t, extras, value);
-    tell::line(&line, end);
+    put_tried(&mut line, EXPIRY_COLUMN, EXPIRY, t, extras, value);
+    line.tell();
 }
 
 fn gets() {
@@ -157,43 +153,45 @@ fn copies() {
     copied(&extras);
 }
 
-fn put_read(line: &mut [u8], at: usize, clock: u32) -> usize {
+fn put_read(line: &mut Line, column: usize, clock: u32) {
     let mut boat = [0u8; frames::SIZE];
     let mut reply = [0u8; frames::ROOM];
     set_contact(&mut boat, &mut reply);
+    line.go_to(column);
     match owner::read(frames::config(), &boat, clock, b"wreck:north-bank") {
-        Document::Damaged => tell::put_outcome(line, at, 5),
-        Document::Missing => tell::put_status(line, at, 0x01),
-        Document::Expired(_) => tell::put_status(line, at, 0x01),
-        Document::Live(_, _, place, len) => {
-            let end = tell::put_status(line, at, 0x00);
-            tell::put_found(line, end, octets::part(&boat, place, len))
+        Ok(found) => {
+            line.put_status(Ok(()));
+            line.put_found(octets::part(&boat, found.at, found.len));
+        }
+        Err(ReadError::Damaged) => line.put_refusal(Refusal::Damaged),
+        Err(ReadError::Missing | ReadError::Expired(_)) => {
+            line.put_status(Err(Status::NotFound));
         }
     }
 }
 
 // What the owner's read tells of the time that is left.
-fn put_left(line: &mut [u8], at: usize, d: Document) -> usize {
-    match d {
-        Document::Damaged => tell::put_outcome(line, at, 5),
-        Document::Missing => tell::put_status(line, at, 0x01),
-        Document::Expired(n) => tell::put_left(line, at, Left::Seconds(n)),
-        Document::Live(_, left, _, _) => tell::put_left(line, at, left),
+fn put_left(line: &mut Line, read: Result<Document, ReadError>) {
+    match read {
+        Ok(found) => line.put_left(found.left),
+        Err(ReadError::Damaged) => line.put_refusal(Refusal::Damaged),
+        Err(ReadError::Missing) => line.put_status(Err(Status::NotFound)),
+        Err(ReadError::Expired(seconds)) => line.put_left(Some(seconds)),
     }
 }
 
 fn aged(clock: u32) {
     let mut boat = [0u8; frames::SIZE];
     let mut reply = [0u8; frames::ROOM];
-    let mut line = [b' '; 128];
+    let mut line = Line::at(NAME_COLUMN);
     set_contact(&mut boat, &mut reply);
-    tell::put_clock(&mut line, NAME_COLUMN, clock);
-    let end = put_left(
+    line.put_clock(clock);
+    line.go_to(BEFORE_COLUMN);
+    put_left(
         &mut line,
-        BEFORE_COLUMN,
         owner::read(frames::config(), &boat, clock, b"wreck:north-bank"),
     );
-    tell::line(&line, end);
+    line.tell();
 }
 
 // A skipper asks how old the contact is: the read tells the seconds that are left, and those since it expired.
@@ -205,33 +203,34 @@ fn ages() {
     aged(EXPIRY + 3600);
 }
 
-fn put_purged(line: &mut [u8], at: usize, clock: u32) -> usize {
+fn put_purged(line: &mut Line, column: usize, clock: u32) {
     let mut boat = [0u8; frames::SIZE];
     let mut reply = [0u8; frames::ROOM];
     let held = set_contact(&mut boat, &mut reply);
+    line.go_to(column);
     match owner::purge(frames::config(), &mut boat, clock, held) {
-        Purged::Damaged => tell::put_outcome(line, at, 5),
-        Purged::Freed(n) => {
-            let end = tell::put(line, at, b"rows freed: ");
-            tell::put_number(line, end, n as u64)
+        Ok(freed) => {
+            line.put(b"rows freed: ");
+            line.put_number(freed as u64);
         }
+        Err(_) => line.put_refusal(Refusal::Damaged),
     }
 }
 
 fn owner_reads() {
-    let mut line = [b' '; 128];
-    tell::put(&mut line, NAME_COLUMN, b"the owner's read");
+    let mut line = Line::at(NAME_COLUMN);
+    line.put(b"the owner's read");
     put_read(&mut line, BEFORE_COLUMN, BEFORE);
-    let end = put_read(&mut line, EXPIRY_COLUMN, EXPIRY);
-    tell::line(&line, end);
+    put_read(&mut line, EXPIRY_COLUMN, EXPIRY);
+    line.tell();
 }
 
 fn owner_purges() {
-    let mut line = [b' '; 128];
-    tell::put(&mut line, NAME_COLUMN, b"the owner's purge");
+    let mut line = Line::at(NAME_COLUMN);
+    line.put(b"the owner's purge");
     put_purged(&mut line, BEFORE_COLUMN, BEFORE);
-    let end = put_purged(&mut line, EXPIRY_COLUMN, EXPIRY);
-    tell::line(&line, end);
+    put_purged(&mut line, EXPIRY_COLUMN, EXPIRY);
+    line.tell();
 }
 
 pub(crate) fn chapter() {

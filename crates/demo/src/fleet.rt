@@ -1,11 +1,17 @@
 // The third failure: two boats of one fleet ended up holding different contacts.
+ghost use Rattle.std.specs.Prelude.{◌≡◌};
+ghost use Rattle.std.specs.Slice.Iter.{chunks_exact_size};
+
+use crate::tell::Line;
 use crate::{frames, shore, tell};
 use engine::Place;
+use outcome::Refusal;
 use serving::Served;
+use std::slice::ChunksExact;
 use tally::Tally;
 
 // Shore's writes, '1' to '6'.
-fn write(boat: &mut [u8], clock: u32, which: u8) -> Served {
+fn write(boat: &mut [u8], clock: u32, which: u8) -> Result<Served, Refusal> {
     let wreck = b"wreck:north-bank";
     let net = b"net:ghost-4";
     let reef = b"reef:gull-rock";
@@ -39,57 +45,46 @@ fn take(boat: &mut [u8], clock: u32, order: &[u8]) -> Tally {
         silent: 0,
     };
     frames::fresh(boat);
-    let mut i: usize = 0;
-    while i < order.len() {
-        counts = tally::counted(counts, write(boat, clock, order[i]));
-        i += 1;
+    for &which in order {
+        counts = tally::counted(counts, write(boat, clock, which));
     }
     counts
 }
 
 fn counted(name: &[u8], t: Tally) {
-    let mut line = [b' '; 128];
-    let end = tell::put(&mut line, 2, name);
-    let end = tell::put(&mut line, end, b" stored ");
-    let end = tell::put_number(&mut line, end, t.served);
-    let end = tell::put(&mut line, end, b" and refused ");
-    let end = tell::put_number(&mut line, end, t.refused);
-    let end = tell::put(&mut line, end, b".");
-    tell::line(&line, end);
+    let mut line = Line::at(2);
+    line.put(name);
+    line.put(b" stored ");
+    line.put_number(t.served);
+    line.put(b" and refused ");
+    line.put_number(t.refused);
+    line.put(b".");
+    line.tell();
 }
 
-fn row(boat: &[u8], i: usize) -> &[u8] {
-    if i < frames::ROWS {
-        return octets::part(boat, rows::HEADER + i * rows::ROW, rows::ROW);
-    }
-    octets::part(boat, 0, 0)
+fn rows_of(boat: &[u8]) -> ChunksExact<'_, u8>
+    ensures { chunks_exact_size result ≡ 1312 }
+{
+    octets::rest(boat, rows::HEADER).chunks_exact(rows::ROW)
 }
 
 // Whether a row is free, or is byte for byte the other boat's row of its key.
-fn is_on(r: &[u8], other: &[u8]) -> bool {
-    let slot = rows::row::slot(r);
+fn is_on(row: &[u8], other: &[u8]) -> bool {
+    let slot = rows::row::slot(row);
     if slot.kind == 0 {
         return true;
     }
-    let l = table::find(
-        frames::config(),
-        other,
-        octets::part(r, rows::FIXED, slot.keylen as usize),
-        false,
-    );
-    let place = l.place;
-    match place {
-        Place::Over(i) => compare::same(r, row(other, i)),
-        Place::Into(_) => false,
-        Place::Full => false,
+    let key = octets::part(row, rows::FIXED, slot.keylen as usize);
+    match table::find(frames::config(), other, key, false).place {
+        Place::Over(i) => rows_of(other)
+            .nth(i)
+            .is_some_and(|held| compare::same(row, held)),
+        Place::Into(_) | Place::Full => false,
     }
 }
 
 fn are_on(one: &[u8], other: &[u8]) -> bool {
-    is_on(row(one, 0), other)
-        & is_on(row(one, 1), other)
-        & is_on(row(one, 2), other)
-        & is_on(row(one, 3), other)
+    rows_of(one).all(|row| is_on(row, other))
 }
 
 fn held(skarv: &[u8], lom: &[u8], key: &[u8]) {
@@ -101,13 +96,13 @@ fn compared(skarv: &[u8], lom: &[u8]) {
     held(skarv, lom, b"wreck:north-bank");
     held(skarv, lom, b"net:ghost-4");
     held(skarv, lom, b"reef:gull-rock");
-    if are_on(skarv, lom) & are_on(lom, skarv) {
+    if are_on(skarv, lom) && are_on(lom, skarv) {
         tell::text(
             b"  Every row of each boat is on the other, byte for byte: the boats hold the same contacts.\n",
         );
-        return;
+    } else {
+        tell::text(b"  THE BOATS HOLD DIFFERENT CONTACTS.\n");
     }
-    tell::text(b"  THE BOATS HOLD DIFFERENT CONTACTS.\n");
 }
 
 fn taken(skarv: &mut [u8], lom: &mut [u8]) {

@@ -1,8 +1,8 @@
 // A boat's table, and requests on it: each is written as a frame, and the frame is served.
 use engine::Config;
 use numbers::Cas;
+use outcome::Refusal;
 use request::Fields;
-use request_writer::Written;
 use serving::Served;
 
 const ACTIVE: u8 = 1;
@@ -31,15 +31,7 @@ pub(crate) fn config() -> Config {
 }
 
 pub(crate) fn fresh(boat: &mut [u8]) {
-    owner::make(boat, ROWS, ACTIVE, BY_REVISION, VBUCKET);
-}
-
-fn size(w: Written) -> usize {
-    match w {
-        Written::Refused => 0,
-        Written::NoRoom => 0,
-        Written::Wrote(n) => n,
-    }
+    let _ = owner::make(boat, ROWS, ACTIVE, BY_REVISION, VBUCKET);
 }
 
 // Serves a request with these parts. Parts that the writer refuses make no frame, and serving says that there is none.
@@ -50,22 +42,21 @@ pub(crate) fn send(
     key: &[u8],
     value: &[u8],
     reply: &mut [u8],
-) -> Served {
-    let cas = call.cas;
-    let f = Fields {
+) -> Result<Served, Refusal> {
+    let fields = Fields {
         opcode: call.opcode,
         datatype: 0,
         vbucket: VBUCKET,
         opaque: 0,
-        cas,
+        cas: call.cas,
     };
     let mut frame = [0u8; 256];
-    let n = size(request_writer::write(f, extras, key, value, &mut frame));
+    let len = request_writer::write(fields, extras, key, value, &mut frame).unwrap_or(0);
     serve::serve_one(
         config(),
         boat,
         call.clock,
-        octets::part(&frame, 0, n),
+        octets::part(&frame, 0, len),
         reply,
     )
 }

@@ -1,8 +1,10 @@
 // Copies that shore sends with their own revision and CAS, and what a boat then answers and holds, a line for each.
 use crate::frames::Call;
+use crate::tell::Line;
 use crate::{frames, tell};
-use document::{Metadata, Stored};
+use document::Metadata;
 use numbers::{Cas, Numbers, Revision};
+use outcome::Refusal;
 use serving::Served;
 
 const CLOCK_COLUMN: usize = 2;
@@ -36,19 +38,21 @@ pub(crate) fn numbers_of(revision: u64, cas: u64, expiry: u32) -> Numbers {
     }
 }
 
-fn put_contact(line: &mut [u8], name: &[u8], key: &[u8], value: &[u8]) {
-    tell::put(line, REQUEST_COLUMN, name);
-    tell::put(line, KEY_COLUMN, key);
-    tell::put(line, VALUE_COLUMN, value);
+fn put_contact(line: &mut Line, name: &[u8], key: &[u8], value: &[u8]) {
+    line.put_at(REQUEST_COLUMN, name);
+    line.put_at(KEY_COLUMN, key);
+    line.put_at(VALUE_COLUMN, value);
 }
 
-fn put_numbers(line: &mut [u8], n: Numbers) -> usize {
-    tell::put_number(line, REVISION_COLUMN, n.revision.0);
-    let end = tell::put_number(line, CAS_COLUMN, n.cas.0);
-    if n.expiry == 0 {
-        return end;
+fn put_numbers(line: &mut Line, n: Numbers) {
+    line.go_to(REVISION_COLUMN);
+    line.put_number(n.revision.0);
+    line.go_to(CAS_COLUMN);
+    line.put_number(n.cas.0);
+    if n.expiry != 0 {
+        line.go_to(EXPIRY_COLUMN);
+        line.put_clock(n.expiry);
     }
-    tell::put_clock(line, EXPIRY_COLUMN, n.expiry)
 }
 
 fn send(
@@ -58,10 +62,10 @@ fn send(
     key: &[u8],
     value: &[u8],
     reply: &mut [u8],
-) -> Served {
+) -> Result<Served, Refusal> {
     let mut extras = [0u8; 24];
-    octet_writer::put_be(&mut extras, 0, 4, n.flags as u64);
-    octet_writer::put_be(&mut extras, 4, 4, n.expiry as u64);
+    octet_writer::put_be(&mut extras, 0, 4, u64::from(n.flags));
+    octet_writer::put_be(&mut extras, 4, 4, u64::from(n.expiry));
     octet_writer::put_be(&mut extras, 8, 8, n.revision.0);
     octet_writer::put_be(&mut extras, 16, 8, n.cas.0);
     frames::send(boat, call, &extras, key, value, reply)
@@ -69,83 +73,84 @@ fn send(
 
 // Serves a copy, and tells the line that names it.
 fn sent(
-    line: &mut [u8],
+    name: &[u8],
     boat: &mut [u8],
     call: Call,
     n: Numbers,
     key: &[u8],
     value: &[u8],
-) -> Served {
+) -> Result<Served, Refusal> {
     let mut reply = [0u8; frames::ROOM];
-    tell::put_clock(line, CLOCK_COLUMN, call.clock);
-    put_numbers(line, n);
-    let r = send(boat, call, n, key, value, &mut reply);
-    let end = tell::put_answer(line, ANSWER_COLUMN, r, &reply);
-    tell::line(line, end);
-    r
+    let mut line = Line::at(CLOCK_COLUMN);
+    line.put_clock(call.clock);
+    put_contact(&mut line, name, key, value);
+    put_numbers(&mut line, n);
+    let served = send(boat, call, n, key, value, &mut reply);
+    line.go_to(ANSWER_COLUMN);
+    line.put_answer(served, &reply);
+    line.tell();
+    served
 }
 
-pub(crate) fn set(boat: &mut [u8], clock: u32, n: Numbers, key: &[u8], value: &[u8]) -> Served {
-    let mut line = [b' '; 128];
+pub(crate) fn set(
+    boat: &mut [u8],
+    clock: u32,
+    n: Numbers,
+    key: &[u8],
+    value: &[u8],
+) -> Result<Served, Refusal> {
     let call = Call {
         clock,
         opcode: 0xa2,
         cas: Cas(0),
     };
-    put_contact(&mut line, b"SetWithMeta", key, value);
-    sent(&mut line, boat, call, n, key, value)
+    sent(b"SetWithMeta", boat, call, n, key, value)
 }
 
-pub(crate) fn delete(boat: &mut [u8], clock: u32, n: Numbers, key: &[u8]) -> Served {
-    let mut line = [b' '; 128];
+pub(crate) fn delete(
+    boat: &mut [u8],
+    clock: u32,
+    n: Numbers,
+    key: &[u8],
+) -> Result<Served, Refusal> {
     let call = Call {
         clock,
         opcode: 0xa8,
         cas: Cas(0),
     };
-    put_contact(&mut line, b"DelWithMeta", key, b"");
-    sent(&mut line, boat, call, n, key, b"")
+    sent(b"DelWithMeta", boat, call, n, key, b"")
 }
 
 pub(crate) fn get(boat: &mut [u8], clock: u32, key: &[u8]) {
-    let mut line = [b' '; 128];
     let mut reply = [0u8; frames::ROOM];
+    let mut line = Line::at(CLOCK_COLUMN);
     let call = Call {
         clock,
         opcode: 0x00,
         cas: Cas(0),
     };
-    tell::put_clock(&mut line, CLOCK_COLUMN, clock);
+    line.put_clock(clock);
     put_contact(&mut line, b"Get", key, b"");
-    let r = frames::send(boat, call, b"", key, b"", &mut reply);
-    let end = tell::put_answer(&mut line, ANSWER_COLUMN, r, &reply);
-    tell::line(&line, end);
+    let served = frames::send(boat, call, b"", key, b"", &mut reply);
+    line.go_to(ANSWER_COLUMN);
+    line.put_answer(served, &reply);
+    line.tell();
 }
 
-fn put_row(line: &mut [u8], m: Metadata, value: &[u8]) -> usize {
-    let numbers = m.numbers;
-    if m.tomb {
-        tell::put(line, VALUE_COLUMN, b"deleted");
-        return put_numbers(line, numbers);
-    }
-    tell::put(line, VALUE_COLUMN, value);
-    put_numbers(line, numbers)
-}
-
-fn put_held(line: &mut [u8], boat: &[u8], key: &[u8]) -> usize {
-    let l = table::find(frames::config(), boat, key, false);
-    let stored = l.stored;
-    match stored {
-        Stored::Used(m) => put_row(line, m, octets::part(boat, l.at, l.len)),
-        Stored::Nothing => tell::put(line, VALUE_COLUMN, b"nothing"),
-    }
+fn put_row(line: &mut Line, m: Metadata, value: &[u8]) {
+    line.put_at(VALUE_COLUMN, if m.tomb { b"deleted" } else { value });
+    put_numbers(line, m.numbers);
 }
 
 // What a boat's table holds under a key, expired or not.
 pub(crate) fn held(name: &[u8], boat: &[u8], key: &[u8]) {
-    let mut line = [b' '; 128];
-    tell::put(&mut line, CLOCK_COLUMN, name);
+    let mut line = Line::at(CLOCK_COLUMN);
+    line.put(name);
     put_contact(&mut line, b"holds", key, b"");
-    let end = put_held(&mut line, boat, key);
-    tell::line(&line, end);
+    let found = table::find(frames::config(), boat, key, false);
+    match found.stored {
+        Some(m) => put_row(&mut line, m, octets::part(boat, found.at, found.len)),
+        None => line.put(b"nothing"),
+    }
+    line.tell();
 }

@@ -3,15 +3,16 @@ use Prim.Native.Nat.{ℕ, zero, suc, ◌+◌, ◌-◌, ◌*◌, ◌/◌, ◌%◌
 use native.Mathlib.Omega.{arith}
 use native.Mathlib.Nat.{pow-suc, add-zero}
 use mathlib.Core.Path.{◌≡◌, ap, ◌∙◌, sym}
-use mathlib.Core.Bool.{true, false, and-false, cond}
+use mathlib.Core.Bool.{true, false, and-false, cond, ◌&&◌}
 use mathlib.Core.List.{List, [], ◌∷◌, ◌++◌}
-use lib.Dec.{ltb}
+use lib.Dec.{ltb, leb, leb-suc-suc}
 use lib.ListN.{length, set, length-append}
 use borrow.Author.Tests.{lt-ltb, le-ltb, ltb-true, ltb-false}
 use Rattle.octets.specs.Parts.{pasted}
 use Rattle.octets.proofs.Choices.{cases}
 use Rattle.octets.proofs.Lists.{pasted-none, pasted-push}
-use Rattle.digits.specs.declared.Number.TheVariants.{Value, NoNumber}
+use Rattle.std.specs.Prelude.{Option, Some, None, SomeIff}
+use Rattle.std.specs.Char.{is_ascii_digit}
 use Rattle.digits.specs.Decimal.{digits_in, digits, value_from, is_digit, all_digits, number_from}
 
 -- the quotient by ten takes one place less
@@ -64,6 +65,11 @@ pub put-more : (n d r : ℕ) (xs ys : List ℕ) (i : ℕ) → 10 ≤ n → n < 2
     → ys ≡ pasted xs i (digits (n / 10)) → r ≡ i + length (digits (n / 10)) → d ≡ 48 + n % 10 → set ys r d ≡ pasted xs i (digits n)
 put-more n d r xs ys i h g l ey er ed = rw (ey, er, ed, digits_more n h g) (pasted-push xs i (digits (n / 10)) (48 + n % 10) (omega (arith, length_more n h g)))
 
+-- std's test for a digit
+pub digit-test : (c : ℕ) → is_ascii_digit c ≡ is_digit c
+unfolding is_digit
+digit-test c = ap (λ b. leb 48 c && b) (sym (leb-suc-suc c 57))
+
 grows : (a : ℕ) (cs : List ℕ) → a ≤ value_from a cs
 unfolding value_from
 grows a [] = omega arith
@@ -71,48 +77,53 @@ grows a (c ∷ cs) = omega (arith, grows (a * 10 + (c - 48)) cs)
 
 -- ---- reading, by one digit
 module _ (a c : ℕ) where
-  pub right-digit : is_digit c ≡ true → a * 10 + (c - 48) < 2 ^ 64 → number_from a (c ∷ []) ≡ Value (a * 10 + (c - 48))
+  pub right-digit : is_digit c ≡ true → a * 10 + (c - 48) < 2 ^ 64 → number_from a (c ∷ []) ≡ Some (a * 10 + (c - 48))
   unfolding number_from all_digits value_from
   right-digit e h = rw (e, lt-ltb (a * 10 + (c - 48)) (2 ^ 64) h)
 
-  pub no_digit : is_digit c ≡ false → number_from a (c ∷ []) ≡ NoNumber
+  pub no_digit : is_digit c ≡ false → number_from a (c ∷ []) ≡ None
   unfolding number_from all_digits
   no_digit e = rw e
 
-  pub too_large : 2 ^ 64 ≤ a * 10 + (c - 48) → number_from a (c ∷ []) ≡ NoNumber
+  pub too_large : 2 ^ 64 ≤ a * 10 + (c - 48) → number_from a (c ∷ []) ≡ None
   unfolding number_from all_digits value_from
   too_large h = rw (le-ltb (a * 10 + (c - 48)) (2 ^ 64) h, and-false)
+
+  -- the digit added to ten times the number, as checked sums say it
+  pub added : (t d : ℕ) (r : Option ℕ) → is_digit c ≡ true → t ≡ a * 10 → d ≡ c - 48 → SomeIff r (t + d < 2 ^ 64) (t + d) → r ≡ number_from a (c ∷ [])
+  added t d (Some x) e p q h = let l : a * 10 + (c - 48) < 2 ^ 64 = omega (arith, h.0) in rw (right-digit e l, h.1, p, q)
+  added t d None e p q h = sym (too_large (cases (ltb (t + d) (2 ^ 64)) (λ l. absurd (h (ltb-true _ _ l))) (λ l. omega (arith, ltb-false _ _ l))))
 
   goes_on : (cs : List ℕ) → is_digit c ≡ true → number_from a (c ∷ cs) ≡ number_from (a * 10 + (c - 48)) cs
   unfolding number_from all_digits value_from
   goes_on cs e = rw e
 
-  stops : (cs : List ℕ) → is_digit c ≡ false → number_from a (c ∷ cs) ≡ NoNumber
+  stops : (cs : List ℕ) → is_digit c ≡ false → number_from a (c ∷ cs) ≡ None
   unfolding number_from all_digits
   stops cs e = rw e
 
-  overflows : (cs : List ℕ) → 2 ^ 64 ≤ a * 10 + (c - 48) → number_from a (c ∷ cs) ≡ NoNumber
+  overflows : (cs : List ℕ) → 2 ^ 64 ≤ a * 10 + (c - 48) → number_from a (c ∷ cs) ≡ None
   unfolding number_from value_from
   overflows cs h = rw (le-ltb (value_from (a * 10 + (c - 48)) cs) (2 ^ 64) (omega (arith, grows (a * 10 + (c - 48)) cs)), and-false)
 
   -- a digit that fits goes on with the number that it makes, and is under 2^64
-  pub number-on : (b : ℕ) (cs : List ℕ) → number_from a (c ∷ []) ≡ Value b → (number_from a (c ∷ cs) ≡ number_from b cs) × (b < 2 ^ 64)
+  pub number-on : (b : ℕ) (cs : List ℕ) → number_from a (c ∷ []) ≡ Some b → (number_from a (c ∷ cs) ≡ number_from b cs) × (b < 2 ^ 64)
   number-on b cs h =
       cases (is_digit c)
       (λ e. cases (ltb (a * 10 + (c - 48)) (2 ^ 64))
-      (λ f. let l = ltb-true _ _ f in let q : Value (a * 10 + (c - 48)) ≡ Value b = sym (right-digit e l) ∙ h in
+      (λ f. let l = ltb-true _ _ f in let q : Some (a * 10 + (c - 48)) ≡ Some b = sym (right-digit e l) ∙ h in
       let x : a * 10 + (c - 48) ≡ b = cc in (goes_on cs e ∙ rw x, rw (← x) l))
-      (λ f. absurd (let q : NoNumber ≡ Value b = sym (too_large (ltb-false _ _ f)) ∙ h in let y : ◌≡◌ {A = ℕ} 0 1 = cc in omega arith)))
-      (λ e. absurd (let q : NoNumber ≡ Value b = sym (no_digit e) ∙ h in let y : ◌≡◌ {A = ℕ} 0 1 = cc in omega arith))
+      (λ f. absurd (let q : None ≡ Some b = sym (too_large (ltb-false _ _ f)) ∙ h in let y : ◌≡◌ {A = ℕ} 0 1 = cc in omega arith)))
+      (λ e. absurd (let q : None ≡ Some b = sym (no_digit e) ∙ h in let y : ◌≡◌ {A = ℕ} 0 1 = cc in omega arith))
 
-  pub number-stops : (cs : List ℕ) → number_from a (c ∷ []) ≡ NoNumber → number_from a (c ∷ cs) ≡ NoNumber
+  pub number-stops : (cs : List ℕ) → number_from a (c ∷ []) ≡ None → number_from a (c ∷ cs) ≡ None
   number-stops cs h =
       cases (is_digit c)
       (λ e. cases (ltb (a * 10 + (c - 48)) (2 ^ 64))
-      (λ f. absurd (let q : Value (a * 10 + (c - 48)) ≡ NoNumber = sym (right-digit e (ltb-true _ _ f)) ∙ h in let y : ◌≡◌ {A = ℕ} 0 1 = cc in omega arith))
+      (λ f. absurd (let q : Some (a * 10 + (c - 48)) ≡ None = sym (right-digit e (ltb-true _ _ f)) ∙ h in let y : ◌≡◌ {A = ℕ} 0 1 = cc in omega arith))
       (λ f. overflows cs (ltb-false _ _ f)))
       (λ e. stops cs e)
 
-pub number-ends : (a : ℕ) → a < 2 ^ 64 → number_from a [] ≡ Value a
+pub number-ends : (a : ℕ) → a < 2 ^ 64 → number_from a [] ≡ Some a
 unfolding number_from all_digits value_from
 number-ends a h = rw (lt-ltb a (2 ^ 64) h)

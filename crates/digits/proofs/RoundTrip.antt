@@ -9,7 +9,7 @@ use lib.ListN.{length, get_or, length-append}
 use borrow.Author.Tests.{lt-ltb, le-leb, ltb-true, ltb-false}
 use Rattle.octets.proofs.Choices.{cases, both}
 use Rattle.digits.specs.Decimal.{digits_in, digits, value_from, is_digit, all_digits, number_from, number_of}
-use Rattle.digits.specs.declared.Number.TheVariants.{Value}
+use Rattle.std.specs.Prelude.{Some}
 use Rattle.digits.specs.Claims.{WrittenSays}
 use Rattle.digits.proofs.DecimalLaws.{shorter, digits-most}
 
@@ -60,7 +60,7 @@ leads (suc k) n h l =
     (λ t. rw t (omega arith))
     (λ f. rw (f, first_of (digits_in (suc k) (n / 10)) ((48 + n % 10) ∷ []) (some_in k (n / 10))) (leads k (n / 10) (omega (arith, ltb-false n 10 f)) (shorter (suc k) n l)))
 
-read_back : (n : ℕ) → n < 2 ^ 64 → number_of (digits n) ≡ Value n
+read_back : (n : ℕ) → n < 2 ^ 64 → number_of (digits n) ≡ Some n
 unfolding number_of number_from digits
 read_back n h =
     rw (le-leb 1 (length (digits_in 20 n)) (some_in 19 n), le-leb (length (digits_in 20 n)) 20 (digits-most n), all_in 20 n, says 20 n (omega arith), lt-ltb n (2 ^ 64) h)

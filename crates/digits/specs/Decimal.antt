@@ -1,7 +1,5 @@
 -- Decimal numbers as bytes: "Stored as decimal without leading zeros", and "1 to 20 decimal digits of a number under 2^64".
-use Rattle.std.specs.Prelude.{ℕ, zero, suc, ◌+◌, ◌-◌, ◌*◌, ◌/◌, ◌%◌, ◌^◌, Bool, true, ◌&&◌, cond, List, [], ◌∷◌, ◌++◌, ltb, leb, length}
-use Rattle.digits.specs.declared.Number.{Number}
-use Rattle.digits.specs.declared.Number.TheVariants.{Value, NoNumber}
+use Rattle.std.specs.Prelude.{ℕ, zero, suc, ◌+◌, ◌-◌, ◌*◌, ◌/◌, ◌%◌, ◌^◌, Bool, true, ◌&&◌, cond, List, [], ◌∷◌, ◌++◌, ltb, leb, length, Option, Some, None}
 
 -- the digits of n in at most k places, without leading zeros; 48 is the byte of 0
 unfoldable pub digits_in : ℕ → ℕ → List ℕ
@@ -27,10 +25,10 @@ all_digits [] = true
 all_digits (c ∷ cs) = is_digit c && all_digits cs
 
 -- digits after the number a, where they say a number under 2^64
-unfoldable pub number_from : ℕ → List ℕ → Number
+unfoldable pub number_from : ℕ → List ℕ → Option ℕ
 unfolding all_digits value_from
-number_from a cs = cond (all_digits cs && ltb (value_from a cs) (2 ^ 64)) (Value (value_from a cs)) NoNumber
+number_from a cs = cond (all_digits cs && ltb (value_from a cs) (2 ^ 64)) (Some (value_from a cs)) None
 
-unfoldable pub number_of : List ℕ → Number
+unfoldable pub number_of : List ℕ → Option ℕ
 unfolding number_from
-number_of cs = cond (leb 1 (length cs) && leb (length cs) 20) (number_from 0 cs) NoNumber
+number_of cs = cond (leb 1 (length cs) && leb (length cs) 20) (number_from 0 cs) None

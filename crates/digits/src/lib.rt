@@ -5,18 +5,12 @@ ghost use Rattle.std.specs.Prelude.{◌≡◌, cond, [], ◌∷◌, ◌+◌, ◌
 ghost use Rattle.octets.specs.Parts.{pasted};
 ghost use Rattle.digits.specs.Decimal.{digits, number_of, number_from};
 
-#[derive(Clone, Copy)]
-pub enum Number {
-    Value(u64),
-    NoNumber,
-}
-
 // The digit n as a byte.
 fn digit(n: u64) -> u8
     requires { n < 10 }
     ensures { result ≡ 48 + n }
 {
-    (48 + n) as u8
+    b'0' + n as u8
 }
 
 // Writes n in decimal from a place on, and says where the digits end. The quotient by ten falls.
@@ -34,7 +28,7 @@ fn put_digits(out: &mut [u8], at: usize, n: u64) -> usize
 }
 
 // Writes n in decimal at the start of out and answers how many digits it has. Where out has no room for 20 digits,
-// nothing changes and the answer is 0.
+// nothing changes and the answer is 0. The caller's bytes take the digits, since there is no heap.
 pub fn put_number(out: &mut [u8], n: u64) -> usize
     ensures { (result ≡ cond (leb 20 (length out.old)) (length (digits n)) 0)
         × (out.new ≡ cond (leb 20 (length out.old)) (pasted out.old 0 (digits n)) out.old) }
@@ -45,51 +39,33 @@ pub fn put_number(out: &mut [u8], n: u64) -> usize
     put_digits(out, 0, n)
 }
 
-// The number a with one more digit.
-fn with_digit(a: u64, c: u8) -> Number
-    ensures { result ≡ number_from a (c ∷ []) }
+// The number with one more digit, where that is one and the number stays under 2^64.
+fn with_digit(number: u64, c: u8) -> Option<u64>
+    ensures { result ≡ number_from number (c ∷ []) }
 {
-    if c < 48 {
-        return Number::NoNumber;
+    if !c.is_ascii_digit() {
+        return None;
     }
-    if 58 <= c {
-        return Number::NoNumber;
-    }
-    let d = (c - 48) as u64;
-    if 1844674407370955161 < a {
-        return Number::NoNumber;
-    }
-    let t = a * 10;
-    if 18446744073709551615 - t < d {
-        return Number::NoNumber;
-    }
-    Number::Value(t + d)
+    number.checked_mul(10)?.checked_add(u64::from(c - b'0'))
 }
 
-fn parse_all(s: &[u8]) -> Number
+fn parse_all(s: &[u8]) -> Option<u64>
     ensures { result ≡ number_from 0 s.now }
 {
-    let mut a: u64 = 0;
-    let mut i = 0;
-    while i < s.len() {
-        let Number::Value(b) = with_digit(a, s[i]) else {
-            return Number::NoNumber;
-        };
-        a = b;
-        i += 1;
+    let mut number: u64 = 0;
+    for &c in s {
+        number = with_digit(number, c)?;
     }
-    Number::Value(a)
+    Some(number)
 }
 
 // The number that 1 to 20 decimal digits say, where it is under 2^64.
-pub fn parse(s: &[u8]) -> Number
+#[tactic(auto, unfolding(crate::specs::Decimal::number_of))]
+pub fn parse(s: &[u8]) -> Option<u64>
     ensures { result ≡ number_of s.now }
 {
-    if s.len() < 1 {
-        return Number::NoNumber;
+    match s.len() {
+        1..=20 => parse_all(s),
+        _ => None,
     }
-    if 20 < s.len() {
-        return Number::NoNumber;
-    }
-    parse_all(s)
 }

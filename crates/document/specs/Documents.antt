@@ -1,6 +1,5 @@
 -- Documents, apart from how memory holds them.
-use Rattle.std.specs.Prelude.{ℕ, List, [], ◌++◌, Bool}
-use Rattle.std.proofs.Math.Option.{Option, none, some}
+use Rattle.std.specs.Prelude.{ℕ, List, [], ◌++◌, Bool, Option, Some, None}
 use Rattle.numbers.specs.declared.Numbers.{Numbers}
 use Rattle.document.specs.declared.Side.{Side}
 use Rattle.document.specs.declared.Side.TheVariants.{Front, Back}
@@ -20,8 +19,8 @@ pub record Entry : Type 0 where
 
 -- a key's value, empty without a document
 abbrev pub doc_value : Option Doc → List ℕ
-doc_value none = []
-doc_value (some d) = d.value
+doc_value None = []
+doc_value (Some d) = d.value
 
 -- order 4, the "joined value": an appended value stands at the back of the stored one, a prepended one at its front
 abbrev pub joined : Side → List ℕ → List ℕ → List ℕ

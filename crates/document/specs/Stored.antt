@@ -1,13 +1,10 @@
 -- A key's row as a decision sees it: its kind and numbers, without the value.
-use Rattle.std.specs.Prelude.{ℕ, Bool, true, false, not, ◌&&◌, ◌||◌, List, leb}
-use Rattle.std.proofs.Math.Option.{Option, none, some}
+use Rattle.std.specs.Prelude.{ℕ, Bool, true, false, not, ◌&&◌, ◌||◌, List, leb, Option, Some, None}
 use Rattle.numbers.specs.declared.Numbers.{Numbers}
 use Rattle.numbers.specs.declared.Mode.{Mode}
 use Rattle.numbers.specs.Order.{greater}
 use Rattle.numbers.specs.Expiry.{expired}
 use Rattle.document.specs.declared.Metadata.{Metadata}
-use Rattle.document.specs.declared.Stored.{Stored}
-use Rattle.document.specs.declared.Stored.TheVariants.{Nothing, Used}
 use Rattle.document.specs.Documents.{Key, Doc, Entry}
 
 abbrev pub metadata_of : Doc → Metadata
@@ -17,36 +14,36 @@ metadata_of d = record { tomb = d.tomb; numbers = d.numbers }
 abbrev pub entry_of : Key → Metadata → List ℕ → Entry
 entry_of key m value = record { key = key; doc = record { tomb = m.tomb; value = value; numbers = m.numbers } }
 
-abbrev pub stored_of : Option Doc → Stored
-stored_of none = Nothing
-stored_of (some d) = Used (metadata_of d)
+abbrev pub stored_of : Option Doc → Option Metadata
+stored_of None = None
+stored_of (Some d) = Some (metadata_of d)
 
 -- "It is *live* when it is a document and not expired."
 abbrev pub alive : Bool → ℕ → ℕ → Bool
 alive tomb expiry clock = not tomb && not (expired expiry clock)
 
-unfoldable pub live : Stored → ℕ → Bool
-live Nothing clock = false
-live (Used d) clock = alive d.tomb d.numbers.expiry clock
+unfoldable pub live : Option Metadata → ℕ → Bool
+live None clock = false
+live (Some d) clock = alive d.tomb d.numbers.expiry clock
 
 -- a document, expired or not
-abbrev pub is_document : Stored → Bool
-is_document Nothing = false
-is_document (Used d) = not d.tomb
+abbrev pub is_document : Option Metadata → Bool
+is_document None = false
+is_document (Some d) = not d.tomb
 
-abbrev pub has_row : Stored → Bool
-has_row Nothing = false
-has_row (Used d) = true
+abbrev pub has_row : Option Metadata → Bool
+has_row None = false
+has_row (Some d) = true
 
 -- all 0 without a row
-abbrev pub numbers_of : Stored → Numbers
-numbers_of Nothing = record { flags = 0; expiry = 0; revision = record { 0 = 0 }; cas = record { 0 = 0 } }
-numbers_of (Used d) = d.numbers
+abbrev pub numbers_of : Option Metadata → Numbers
+numbers_of None = record { flags = 0; expiry = 0; revision = record { 0 = 0 }; cas = record { 0 = 0 } }
+numbers_of (Some d) = d.numbers
 
 -- "a key with any row, expired or tombstone included, is compared; the write must be greater"
-unfoldable pub accepted : Mode → Stored → Numbers → Bool
-accepted m Nothing n = true
-accepted m (Used d) n = greater m n d.numbers
+unfoldable pub accepted : Mode → Option Metadata → Numbers → Bool
+accepted m None n = true
+accepted m (Some d) n = greater m n d.numbers
 
 -- "It frees exactly the tombstones and expired documents with CAS at or below the bound"
 unfoldable pub gone : ℕ → ℕ → Metadata → Bool

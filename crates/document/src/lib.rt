@@ -7,7 +7,7 @@ ghost use Rattle.document.specs.Stored.{alive, live, is_document, has_row, numbe
 
 use numbers::{Cas, Mode, Numbers, Revision};
 
-// A table's head.
+// A table's head. State and mode stay numbers: `head_of` and `head_bytes` of rows/specs/Table.antt give the head of any bytes, damaged ones too.
 #[derive(Clone, Copy)]
 pub struct Head {
     // 1 active, 2 replica, 3 pending, 4 dead
@@ -28,11 +28,12 @@ pub struct Metadata {
     pub numbers: Numbers,
 }
 
-#[derive(Clone, Copy)]
-pub enum Stored {
-    Nothing,
-    Used(Metadata),
-}
+const NO_NUMBERS: Numbers = Numbers {
+    flags: 0,
+    expiry: 0,
+    revision: Revision(0),
+    cas: Cas(0),
+};
 
 // The side of a stored value at which another is joined to it.
 #[derive(Clone, Copy)]
@@ -77,60 +78,39 @@ pub fn alive(tomb: bool, expiry: u32, clock: u32) -> bool
 }
 
 // Whether a key's row is a document that is not expired.
-pub fn live(s: Stored, clock: u32) -> bool
+#[tactic(auto, unfolding(crate::specs::Stored::live))]
+pub fn live(s: Option<Metadata>, clock: u32) -> bool
     ensures { result ≡ live s clock }
 {
-    match s {
-        Stored::Nothing => false,
-        Stored::Used(d) => alive(d.tomb, d.numbers.expiry, clock),
-    }
+    s.is_some_and(|d| alive(d.tomb, d.numbers.expiry, clock))
 }
 
 // Whether a key's row is a document, expired or not.
-pub fn is_document(s: Stored) -> bool
+pub fn is_document(s: Option<Metadata>) -> bool
     ensures { result ≡ is_document s }
 {
-    match s {
-        Stored::Nothing => false,
-        Stored::Used(d) => !d.tomb,
-    }
+    s.is_some_and(|d| !d.tomb)
 }
 
-pub fn has_row(s: Stored) -> bool
+pub fn has_row(s: Option<Metadata>) -> bool
     ensures { result ≡ has_row s }
 {
-    match s {
-        Stored::Nothing => false,
-        Stored::Used(_) => true,
-    }
+    s.is_some()
 }
 
 // The numbers of a key's row, all 0 without one.
-pub fn numbers_of(s: Stored) -> Numbers
+pub fn numbers_of(s: Option<Metadata>) -> Numbers
     ensures { result ≡ numbers_of s }
 {
-    match s {
-        Stored::Nothing => Numbers {
-            flags: 0,
-            expiry: 0,
-            revision: Revision(0),
-            cas: Cas(0),
-        },
-        Stored::Used(d) => d.numbers,
-    }
+    s.map_or(NO_NUMBERS, |d| d.numbers)
 }
 
 // Whether a with-meta write of these numbers wins over a key's row.
-pub fn accepted(m: Mode, s: Stored, n: Numbers) -> bool
+#[tactic(auto, unfolding(crate::specs::Stored::accepted))]
+pub fn accepted(m: Mode, s: Option<Metadata>, n: Numbers) -> bool
     ensures { result ≡ accepted m s n }
 {
-    match s {
-        Stored::Nothing => true,
-        Stored::Used(d) => {
-            let e = d.numbers;
-            numbers::greater(m, n, e)
-        }
-    }
+    s.is_none_or(|d| numbers::greater(m, n, d.numbers))
 }
 
 // Whether a purge frees a row.

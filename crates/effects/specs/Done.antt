@@ -1,17 +1,14 @@
 -- What a command does once no test fails.
-use Rattle.std.specs.Prelude.{ℕ, Bool, true, false, cond}
+use Rattle.std.specs.Prelude.{ℕ, Bool, true, false, cond, Option, Some, None}
 use Rattle.numbers.specs.declared.Cas.{Cas}
 use Rattle.numbers.specs.declared.Numbers.{Numbers}
 use Rattle.numbers.specs.Growth.{cas_after, revision_after, incremented, decremented}
 use Rattle.numbers.specs.Expiry.{absolute}
 use Rattle.document.specs.declared.Metadata.{Metadata}
-use Rattle.document.specs.declared.Stored.TheVariants.{Nothing, Used}
 use Rattle.document.specs.declared.Head.{Head}
 use Rattle.document.specs.declared.Side.{Side}
 use Rattle.document.specs.Stored.{live, numbers_of}
 use Rattle.document.specs.Head.{raised}
-use Rattle.digits.specs.declared.Number.{Number}
-use Rattle.digits.specs.declared.Number.TheVariants.{Value, NoNumber}
 use Rattle.commands.specs.declared.MetaKind.{MetaKind}
 use Rattle.commands.specs.declared.MetaKind.TheVariants.{Set as SetMeta, Add as AddMeta, Delete as DeleteMeta}
 use Rattle.commands.specs.declared.Plain.{Plain}
@@ -28,11 +25,11 @@ use Rattle.effects.specs.declared.Reply.TheVariants.{Bare, Found, Counted, Versi
 use Rattle.effects.specs.declared.Done.{Done}
 
 abbrev pub nothing : Head → Reply → Cas → Done
-nothing h reply cas = record { store = Nothing; source = Empty; reply = reply; cas = cas; head = h }
+nothing h reply cas = record { store = None; source = Empty; reply = reply; cas = cas; head = h }
 
 -- the row is stored, and the mark raised to its CAS where lower; "Its reply carries the new CAS."
 abbrev pub storing : Head → Metadata → Source → Reply → Done
-storing h row source reply = record { store = Used row; source = source; reply = reply; cas = row.numbers.cas; head = raised h row.numbers.cas.0 }
+storing h row source reply = record { store = Some row; source = source; reply = reply; cas = row.numbers.cas; head = raised h row.numbers.cas.0 }
 
 -- Get: "Reply: flags as 4 extras bytes, key for 0c/0d, value, CAS."
 abbrev pub found : Context → Bool → Done
@@ -60,9 +57,9 @@ abbrev pub counted : Context → ℕ → ℕ → ℕ → Done
 counted c flags expiry n = storing c.head (record { tomb = false; numbers = plain_numbers c flags expiry }) (Digits n) (Counted n)
 
 -- "Increment wraps past 2^64 - 1 to 0; decrement stops at 0."
-abbrev pub sum : Number → Counter → ℕ
-sum (Value n) k = cond k.up (incremented n k.delta) (decremented n k.delta)
-sum NoNumber k = 0
+abbrev pub sum : Option ℕ → Counter → ℕ
+sum (Some n) k = cond k.up (incremented n k.delta) (decremented n k.delta)
+sum None k = 0
 
 -- Increment, Decrement. Live: "flags and expiry stay"; not live: "the initial number is stored, flags 0, expiry by the plain rule"
 abbrev pub count_done : Context → Counter → Done

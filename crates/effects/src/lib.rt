@@ -6,8 +6,7 @@ ghost use Rattle.std.specs.Prelude.{◌≡◌, cond, false};
 ghost use Rattle.effects.specs.Done.{nothing, storing, plain_numbers, found, write_done, delete_done, sum, counted, count_done, meta_numbers, meta_done, join_done, touch_done};
 
 use commands::{Context, Counter, Meta, Plain, Touching};
-use digits::Number;
-use document::{Head, Metadata, Side, Stored};
+use document::{Head, Metadata, Side};
 use numbers::{Cas, Numbers};
 
 // Where a stored value comes from.
@@ -36,7 +35,7 @@ pub enum Reply {
 
 #[derive(Clone, Copy)]
 pub struct Done {
-    pub store: Stored,
+    pub store: Option<Metadata>,
     pub source: Source,
     pub reply: Reply,
     pub cas: Cas,
@@ -48,7 +47,7 @@ pub fn nothing(h: Head, reply: Reply, cas: Cas) -> Done
     ensures { result ≡ nothing h reply cas }
 {
     Done {
-        store: Stored::Nothing,
+        store: None,
         source: Source::Empty,
         reply,
         cas,
@@ -61,13 +60,12 @@ fn storing(h: Head, row: Metadata, source: Source, reply: Reply) -> Done
     ensures { result ≡ storing h row source reply }
 {
     let cas = row.numbers.cas;
-    let head = document::raised(h, cas);
     Done {
-        store: Stored::Used(row),
+        store: Some(row),
         source,
         reply,
         cas,
-        head,
+        head: document::raised(h, cas),
     }
 }
 
@@ -75,35 +73,27 @@ fn storing(h: Head, row: Metadata, source: Source, reply: Reply) -> Done
 fn plain_numbers(c: Context, flags: u32, expiry: u32) -> Numbers
     ensures { result ≡ plain_numbers c flags expiry }
 {
-    let row = c.row;
-    let old = document::numbers_of(row);
-    let revision = old.revision;
-    let mark = c.head.mark;
     Numbers {
         flags,
         expiry,
-        revision: revision.next(),
-        cas: mark.next(),
+        revision: c.stored().revision.next(),
+        cas: c.head.mark.next(),
     }
 }
 
 pub fn found(c: Context, keyed: bool) -> Done
     ensures { result ≡ found c keyed }
 {
-    let head = c.head;
-    let row = c.row;
-    let n = document::numbers_of(row);
-    let cas = n.cas;
-    nothing(head, Reply::Found(n.flags, keyed), cas)
+    let stored = c.stored();
+    nothing(c.head, Reply::Found(stored.flags, keyed), stored.cas)
 }
 
 pub fn write_done(c: Context, p: Plain) -> Done
     ensures { result ≡ write_done c p }
 {
-    let head = c.head;
     let numbers = plain_numbers(c, p.flags, numbers::absolute(p.expiry, c.clock));
     storing(
-        head,
+        c.head,
         Metadata {
             tomb: false,
             numbers,
@@ -116,10 +106,9 @@ pub fn write_done(c: Context, p: Plain) -> Done
 pub fn delete_done(c: Context) -> Done
     ensures { result ≡ delete_done c }
 {
-    let head = c.head;
     let numbers = plain_numbers(c, 0, 0);
     storing(
-        head,
+        c.head,
         Metadata {
             tomb: true,
             numbers,
@@ -129,28 +118,22 @@ pub fn delete_done(c: Context) -> Done
     )
 }
 
-fn sum(n: Number, k: Counter) -> u64
+fn sum(n: Option<u64>, k: Counter) -> u64
     ensures { result ≡ sum n k }
 {
     match n {
-        Number::Value(v) => {
-            if k.up {
-                numbers::increment(v, k.delta)
-            } else {
-                numbers::decrement(v, k.delta)
-            }
-        }
-        Number::NoNumber => 0,
+        Some(n) if k.up => numbers::increment(n, k.delta),
+        Some(n) => numbers::decrement(n, k.delta),
+        None => 0,
     }
 }
 
 fn counted(c: Context, flags: u32, expiry: u32, n: u64) -> Done
     ensures { result ≡ counted c flags expiry n }
 {
-    let head = c.head;
     let numbers = plain_numbers(c, flags, expiry);
     storing(
-        head,
+        c.head,
         Metadata {
             tomb: false,
             numbers,
@@ -163,11 +146,9 @@ fn counted(c: Context, flags: u32, expiry: u32, n: u64) -> Done
 pub fn count_done(c: Context, k: Counter) -> Done
     ensures { result ≡ count_done c k }
 {
-    let row = c.row;
-    let number = c.number;
-    let old = document::numbers_of(row);
-    if document::live(row, c.clock) {
-        counted(c, old.flags, old.expiry, sum(number, k))
+    if c.is_live() {
+        let stored = c.stored();
+        counted(c, stored.flags, stored.expiry, sum(c.number, k))
     } else {
         counted(c, 0, numbers::absolute(k.expiry, c.clock), k.initial)
     }
@@ -182,27 +163,21 @@ fn source_of(tomb: bool) -> Source
 fn meta_numbers(h: Head, w: Meta) -> Numbers
     ensures { result ≡ meta_numbers h w }
 {
-    let n = w.numbers;
     if w.regenerate {
-        let revision = n.revision;
-        let mark = h.mark;
         return Numbers {
-            flags: n.flags,
-            expiry: n.expiry,
-            revision,
-            cas: mark.next(),
+            cas: h.mark.next(),
+            ..w.numbers
         };
     }
-    n
+    w.numbers
 }
 
 pub fn meta_done(c: Context, w: Meta, tomb: bool) -> Done
     ensures { result ≡ meta_done c w tomb }
 {
-    let head = c.head;
-    let numbers = meta_numbers(head, w);
+    let numbers = meta_numbers(c.head, w);
     storing(
-        head,
+        c.head,
         Metadata { tomb, numbers },
         source_of(tomb),
         Reply::Bare,
@@ -213,12 +188,10 @@ pub fn meta_done(c: Context, w: Meta, tomb: bool) -> Done
 pub fn join_done(c: Context, side: Side) -> Done
     ensures { result ≡ join_done c side }
 {
-    let head = c.head;
-    let row = c.row;
-    let old = document::numbers_of(row);
-    let numbers = plain_numbers(c, old.flags, old.expiry);
+    let stored = c.stored();
+    let numbers = plain_numbers(c, stored.flags, stored.expiry);
     storing(
-        head,
+        c.head,
         Metadata {
             tomb: false,
             numbers,
@@ -242,17 +215,15 @@ fn touch_reply(shown: bool, flags: u32) -> Reply
 pub fn touch_done(c: Context, t: Touching) -> Done
     ensures { result ≡ touch_done c t }
 {
-    let head = c.head;
-    let row = c.row;
-    let old = document::numbers_of(row);
-    let numbers = plain_numbers(c, old.flags, numbers::absolute(t.expiry, c.clock));
+    let flags = c.stored().flags;
+    let numbers = plain_numbers(c, flags, numbers::absolute(t.expiry, c.clock));
     storing(
-        head,
+        c.head,
         Metadata {
             tomb: false,
             numbers,
         },
         Source::Kept,
-        touch_reply(t.shown, old.flags),
+        touch_reply(t.shown, flags),
     )
 }

@@ -3,7 +3,7 @@ use native.Mathlib.Omega.{arith}
 use mathlib.Core.Path.{◌≡◌, refl, sym, ap, ◌∙◌}
 use mathlib.Core.Bool.{Bool, false, cond}
 use mathlib.Core.List.{List, [], ◌∷◌}
-use mathlib.Core.Option.{Option, none, some}
+use Rattle.std.specs.Prelude.{Option, Some, None}
 use Prim.Native.Nat.{suc, ◌-◌}
 use lib.ListN.{length}
 use Rattle.octets.specs.Compare.{same}
@@ -19,14 +19,14 @@ abbrev without : Key → List Entry → List Entry
 without k [] = []
 without k (e ∷ es) = cond (same e.key k) es (e ∷ without k es)
 
-length_without : (k : Key) (d : Doc) (es : List Entry) → find_entry es k ≡ some d → length es ≡ suc (length (without k es))
+length_without : (k : Key) (d : Doc) (es : List Entry) → find_entry es k ≡ Some d → length es ≡ suc (length (without k es))
 length_without k d [] h = none-some d h
 length_without k d (e ∷ es) h =
     cases (same e.key k)
     (λ s. rw s)
     (λ s. rw s (ap suc (length_without k d es (rw s at h))))
 
-find-without : (k : Key) (es : List Entry) → DistinctKeys es → (j : Key) → find_entry (without k es) j ≡ cond (same k j) none (find_entry es j)
+find-without : (k : Key) (es : List Entry) → DistinctKeys es → (j : Key) → find_entry (without k es) j ≡ cond (same k j) None (find_entry es j)
 find-without k [] g j = cases (same k j) (λ s. rw s) (λ s. rw s)
 find-without k (e ∷ es) g j =
     cases (same e.key k)
@@ -37,7 +37,7 @@ find-without k (e ∷ es) g j =
     (λ t. rw (s, t, q) (rw t)))
     (λ s. cases (same k j)
     (λ t. let n : same e.key j ≡ false = ap (same e.key) (sym (same_true k j t)) ∙ s in rw (s, t, n) (find-without k es g.1 j ∙ rw t))
-    (λ t. rw (s, t) (ap (λ (o : Option Doc). cond (same e.key j) (some e.doc) o) (find-without k es g.1 j ∙ rw t))))
+    (λ t. rw (s, t) (ap (λ (o : Option Doc). cond (same e.key j) (Some e.doc) o) (find-without k es g.1 j ∙ rw t))))
 
 distinct_without : (k : Key) (es : List Entry) → DistinctKeys es → DistinctKeys (without k es)
 distinct_without k [] g = tt
@@ -45,18 +45,18 @@ distinct_without k (e ∷ es) g =
     cases (same e.key k)
     (λ s. rw s g.1)
     (λ s.
-    let n : find_entry (without k es) e.key ≡ none = find-without k es g.1 e.key ∙ cases (same k e.key) (λ t. rw t) (λ t. rw t g.0) in
+    let n : find_entry (without k es) e.key ≡ None = find-without k es g.1 e.key ∙ cases (same k e.key) (λ t. rw t) (λ t. rw t g.0) in
     rw s (n, distinct_without k es g.1))
 
 -- documents with distinct keys that are found alike are as many
 pub as_many : (es fs : List Entry) → DistinctKeys es → DistinctKeys fs → ((k : Key) → find_entry es k ≡ find_entry fs k) → length es ≡ length fs
 as_many [] [] g h q = refl
 as_many [] (f ∷ fs) g h q =
-    let z : find_entry (f ∷ fs) f.key ≡ some f.doc = rw (same_refl f.key) in
+    let z : find_entry (f ∷ fs) f.key ≡ Some f.doc = rw (same_refl f.key) in
     none-some f.doc (q f.key ∙ z)
 as_many (e ∷ es) fs g h q =
     let k = e.key in
-    let there : find_entry fs k ≡ some e.doc = sym (q k) ∙ rw (same_refl k) in
+    let there : find_entry fs k ≡ Some e.doc = sym (q k) ∙ rw (same_refl k) in
     let alike : (j : Key) → find_entry es j ≡ find_entry (without k fs) j =
     λ j. cases (same k j)
     (λ s. ap (find_entry es) (sym (same_true k j s)) ∙ g.0 ∙ sym (find-without k fs h j ∙ rw s))
@@ -76,7 +76,7 @@ module _ (E F : Engine) (L : Laws E) (M : Laws F) where
       record {
         good = L.good-put r k d a.good room;
         other-good = M.good-put s k d a.other-good room';
-        find = λ j. L.find-put r k d a.good room j ∙ ap (λ (o : Option Doc). cond (same k j) (some d) o) (a.find j) ∙ sym (M.find-put s k d a.other-good room' j);
+        find = λ j. L.find-put r k d a.good room j ∙ ap (λ (o : Option Doc). cond (same k j) (Some d) o) (a.find j) ∙ sym (M.find-put s k d a.other-good room' j);
         size = L.size-put r k d a.good room ∙ a.size ∙ sym (M.size-put s k d a.other-good room');
       }
 

@@ -17,15 +17,8 @@ pub enum Place {
     Full,
 }
 
-// The head of a table that is not damaged.
-#[derive(Clone, Copy)]
-pub enum Checked {
-    Damaged,
-    Sound(Head),
-}
-
 // Which engine keeps a table's rows. The table's memory doesn't say it.
-#[derive(Clone, Copy)]
+#[derive(Clone, Copy, Debug, PartialEq, Eq)]
 pub enum EngineKind {
     // rows in place, a new key in the lowest free one
     Plain,
@@ -45,14 +38,13 @@ pub struct Config {
 pub fn config_for(plain: bool) -> Config
     ensures { result ≡ config_for plain }
 {
-    if plain {
-        return Config {
-            engine: EngineKind::Plain,
-            forcing: false,
-        };
-    }
+    let engine = if plain {
+        EngineKind::Plain
+    } else {
+        EngineKind::Ordered
+    };
     Config {
-        engine: EngineKind::Ordered,
+        engine,
         forcing: false,
     }
 }

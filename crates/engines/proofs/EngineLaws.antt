@@ -2,7 +2,7 @@
 use Prim.Native.Nat.{ℕ}
 use mathlib.Core.Path.{◌≡◌, refl}
 use mathlib.Core.List.{List}
-use mathlib.Core.Option.{some}
+use Rattle.std.specs.Prelude.{Some}
 use Rattle.document.specs.Documents.{Key, Doc}
 use Rattle.engine.specs.declared.Config.{Config}
 use Rattle.engine.specs.declared.EngineKind.{EngineKind}
@@ -36,10 +36,10 @@ kept-distinct Plain r g = g
 kept-distinct Ordered r g = ordered-distinct r g
 
 -- a document stored for a key that has a row takes that row's place
-pub put-replaces : (config : Config) (r : List Row) (k : Key) (d e : Doc) → (engine_of config).Good r → find_row r k ≡ some e → (engine_of config).put r k d ≡ replace r k d
+pub put-replaces : (config : Config) (r : List Row) (k : Key) (d e : Doc) → (engine_of config).Good r → find_row r k ≡ Some e → (engine_of config).put r k d ≡ replace r k d
 put-replaces config r k d e = put-over config.engine
   where
-    put-over : (n : EngineKind) → rows_kept n r → find_row r k ≡ some e → put_by n r k d ≡ replace r k d
+    put-over : (n : EngineKind) → rows_kept n r → find_row r k ≡ Some e → put_by n r k d ≡ replace r k d
     put-over Plain g f = rw f
     put-over Ordered g f = insert-replaces k d r e (ordered-each r g) f
 

@@ -4,7 +4,7 @@ use native.Mathlib.Omega.{arith}
 use mathlib.Core.Path.{◌≡◌, sym, subst, ◌∙◌}
 use mathlib.Core.Bool.{Bool, true, ◌&&◌}
 use mathlib.Core.List.{List, [], ◌∷◌, ◌++◌}
-use mathlib.Core.Option.{none, some}
+use Rattle.std.specs.Prelude.{Some, None}
 use lib.ListN.{length, drop, replicate, length-append}
 use Rattle.octets.specs.BigEndian.{bytes_of}
 use Rattle.octets.specs.Parts.{pasted}
@@ -98,22 +98,22 @@ good-sound-by config t g =
 module _ (mark : ℕ) where
   good-less : (ws : List Row) → AllGood mark ws → AllGood mark (one_free_less ws)
   good-less [] g = tt
-  good-less (none ∷ ws) g = g
-  good-less (some x ∷ ws) g = (g.0, good-less ws g.1)
+  good-less (None ∷ ws) g = g
+  good-less (Some x ∷ ws) g = (g.0, good-less ws g.1)
 
   good-insert : (e : Entry) → EntryGood mark e → (ws : List Row) → AllGood mark ws → AllGood mark (insert_row ws e.key e.doc)
   good-insert e k [] g = tt
-  good-insert e k (none ∷ ws) g = (k, g)
-  good-insert e k (some x ∷ ws) g =
+  good-insert e k (None ∷ ws) g = (k, g)
+  good-insert e k (Some x ∷ ws) g =
       sides (side_of x.key e.key)
       (λ l. rw l (g.0, good-insert e k ws g.1))
       (λ q. rw q (k, g.1))
       (λ q. rw q (k, (g.0, good-less ws g.1)))
 
-  good-stay : (p : Doc → Bool) (n : ℕ) (ws : List Row) → AllGood mark ws → AllGood mark (staying_rows p ws ++ replicate n none)
+  good-stay : (p : Doc → Bool) (n : ℕ) (ws : List Row) → AllGood mark ws → AllGood mark (staying_rows p ws ++ replicate n None)
   good-stay p n [] g = free-good mark n
-  good-stay p n (none ∷ ws) g = good-stay p n ws g
-  good-stay p n (some x ∷ ws) g = cases (p x.doc) (λ t. rw t (good-stay p n ws g.1)) (λ f. rw f (g.0, good-stay p n ws g.1))
+  good-stay p n (None ∷ ws) g = good-stay p n ws g
+  good-stay p n (Some x ∷ ws) g = cases (p x.doc) (λ t. rw t (good-stay p n ws g.1)) (λ f. rw f (g.0, good-stay p n ws g.1))
 
 -- other rows under the same head
 rows-changed : (t : Table) (ws : List Row) → Good t → length ws ≡ length t.rows → AllGood t.head.mark.0 ws → ordered ws ≡ true

@@ -1,7 +1,6 @@
 -- Damage by the engine that a call is for: "The plain engine keeps 01's rule", and rows in key order have their own.
-use Rattle.std.specs.Prelude.{ℕ, List, Bool, cond}
-use Rattle.engine.specs.declared.Checked.{Checked}
-use Rattle.engine.specs.declared.Checked.TheVariants.{Damaged, Sound}
+use Rattle.std.specs.Prelude.{ℕ, List, Bool, cond, Option, Some, None}
+use Rattle.document.specs.declared.Head.{Head}
 use Rattle.engine.specs.declared.Config.{Config}
 use Rattle.engine.specs.declared.EngineKind.{EngineKind}
 use Rattle.engine.specs.declared.EngineKind.TheVariants.{Plain, Ordered}
@@ -17,5 +16,5 @@ unfoldable pub sound_by : Config → List ℕ → Bool
 sound_by config b = sound_in config.engine b
 
 -- the head of a table that is not damaged
-unfoldable pub checked_by : Config → List ℕ → Checked
-checked_by config b = cond (sound_by config b) (Sound (head_of b)) Damaged
+unfoldable pub checked_by : Config → List ℕ → Option Head
+checked_by config b = cond (sound_by config b) (Some (head_of b)) None

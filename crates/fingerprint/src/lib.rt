@@ -2,21 +2,13 @@
 #![tactic(auto)]
 
 ghost use Rattle.std.specs.Prelude.{◌≡◌};
-ghost use Rattle.fingerprint.specs.Fingerprint.{turned, mixed, lane_of, lane_with, both_lanes, folded, fingerprint, bucket_of, print_among};
-
-// The bits of p turned by five.
-fn turned(p: u64) -> u64
-    ensures { result ≡ turned p }
-{
-    p % 576460752303423488 * 32 + p / 576460752303423488
-}
+ghost use Rattle.fingerprint.specs.Fingerprint.{mixed, lane_of, lane_with, both_lanes, folded, fingerprint, bucket_of, print_among};
 
 // p turned, and w added.
-#[tactic(auto, unfolding(crate::specs::Fingerprint::mixed))]
 fn mix(p: u64, w: u64) -> u64
     ensures { result ≡ mixed p w }
 {
-    std::num::wrapping_add_u64(turned(p), w)
+    p.rotate_left(5).wrapping_add(w)
 }
 
 // A lane of words: their sum, and the sum of what that was after each of them, by which a word counts by its place too.
@@ -26,30 +18,33 @@ struct Lane {
     sums: u64,
 }
 
-// A lane of one word.
-#[tactic(auto, unfolding(crate::specs::Fingerprint::lane_of))]
-fn begun(w: u64) -> Lane
-    ensures { result ≡ lane_of w }
-{
-    Lane { words: w, sums: w }
-}
+impl Lane {
+    #[tactic(auto, unfolding(crate::specs::Fingerprint::lane_of))]
+    fn of(w: u64) -> Lane
+        ensures { result ≡ lane_of w }
+    {
+        Lane { words: w, sums: w }
+    }
 
-// A lane with one word more.
-#[tactic(auto, unfolding(crate::specs::Fingerprint::lane_with))]
-fn further(l: Lane, w: u64) -> Lane
-    ensures { result ≡ lane_with l w }
-{
-    let words = std::num::wrapping_add_u64(l.words, w);
-    let sums = std::num::wrapping_add_u64(l.sums, words);
-    Lane { words, sums }
-}
+    // With one word more.
+    #[tactic(auto, unfolding(crate::specs::Fingerprint::lane_with))]
+    fn with(self, w: u64) -> Lane
+        ensures { result ≡ lane_with self w }
+    {
+        let words = self.words.wrapping_add(w);
+        Lane {
+            words,
+            sums: self.sums.wrapping_add(words),
+        }
+    }
 
-// Two lanes as one number.
-#[tactic(auto, unfolding(crate::specs::Fingerprint::both_lanes))]
-fn both_lanes(a: Lane, b: Lane) -> u64
-    ensures { result ≡ both_lanes a b }
-{
-    mix(mix(a.sums, a.words), mix(b.sums, b.words))
+    // Two lanes as one number.
+    #[tactic(auto, unfolding(crate::specs::Fingerprint::both_lanes))]
+    fn both(self, other: Lane) -> u64
+        ensures { result ≡ both_lanes self other }
+    {
+        mix(mix(self.sums, self.words), mix(other.sums, other.words))
+    }
 }
 
 // The two halves added: 32 bits are quicker to compare.
@@ -60,8 +55,7 @@ fn folded(p: u64) -> u32
     ((p / 4294967296 + p % 4294967296) % 4294967296) as u32
 }
 
-// Sixteen bytes a step, which are cut out first so that each word is one load with no test. The two lanes don't wait for each
-// other.
+// Sixteen bytes a step, as arrays so that each word is one load with no test. The two lanes don't wait for each other.
 pub fn of_key(key: &[u8]) -> u32
     ensures { result ≡ fingerprint key.now }
 {
@@ -71,19 +65,15 @@ pub fn of_key(key: &[u8]) -> u32
     if key.len() < 16 {
         return folded(mix(octets::word(key, 0), octets::word(key, key.len() - 8)));
     }
-    let last = key.len() - 16;
-    let tail = &key[last..];
-    let mut a = begun(octets::word(tail, 0));
-    let mut b = begun(octets::word(tail, 8));
-    let mut at: usize = 0;
-    while at < last {
-        let end = at + 16;
-        let step = &key[at..end];
-        a = further(a, octets::word(step, 0));
-        b = further(b, octets::word(step, 8));
-        at = end;
+    let tail = &key[key.len() - 16..];
+    let mut a = Lane::of(octets::word(tail, 0));
+    let mut b = Lane::of(octets::word(tail, 8));
+    let (steps, _) = key[..key.len() - 1].as_chunks::<16>();
+    for step in steps {
+        a = a.with(octets::word(step, 0));
+        b = b.with(octets::word(step, 8));
     }
-    folded(both_lanes(a, b))
+    folded(a.both(b))
 }
 
 // Which of 1,024 buckets a fingerprint falls in.
@@ -94,15 +84,9 @@ pub fn bucket(p: u32) -> usize
     (p as u64 * 2654435761 / 4194304 % 1024) as usize
 }
 
-// Whether p is one of these. Nothing ends the loop early, so that it vectorises.
+// Whether p is one of these.
 pub fn among(p: u32, prints: &[u32]) -> bool
     ensures { result ≡ print_among p prints.now }
 {
-    let mut found = false;
-    let mut i: usize = 0;
-    while i < prints.len() {
-        found = found | (prints[i] == p);
-        i += 1;
-    }
-    found
+    prints.contains(&p)
 }

@@ -9,17 +9,14 @@ use borrow.Author.Tests.{le-ltb, eqb-true, not-true, not-false}
 use Rattle.octets.specs.Parts.{written}
 use Rattle.octets.specs.BigEndian.{num}
 use Rattle.octets.proofs.Choices.{cases, both}
-use Rattle.shape.specs.declared.Shape.{Shape}
-use Rattle.shape.specs.Shapes.{commands, among, shape_of}
+use Rattle.shape.specs.Shapes.{Shape, commands, among, shape_of}
 use Rattle.shape.proofs.ShapeLaws.{same_shape}
 use Rattle.header.specs.declared.Header.{Header}
 use Rattle.header.specs.Header.{header_of}
 use Rattle.with_meta.specs.WithMeta.{options_of, with_meta}
 use Rattle.rules.specs.Rules.{is_forced, forces, judged, status}
 use Rattle.rules.proofs.RuleLaws.{built, formed, field-rules}
-use Rattle.request.specs.declared.Gate.{Gate}
-use Rattle.request.specs.declared.Gate.TheVariants.{Stop, Whole}
-use Rattle.request.specs.Reading.{reading, whole_reading, frame_status, bytes_in, extras_span, value_span}
+use Rattle.request.specs.Reading.{Gate, Stop, Whole, reading, whole_reading, frame_status, bytes_in, extras_span, value_span}
 use Rattle.commands.specs.declared.Command.{Command}
 use Rattle.commands.specs.declared.Command.TheVariants.{Get, Write, Delete, Count, Noop, Version, WithMeta, GetKeys, Join, Touch}
 use Rattle.commands.specs.Rules.{rule_of, tests_of, first_failure}
@@ -28,8 +25,7 @@ use Rattle.engine.specs.declared.Config.{Config}
 use Rattle.engine.specs.declared.EngineKind.{EngineKind}
 use Rattle.engines.specs.Damage.{sound_by}
 use Rattle.rows.specs.Table.{table_of, table_at, clock_at}
-use Rattle.serving.specs.declared.Served.TheVariants.{Done}
-use Rattle.serving.specs.Serve.{gate_all, reaches_decision}
+use Rattle.serving.specs.Serve.{Done, gate_all, reaches_decision}
 use Rattle.serving.specs.Serve.{frame_effect, frame_reply, answer_by, table_by, reply_by, served, served_table, served_reply}
 use Rattle.serving.proofs.Formed.{no}
 use Rattle.serving.proofs.Gated.{was-open}

@@ -4,15 +4,12 @@ use Rattle.octets.specs.Parts.{Bytes}
 use Rattle.octets.specs.BigEndian.{num}
 use Rattle.shape.specs.Shapes.{among}
 use Rattle.header.specs.Header.{header_of}
-use Rattle.request.specs.declared.Gate.TheVariants.{Whole}
-use Rattle.request.specs.declared.Reading.TheVariants.{Status}
-use Rattle.request.specs.Reading.{gate_of, reading}
+use Rattle.request.specs.Reading.{Status, Whole, gate_of, reading}
 use Rattle.rows.specs.Table.{table_of, table_at, clock_at}
 use Rattle.engine.specs.declared.Config.{Config}
 use Rattle.engine.specs.declared.EngineKind.{EngineKind}
 use Rattle.engines.specs.Damage.{sound_by}
-use Rattle.serving.specs.declared.Served.TheVariants.{Done}
-use Rattle.serving.specs.Serve.{reaches_decision, served, served_table, served_reply}
+use Rattle.serving.specs.Serve.{Done, reaches_decision, served, served_table, served_reply}
 use Rattle.serving.specs.Statuses.{statuses}
 use Rattle.promises.specs.Kept.{clock_raised}
 use Rattle.promises.specs.Expiry.{opcode, extras_in, with_metas, Passes, Answers}

@@ -8,6 +8,11 @@ ghost use Rattle.header.specs.Layout.{layout_of};
 
 use numbers::Cas;
 
+pub const SIZE: usize = 24;
+
+// The first byte of a request's frame.
+pub const REQUEST_MAGIC: u8 = 0x80;
+
 #[derive(Clone, Copy)]
 pub struct Header {
     pub magic: u8,
@@ -35,12 +40,12 @@ pub struct Layout {
 pub fn layout_of(h: Header) -> Layout
     ensures { result ≡ layout_of h }
 {
-    let key = 24 + h.extlen as usize;
+    let key = SIZE + h.extlen as usize;
     Layout {
-        extras: 24,
+        extras: SIZE,
         key,
         value: key + h.keylen as usize,
-        end: 24 + h.body as usize,
+        end: SIZE + h.body as usize,
     }
 }
 
@@ -92,7 +97,7 @@ fn put_back(out: &mut [u8], h: Header)
 pub fn put(out: &mut [u8], h: Header)
     ensures { out.new ≡ written out.old 0 (header_bytes h) }
 {
-    if 24 <= out.len() {
+    if SIZE <= out.len() {
         put_front(out, h);
         put_middle(out, h);
         put_back(out, h);

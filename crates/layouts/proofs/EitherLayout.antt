@@ -19,9 +19,7 @@ use Rattle.with_meta.specs.WithMeta.{with_meta}
 use Rattle.with_meta.specs.FieldRules.{with_meta_ok}
 use Rattle.rules.specs.Rules.{form_ok, meta_size, field_rules_ok, keeps_rules, is_forced, forces, judged, status}
 use Rattle.request.proofs.Gated.{whole-frame}
-use Rattle.request.specs.declared.Gate.{Gate}
-use Rattle.request.specs.declared.Gate.TheVariants.{Stop, Whole}
-use Rattle.request.specs.Reading.{frame_status, extras_span, value_span, bytes_in}
+use Rattle.request.specs.Reading.{Gate, Stop, Whole, frame_status, extras_span, value_span, bytes_in}
 use Rattle.commands.specs.declared.MetaKind.TheVariants.{Set, Add, Delete}
 use Rattle.decision.specs.Decide.{Effect}
 use Rattle.decode.specs.Decode.{meta_command, command_of, bare_value, request_of}

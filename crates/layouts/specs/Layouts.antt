@@ -5,12 +5,10 @@ use Rattle.shape.specs.Shapes.{among, shape_of}
 use Rattle.header.specs.Header.{header_of}
 use Rattle.with_meta.specs.WithMeta.{with_meta}
 use Rattle.rules.specs.Rules.{form_ok}
-use Rattle.request.specs.declared.Gate.TheVariants.{Whole}
-use Rattle.request.specs.Reading.{gate_of}
+use Rattle.request.specs.Reading.{Whole, gate_of}
 use Rattle.engine.specs.declared.Config.{Config}
 use Rattle.engines.specs.Damage.{sound_by}
-use Rattle.serving.specs.declared.Served.{Served}
-use Rattle.serving.specs.Serve.{served_outcome, served_status, served_length, served_needed, served, served_table, served_reply}
+use Rattle.serving.specs.Serve.{Served, served_outcome, served_status, served_length, served_needed, served, served_table, served_reply}
 use Rattle.promises.specs.Merge.{mode_at}
 use Rattle.promises.specs.Expiry.{opcode, extras_in, key_in, value_in, with_metas}
 

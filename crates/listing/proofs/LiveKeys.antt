@@ -5,7 +5,7 @@ use mathlib.Core.Path.{◌≡◌, sym, ap, ◌∙◌}
 use mathlib.Core.Logic.{◌⊎◌, inl, inr, ⊎_elim}
 use mathlib.Core.Bool.{true, false}
 use mathlib.Core.List.{List, [], ◌∷◌}
-use mathlib.Core.Option.{none, some}
+use Rattle.std.specs.Prelude.{Some, None}
 use lib.ListN.{length}
 use Rattle.octets.specs.Compare.{same}
 use Rattle.octets.proofs.Choices.{cases}
@@ -22,25 +22,25 @@ use Rattle.listing.proofs.Members.{Once, sort-one, one-sort, sort-rising, from_o
 -- a key's document that is live
 pub record Alive (docs : List Entry) (clock : ℕ) (k : Key) : Type 0 where
   pub doc : Doc
-  pub found : find_entry docs k ≡ some doc
-  pub live : live (stored_of (some doc)) clock ≡ true
+  pub found : find_entry docs k ≡ Some doc
+  pub live : live (stored_of (Some doc)) clock ≡ true
 
 module _ (clock : ℕ) where
   -- an entry's document is the one found: no later entry has its key
-  other_key : (e : Entry) (es : List Entry) (k : Key) (d : Doc) → find_entry es e.key ≡ none → find_entry es k ≡ some d → same e.key k ≡ false
+  other_key : (e : Entry) (es : List Entry) (k : Key) (d : Doc) → find_entry es e.key ≡ None → find_entry es k ≡ Some d → same e.key k ≡ false
   other_key e es k d n f =
       cases (same e.key k) (λ s. none-some d (sym n ∙ ap (find_entry es) (same_true e.key k s) ∙ f)) (λ s. s)
 
-  here : (e : Entry) (es : List Entry) (k : Key) → k ≡ e.key → find_entry (e ∷ es) k ≡ some e.doc
+  here : (e : Entry) (es : List Entry) (k : Key) → k ≡ e.key → find_entry (e ∷ es) k ≡ Some e.doc
   here e es k q = let s : same e.key k ≡ true = ap (same e.key) q ∙ same_refl e.key in rw s
 
-  alive-later : (e : Entry) (es : List Entry) (k : Key) → find_entry es e.key ≡ none → Alive es clock k → Alive (e ∷ es) clock k
+  alive-later : (e : Entry) (es : List Entry) (k : Key) → find_entry es e.key ≡ None → Alive es clock k → Alive (e ∷ es) clock k
   alive-later e es k n a = record { doc = a.doc; found = rw (other_key e es k a.doc n a.found) a.found; live = a.live }
 
   pub one-live : (docs : List Entry) (k : Key) → DistinctKeys docs → OneOf k (live_keys clock docs) → Alive docs clock k
   one-live [] k g m = absurd m
   one-live (e ∷ es) k g m =
-      cases (live (stored_of (some e.doc)) clock)
+      cases (live (stored_of (Some e.doc)) clock)
       (λ t.
       let n : (k ≡ e.key) ⊎ OneOf k (live_keys clock es) = rw t at m in
       ⊎_elim
@@ -49,23 +49,23 @@ module _ (clock : ℕ) where
       n)
       (λ f. alive-later e es k g.0 (one-live es k g.1 (rw f at m)))
 
-  pub live-one : (docs : List Entry) (k : Key) (d : Doc) → find_entry docs k ≡ some d → live (stored_of (some d)) clock ≡ true → OneOf k (live_keys clock docs)
+  pub live-one : (docs : List Entry) (k : Key) (d : Doc) → find_entry docs k ≡ Some d → live (stored_of (Some d)) clock ≡ true → OneOf k (live_keys clock docs)
   live-one [] k d f l = none-some d f
   live-one (e ∷ es) k d f l =
       cases (same e.key k)
       (λ s.
-      let q : some e.doc ≡ some d = rw s at f in
+      let q : Some e.doc ≡ Some d = rw s at f in
       let p : e.doc ≡ d = cc in
-      let t : live (stored_of (some e.doc)) clock ≡ true = rw p l in
+      let t : live (stored_of (Some e.doc)) clock ≡ true = rw p l in
       rw t (inl (sym (same_true e.key k s))))
       (λ s.
       let m = live-one es k d (rw s at f) l in
-      cases (live (stored_of (some e.doc)) clock) (λ t. rw t (inr m)) (λ t. rw t m))
+      cases (live (stored_of (Some e.doc)) clock) (λ t. rw t (inr m)) (λ t. rw t m))
 
   once-live : (docs : List Entry) → DistinctKeys docs → Once (live_keys clock docs)
   once-live [] g = tt
   once-live (e ∷ es) g =
-      cases (live (stored_of (some e.doc)) clock)
+      cases (live (stored_of (Some e.doc)) clock)
       (λ t.
       let n : OneOf e.key (live_keys clock es) → ⊥ = λ m. let a = one-live es e.key g.1 m in none-some a.doc (sym g.0 ∙ a.found) in
       rw t (n, once-live es g.1))
@@ -100,7 +100,7 @@ module _ (clock : ℕ) where
 live-many : (clock : ℕ) (docs : List Entry) → length (live_keys clock docs) ≤ length docs
 live-many clock [] = omega arith
 live-many clock (e ∷ es) =
-    cases (live (stored_of (some e.doc)) clock)
+    cases (live (stored_of (Some e.doc)) clock)
     (λ t. rw t (omega (arith, live-many clock es)))
     (λ f. rw f (omega (arith, live-many clock es)))
 

@@ -4,7 +4,7 @@ use Prim.Native.Nat.{ℕ, zero, suc, ◌-◌, ◌≤◌}
 use mathlib.Core.Path.{◌≡◌, refl, sym, ap, ◌∙◌}
 use mathlib.Core.Logic.{inl, inr}
 use mathlib.Core.List.{List, [], ◌∷◌, ◌++◌, append_assoc}
-use mathlib.Core.Option.{some}
+use Rattle.std.specs.Prelude.{Some}
 use lib.ListN.{length, drop, length-append}
 use Rattle.document.specs.Documents.{Key, Doc, Entry}
 use Rattle.engine.specs.Engine.{find_entry, DistinctKeys}
@@ -84,7 +84,7 @@ none_more : (n : ℕ) (docs : List Entry) (clock : ℕ) (last : Key) (count : �
 none_more zero docs clock last count e = refl
 none_more (suc n) docs clock last count e = more-step n docs clock last count [] (ap (drop 1) (none-shown docs clock last count e)) ∙ none_more n docs clock last count e
 
-module _ (docs : List Entry) (clock : ℕ) (count : ℕ) (g : DistinctKeys docs) (short : (k : Key) (d : Doc) → find_entry docs k ≡ some d → length k ≤ 250) (h : 2 ≤ count) where
+module _ (docs : List Entry) (clock : ℕ) (count : ℕ) (g : DistinctKeys docs) (short : (k : Key) (d : Doc) → find_entry docs k ≡ Some d → length k ≤ 250) (h : 2 ≤ count) where
   key-short : (start k : Key) → OneOf k (keys_from docs clock start) → length k ≤ 250
   key-short start k m = let l = keys-lists clock docs start k g m in short k l.doc l.found
 

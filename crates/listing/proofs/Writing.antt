@@ -2,15 +2,15 @@
 use native.Mathlib.Omega.{arith}
 use native.Mathlib.Nat.{zero-add}
 use mathlib.Core.Path.{◌≡◌, refl, sym, ap, ◌∙◌}
-use mathlib.Core.Bool.{true, false, ◌&&◌, and-false}
+use mathlib.Core.Bool.{and-false}
 use mathlib.Core.List.{List, [], ◌∷◌, ◌++◌}
 use Prim.Native.Nat.{ℕ, ◌+◌, ◌-◌, ◌≤◌, ◌<◌}
-use lib.Dec.{ltb, leb}
+use lib.Dec.{leb}
 use lib.ListN.{length}
-use borrow.Author.Tests.{ltb-true, ltb-false, lt-leb, leb-true, leb-false}
+use borrow.Author.Tests.{lt-leb, leb-true, leb-false}
 use Rattle.octets.specs.Parts.{written}
 use Rattle.octets.specs.BigEndian.{bytes_of}
-use Rattle.octets.proofs.Choices.{cases, both}
+use Rattle.octets.proofs.Choices.{cases}
 use Rattle.octets.proofs.Lists.{written_none, written-not, length-written, then-two}
 use Rattle.octets.proofs.Numbers.{length-bytes}
 use Rattle.document.specs.Documents.{Key}
@@ -44,10 +44,6 @@ pub record Partly (out₀ whole out : List ℕ) (left size : ℕ) (ks : List Key
 pub begun : (out : List ℕ) (count : ℕ) (ks : List Key) → Partly out (keys_bytes (taken count 1278 ks)) out count 0 ks
 begun out count ks = record { within = omega arith; long = refl; count = zero-add (length (left_bytes count 0 ks)); bytes = refl }
 
--- the code's test for one more key
-pub both_left : (j n left : ℕ) → (ltb j n && ltb 0 left) ≡ true → (j < n) × (0 < left)
-both_left j n left e = let t = both (ltb j n) (ltb 0 left) e in (ltb-true j n t.0, ltb-true 0 left t.1)
-
 module _ (out₀ whole out : List ℕ) (left size : ℕ) (ks : List Key) (p : Partly out₀ whole out left size ks) where
   nothing_left : left_bytes left size ks ≡ [] → (size ≡ length whole) × (out ≡ written out₀ 24 whole)
   nothing_left z = (
@@ -55,28 +51,17 @@ module _ (out₀ whole out : List ℕ) (left size : ℕ) (ks : List Key) (p : Pa
     sym (nothing_written out (24 + size)) ∙ ap (written out (24 + size)) (sym z) ∙ p.bytes,
   )
 
-  -- the end of the keys, or of the count
-  pub all-written : (j n : ℕ) → (n ≤ j → ks ≡ []) → (ltb j n && ltb 0 left) ≡ false → (size ≡ length whole) × (out ≡ written out₀ 24 whole)
-  all-written j n none e =
-      cases (ltb j n)
-      (λ t.
-      let f : ltb 0 left ≡ false = rw t at e in
-      let z : left ≡ 0 = omega (arith, ltb-false 0 left f) in
-      nothing_left (ap (λ (m : ℕ). left_bytes m size ks) z ∙ ap keys_bytes (taken_none (1278 - size) ks)))
-      (λ f. nothing_left (ap (left_bytes left size) (none (ltb-false j n f))))
+  -- the end of the count, and of the keys
+  pub out-of-count : left ≡ 0 → (size ≡ length whole) × (out ≡ written out₀ 24 whole)
+  out-of-count z = nothing_left (ap (λ (m : ℕ). left_bytes m size ks) z ∙ ap keys_bytes (taken_none (1278 - size) ks))
+
+  pub out-of-keys : ks ≡ [] → (size ≡ length whole) × (out ≡ written out₀ 24 whole)
+  out-of-keys e = nothing_left (ap (left_bytes left size) e)
 
   module _ (k : Key) (rest : List Key) (e : ks ≡ k ∷ rest) where
     -- a key that doesn't fit
-    pub stopped : 1278 - size < 4 + length k → Partly out₀ whole out 0 size rest
-    stopped h =
-        let z : left_bytes 0 size rest ≡ left_bytes left size ks =
-        ap keys_bytes (taken_none (1278 - size) rest) ∙ sym (ap keys_bytes (ap (taken left (1278 - size)) e ∙ taken-full left (1278 - size) k rest h)) in
-        record {
-          within = p.within;
-          long = p.long;
-          count = ap (λ (xs : List ℕ). size + length xs) z ∙ p.count;
-          bytes = ap (written out (24 + size)) z ∙ p.bytes;
-        }
+    pub out-of-room : 1278 - size < 4 + length k → (size ≡ length whole) × (out ≡ written out₀ 24 whole)
+    out-of-room h = nothing_left (ap keys_bytes (ap (taken left (1278 - size)) e ∙ taken-full left (1278 - size) k rest h))
 
     -- a key that is written: its length, and then its bytes
     module _ (room : 1302 ≤ length out₀) (some : 0 < left) (fits : 4 + length k ≤ 1278 - size) where

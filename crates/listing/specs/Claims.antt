@@ -1,6 +1,5 @@
 -- What is claimed of a listing, of any documents with different keys. Proved in proofs/.
-use Rattle.std.specs.Prelude.{ℕ, zero, suc, ◌+◌, ◌≤◌, ◌<◌, ◌≡◌, true, false, List, [], ◌∷◌, ◌++◌, ◌⊎◌, length, drop}
-use Rattle.std.proofs.Math.Option.{some}
+use Rattle.std.specs.Prelude.{ℕ, zero, suc, ◌+◌, ◌≤◌, ◌<◌, ◌≡◌, true, false, List, [], ◌∷◌, ◌++◌, ◌⊎◌, length, drop, Some}
 use Rattle.keys.specs.Keys.{key_below}
 use Rattle.document.specs.Documents.{Key, Doc, Entry}
 use Rattle.document.specs.Stored.{stored_of, live}
@@ -24,8 +23,8 @@ Rising (x ∷ xs) = BelowAll x xs × Rising xs
 -- a key whose document is live, at or after a start key
 pub record Lists (docs : List Entry) (clock : ℕ) (start k : Key) : Type 0 where
   pub doc : Doc
-  pub found : find_entry docs k ≡ some doc
-  pub live : live (stored_of (some doc)) clock ≡ true
+  pub found : find_entry docs k ≡ Some doc
+  pub live : live (stored_of (Some doc)) clock ≡ true
   pub after : key_below k start ≡ false
 
 -- why such a key is not listed: it comes after every key listed, and the count was reached, or the first of those left out would not have fitted
@@ -92,5 +91,5 @@ pages n docs clock start count =
 -- so a planner who asks for at least two keys a page comes to the end of a full table: as many pages as there are documents, the first and n more, show every key
 abbrev pub PagesAll : Type 0
 PagesAll =
-    (docs : List Entry) (clock : ℕ) (start : Key) (count n : ℕ) → DistinctKeys docs → ((k : Key) (d : Doc) → find_entry docs k ≡ some d → length k ≤ 250)
+    (docs : List Entry) (clock : ℕ) (start : Key) (count n : ℕ) → DistinctKeys docs → ((k : Key) (d : Doc) → find_entry docs k ≡ Some d → length k ≤ 250)
     → 2 ≤ count → length docs ≤ suc n → pages n docs clock start count ≡ keys_from docs clock start

@@ -1,6 +1,5 @@
 -- Order 1, key listing, from the documents alone: "Exactly the live keys at or after the start key, in byte order, each once, stopping at the count or before the first key that would carry the value past 1,278 bytes."
-use Rattle.std.specs.Prelude.{ℕ, ◌+◌, ◌-◌, cond, ◌&&◌, List, [], ◌∷◌, ◌++◌, leb, length}
-use Rattle.std.proofs.Math.Option.{some}
+use Rattle.std.specs.Prelude.{ℕ, ◌+◌, ◌-◌, cond, ◌&&◌, List, [], ◌∷◌, ◌++◌, leb, length, Some}
 use Rattle.octets.specs.BigEndian.{bytes_of}
 use Rattle.keys.specs.Keys.{key_below}
 use Rattle.document.specs.Documents.{Key, Entry}
@@ -9,7 +8,7 @@ use Rattle.document.specs.Stored.{stored_of, live}
 -- "Exactly the live keys": those whose document is live at a clock
 abbrev pub live_keys : ℕ → List Entry → List Key
 live_keys clock [] = []
-live_keys clock (e ∷ es) = cond (live (stored_of (some e.doc)) clock) (e.key ∷ live_keys clock es) (live_keys clock es)
+live_keys clock (e ∷ es) = cond (live (stored_of (Some e.doc)) clock) (e.key ∷ live_keys clock es) (live_keys clock es)
 
 -- "in byte order": a key goes before the first one that is not below it
 abbrev pub insert_key : Key → List Key → List Key

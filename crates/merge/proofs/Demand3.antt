@@ -3,7 +3,7 @@ use Prim.Native.Nat.{ℕ}
 use mathlib.Core.Path.{◌≡◌, refl, sym, ◌∙◌}
 use mathlib.Core.Bool.{true, false, cond, ◌||◌}
 use mathlib.Core.List.{List, [], ◌∷◌}
-use mathlib.Core.Option.{some}
+use Rattle.std.specs.Prelude.{Some}
 use lib.Dec.{ltb}
 use borrow.Author.Tests.{lt-ltb}
 use Rattle.octets.specs.Compare.{same}
@@ -86,7 +86,7 @@ module _ (E : Engine) (L : Laws E) where
     ends : (k : Key) → doc_in E (table_after E t cs) k ≡ best (mode E t) (doc_in E t k) (for k (writes_of cs))
     ends k = rw run.0 (find-all E L (mode E t) t.head.mark.0 t.rows (writes_of cs) ready k)
 
-    winner : (k : Key) → is_written k (writes_of cs) ≡ true → (d : Doc) × (doc_in E (table_after E t cs) k ≡ some d) × Greatest (mode E t) d (candidates_on E t cs k)
+    winner : (k : Key) → is_written k (writes_of cs) ≡ true → (d : Doc) × (doc_in E (table_after E t cs) k ≡ Some d) × Greatest (mode E t) d (candidates_on E t cs k)
     winner k w =
         let (d, rest, e) = for_some k (writes_of cs) w in
         rw (ends k, e) (best-greatest (mode E t) (doc_in E t k) d rest (rw e at (p.unique k)))

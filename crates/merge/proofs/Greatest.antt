@@ -1,14 +1,13 @@
 -- One key: what its row holds after a list of writes is the greatest of what it held and what was written.
+use Rattle.std.specs.Prelude.{is_some, Option, Some, None}
 use mathlib.Core.Path.{◌≡◌, refl, sym, ◌∙◌}
 use mathlib.Core.Bool.{Bool, true, false, cond, and-true, and-false, true≢false}
 use mathlib.Core.Logic.{inl, inr, ⊎_elim}
 use mathlib.Core.List.{List, [], ◌∷◌, ◌++◌}
-use mathlib.Core.Option.{Option, none, some}
 use Rattle.octets.proofs.Choices.{cases}
 use Rattle.numbers.specs.declared.Mode.{Mode}
 use Rattle.numbers.proofs.OrderLaws.{strict-total}
 use Rattle.document.specs.Documents.{Doc}
-use Rattle.engine.specs.Engine.{is_some}
 use Rattle.document.specs.Stored.{stored_of, accepted}
 use Rattle.merge.specs.Writes.{greater_doc, ◌∈◌, Greatest, option_list, beats_all}
 
@@ -21,7 +20,7 @@ wins m o d = accepted m (stored_of o) d.numbers
 
 -- what the row holds after a write, and after a list of writes
 abbrev pub merged : Mode → Option Doc → Doc → Option Doc
-merged m o d = cond (wins m o d) (some d) o
+merged m o d = cond (wins m o d) (Some d) o
 
 abbrev pub best : Mode → Option Doc → List Doc → Option Doc
 best m o [] = o
@@ -34,8 +33,8 @@ best-append m o (x ∷ xs) ys = best-append m (merged m o x) xs ys
 module _ (m : Mode) where
   pub merged_some : (o : Option Doc) (d : Doc) → is_some (merged m o d) ≡ true
   unfolding accepted
-  merged_some none d = refl
-  merged_some (some e) d = cases (greater_doc m d e) (λ t. rw t) (λ f. rw f)
+  merged_some None d = refl
+  merged_some (Some e) d = cases (greater_doc m d e) (λ t. rw t) (λ f. rw f)
 
   -- ---- the order on documents
   asymmetric : (a b : Doc) → greater_doc m a b ≡ true → greater_doc m b a ≡ false
@@ -54,13 +53,13 @@ module _ (m : Mode) where
   -- a write wins over what the row has come to hold exactly if it beats all that was there
   pub wins-all : (o : Option Doc) (ds : List Doc) (w : Doc) → wins m (best m o ds) w ≡ beats_all m w (option_list o ++ ds)
   unfolding accepted
-  wins-all none [] w = refl
-  wins-all (some e) [] w = sym (and-true (greater_doc m w e))
-  wins-all none (d ∷ ds) w = wins-all (some d) ds w
-  wins-all (some e) (d ∷ ds) w =
+  wins-all None [] w = refl
+  wins-all (Some e) [] w = sym (and-true (greater_doc m w e))
+  wins-all None (d ∷ ds) w = wins-all (Some d) ds w
+  wins-all (Some e) (d ∷ ds) w =
       cases (greater_doc m d e)
-      (λ t. rw t (wins-all (some d) ds w ∙ cases (greater_doc m w d) (λ p. rw (p, (strict-total m).transitive w.numbers d.numbers e.numbers p t)) (λ p. rw (p, and-false))))
-      (λ f. rw f (wins-all (some e) ds w ∙ cases (greater_doc m w e) (λ p. rw (p, over w e d p f)) (λ p. rw p)))
+      (λ t. rw t (wins-all (Some d) ds w ∙ cases (greater_doc m w d) (λ p. rw (p, (strict-total m).transitive w.numbers d.numbers e.numbers p t)) (λ p. rw (p, and-false))))
+      (λ f. rw f (wins-all (Some e) ds w ∙ cases (greater_doc m w e) (λ p. rw (p, over w e d p f)) (λ p. rw p)))
 
   -- ---- the greatest: from a document on, `best` is a document
   abbrev top : Doc → List Doc → Doc
@@ -70,7 +69,7 @@ module _ (m : Mode) where
   by-step : (P : Doc → Type 0) (e d : Doc) (ds : List Doc) → (greater_doc m d e ≡ true → P (top d ds)) → (greater_doc m d e ≡ false → P (top e ds)) → P (top e (d ∷ ds))
   by-step P e d ds t f = cases (greater_doc m d e) (λ a. rw a (t a)) (λ a. rw a (f a))
 
-  best-top : (e : Doc) (ds : List Doc) → best m (some e) ds ≡ some (top e ds)
+  best-top : (e : Doc) (ds : List Doc) → best m (Some e) ds ≡ Some (top e ds)
   unfolding accepted
   best-top e [] = refl
   best-top e (d ∷ ds) = cases (greater_doc m d e) (λ t. rw t (best-top d ds)) (λ f. rw f (best-top e ds))
@@ -114,7 +113,7 @@ module _ (m : Mode) where
 
   -- where anything is written, what the row ends with is the greatest
   pub best-greatest : (o : Option Doc) (d : Doc) (ds : List Doc) → Unique (option_list o ++ d ∷ ds)
-      → (r : Doc) × (best m o (d ∷ ds) ≡ some r) × Greatest m r (option_list o ++ d ∷ ds)
+      → (r : Doc) × (best m o (d ∷ ds) ≡ Some r) × Greatest m r (option_list o ++ d ∷ ds)
   unfolding accepted
-  best-greatest none d ds u = (top d ds, best-top d ds, top-greatest d ds u)
-  best-greatest (some e) d ds u = (top e (d ∷ ds), best-top e (d ∷ ds), top-greatest e (d ∷ ds) u)
+  best-greatest None d ds u = (top d ds, best-top d ds, top-greatest d ds u)
+  best-greatest (Some e) d ds u = (top e (d ∷ ds), best-top e (d ∷ ds), top-greatest e (d ∷ ds) u)

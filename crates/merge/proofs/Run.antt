@@ -1,9 +1,9 @@
 -- A list of writes on one engine: rows, mark and statuses, each write by what the one before left.
+use Rattle.std.specs.Prelude.{is_some, Option, Some}
 use native.Mathlib.Omega.{arith}
 use mathlib.Core.Path.{◌≡◌, refl, ◌∙◌, fun_ext}
 use mathlib.Core.Bool.{Bool, cond, ◌||◌}
 use mathlib.Core.List.{List, [], ◌∷◌, ◌++◌}
-use mathlib.Core.Option.{Option, some}
 use Prim.Native.Nat.{ℕ, ◌≤◌, max}
 use Rattle.octets.specs.Compare.{same}
 use Rattle.octets.proofs.Choices.{cases}
@@ -12,7 +12,7 @@ use Rattle.numbers.specs.declared.Mode.{Mode}
 use Rattle.numbers.specs.declared.Mode.TheVariants.{LastWrite}
 use Rattle.numbers.proofs.OrderLaws.{not-later}
 use Rattle.document.specs.Documents.{Key, Doc, Entry}
-use Rattle.engine.specs.Engine.{Engine, Laws, Room, is_some}
+use Rattle.engine.specs.Engine.{Engine, Laws, Room}
 use Rattle.document.specs.Stored.{accepted}
 use Rattle.octets.proofs.Options.{options}
 use Rattle.merge.specs.Writes.{greater_doc, option_list, for, new_keys, largest_cas, beats_all, verdicts, applied}
@@ -47,7 +47,7 @@ has E r k = is_some (E.find r k)
 
 -- each stored CAS is at most n
 abbrev Below : (E : Engine) → ℕ → E.Rows → Type 0
-Below E n r = (k : Key) (d : Doc) → E.find r k ≡ some d → d.numbers.cas.0 ≤ n
+Below E n r = (k : Key) (d : Doc) → E.find r k ≡ Some d → d.numbers.cas.0 ≤ n
 
 -- what holds before a list of writes, and so before the rest of it
 pub record Ready (E : Engine) (n : ℕ) (r : E.Rows) (ws : List Entry) : Type 0 where
@@ -82,10 +82,10 @@ module _ (E : Engine) (L : Laws E) (m : Mode) where
   room-first : (r : E.Rows) (w : Entry) (ws : List Entry) → new_keys (has E r) (w ∷ ws) ≤ E.free r → Room E r w.key
   room-first r w ws h n = let h' = rw n at h in omega arith
 
-  known-already : (r : E.Rows) (i : Key) (d : Doc) → E.find r i ≡ some d → ◌≡◌ {A = Key → Bool} (λ k. same i k || has E r k) (has E r)
+  known-already : (r : E.Rows) (i : Key) (d : Doc) → E.find r i ≡ Some d → ◌≡◌ {A = Key → Bool} (λ k. same i k || has E r k) (has E r)
   known-already r i d h = fun_ext (λ k. cases (same i k) (λ s. rw (s, ← same_true i k s, h)) (λ s. rw s))
 
-  free-kept : (r : E.Rows) (w : Entry) (d : Doc) → E.Good r → E.find r w.key ≡ some d → E.free (written E m r w) ≡ E.free r
+  free-kept : (r : E.Rows) (w : Entry) (d : Doc) → E.Good r → E.find r w.key ≡ Some d → E.free (written E m r w) ≡ E.free r
   free-kept r w d g h = cases (wins m (E.find r w.key) w.doc) (λ t. rw t (L.free-old r w.key w.doc d g h)) (λ f. rw f)
 
   room-rest : (r : E.Rows) (w : Entry) (ws : List Entry) → E.Good r → new_keys (has E r) (w ∷ ws) ≤ E.free r → new_keys (has E (written E m r w)) ws ≤ E.free (written E m r w)

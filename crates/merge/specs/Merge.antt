@@ -1,6 +1,5 @@
 -- Demand 3 for any engine that meets the laws: a whole list of with-meta calls, each decided on the table as the one before left it.
-use Rattle.std.specs.Prelude.{◌≡◌, true, false, List, [], ◌∷◌, ◌++◌, map, ℕ, ◌≤◌, ltb}
-use Rattle.std.proofs.Math.Option.{Option, some}
+use Rattle.std.specs.Prelude.{is_some, ◌≡◌, true, false, List, [], ◌∷◌, ◌++◌, map, ℕ, ◌≤◌, ltb, Option, Some}
 use Rattle.numbers.specs.declared.Mode.{Mode}
 use Rattle.numbers.specs.declared.Mode.TheVariants.{LastWrite}
 use Rattle.numbers.specs.Order.{mode_of}
@@ -8,7 +7,7 @@ use Rattle.numbers.specs.Expiry.{later}
 use Rattle.document.specs.declared.Head.{Head}
 use Rattle.document.specs.Head.{marked, clocked, at_clock}
 use Rattle.document.specs.Documents.{Key, Doc, Entry}
-use Rattle.engine.specs.Engine.{Engine, Laws, is_some, store_row}
+use Rattle.engine.specs.Engine.{Engine, Laws, store_row}
 use Rattle.decision.specs.Decide.{Effect, decide}
 use Rattle.decision.specs.Merging.{RequestAt, MergingRequest, meta, write_of}
 use Rattle.merge.specs.Writes.{◌∈◌, Greatest, option_list, for, is_written, new_keys, latest, largest_cas, verdicts, applied}
@@ -62,7 +61,7 @@ mode E t = mode_of t.head.mode
 -- undamaged, as far as an engine shows it
 pub record Sound (E : Engine) (t : State E) : Type 0 where
   pub good : E.Good t.rows
-  pub below : (k : Key) (d : Doc) → doc_in E t k ≡ some d → d.numbers.cas.0 ≤ t.head.mark.0
+  pub below : (k : Key) (d : Doc) → doc_in E t k ≡ Some d → d.numbers.cas.0 ≤ t.head.mark.0
 
 pub record MergePremises (E : Engine) (t : State E) (cs : List RequestAt) : Type 0 where
   pub sound : Sound E t
@@ -76,7 +75,7 @@ pub record MergePremises (E : Engine) (t : State E) (cs : List RequestAt) : Type
 pub record MergedState (E : Engine) (t : State E) (cs : List RequestAt) : Type 0 where
   -- "each written key ends with the greatest, in the published order, of the documents that its writes carry and the one stored at the start"
   pub winner : (k : Key) → is_written k (writes_of cs) ≡ true
-      → (d : Doc) × (doc_in E (table_after E t cs) k ≡ some d) × Greatest (mode E t) d (candidates_on E t cs k)
+      → (d : Doc) × (doc_in E (table_after E t cs) k ≡ Some d) × Greatest (mode E t) d (candidates_on E t cs k)
   -- "Every other document is as before, and no other key gains one."
   pub others : (k : Key) → is_written k (writes_of cs) ≡ false → doc_in E (table_after E t cs) k ≡ doc_in E t k
   pub statuses : statuses_of E t cs ≡ verdicts (mode E t) (doc_in E t) [] (writes_of cs)

@@ -1,6 +1,5 @@
 -- A list of writes, and what document 01 says of it, without any table.
-use Rattle.std.specs.Prelude.{◌≡◌, Bool, true, false, cond, ◌&&◌, ◌||◌, ◌⊎◌, List, [], ◌∷◌, ◌++◌, ℕ, suc, max, eqb}
-use Rattle.std.proofs.Math.Option.{Option, none, some}
+use Rattle.std.specs.Prelude.{◌≡◌, Bool, true, false, cond, ◌&&◌, ◌||◌, ◌⊎◌, List, [], ◌∷◌, ◌++◌, ℕ, suc, max, eqb, Option, Some, None}
 use Rattle.octets.specs.Compare.{same}
 use Rattle.numbers.specs.declared.Mode.{Mode}
 use Rattle.numbers.specs.Order.{greater}
@@ -23,8 +22,8 @@ pub record Greatest (m : Mode) (d : Doc) (ds : List Doc) : Type 0 where
 
 -- the document that a key holds, if any, as a list
 abbrev pub option_list : Option Doc → List Doc
-option_list none = []
-option_list (some e) = e ∷ []
+option_list None = []
+option_list (Some e) = e ∷ []
 
 -- the documents written for a key
 abbrev pub for : Key → List Entry → List Doc

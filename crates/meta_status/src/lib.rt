@@ -2,47 +2,32 @@
 #![tactic(auto)]
 
 ghost use Rattle.std.specs.Prelude.{◌≡◌};
-ghost use Rattle.commands.specs.Rules.{is_last, meta_rule, status_by};
+ghost use Rattle.commands.specs.Rules.{meta_rule, status_by};
+ghost use Rattle.outcome.specs.Outcome.{status_of};
 
-use commands::{Context, Instruction, Meta, Tests, status};
+use commands::{Context, Instruction, Meta, PASSING, Tests, status};
 use numbers::Mode;
-
-fn is_last(m: Mode) -> bool
-    ensures { result ≡ is_last m }
-{
-    match m {
-        Mode::ByRevision => false,
-        Mode::LastWrite => true,
-    }
-}
+use outcome::Status;
 
 // fresh: a live document is refused.
-pub fn meta_status(c: Context, i: Instruction, w: Meta, fresh: bool) -> u8
-    ensures { result ≡ status_by c i (meta_rule c w fresh) }
+pub fn meta_status(c: Context, i: Instruction, w: Meta, fresh: bool) -> Result<(), Status>
+    ensures { status_of result ≡ status_by c i (meta_rule c w fresh) }
 {
-    let head = c.head;
-    let row = c.row;
-    let given = w.numbers;
-    let m = numbers::mode_of(head.mode);
-    let lww = is_last(m);
-    let wins = document::accepted(m, row, given);
-    let here = status::is_here(head, i.vbucket);
-    let live = document::live(row, c.clock);
-    let old = document::numbers_of(row);
-    let used = document::has_row(row);
-    let guard = i.cas.0 != 0;
+    let mode = numbers::mode_of(c.head.mode);
+    let last = mode == Mode::LastWrite;
+    let wins = document::accepted(mode, c.row, w.numbers);
+    let live = c.is_live();
+    let guard = i.is_guarded();
     status::first_status(Tests {
-        fault: w.last != lww,
+        fault: w.last != last,
         unsupported: i.unsupported,
-        long: 1024 < i.size,
-        elsewhere: !here,
-        unstored: false,
+        long: i.is_long(),
+        elsewhere: !status::is_here(c.head, i.vbucket),
         missing: guard & !live,
         conflict: !(w.force | (w.skip | wins))
-            | ((fresh & live) | (guard & (i.cas.0 != old.cas.0))),
-        joined: false,
-        number: false,
-        spent: w.regenerate & (head.mark.0 == 0xffffffffffffffff),
-        full: !(used | c.free),
+            | ((fresh & live) | (guard & (i.cas.0 != c.stored().cas.0))),
+        spent: w.regenerate & (c.head.mark.0 == u64::MAX),
+        full: !c.has_room(),
+        ..PASSING
     })
 }

@@ -1,7 +1,7 @@
 -- The claims of specs/Claims.antt on the seconds left.
 use Rattle.std.proofs.Common.{eqb, ℤ, pos, ◌+ℤ◌, ◌-ℤ◌, neg_ℤ, sym, refl, ap, ◌∙◌, ne_eqb}
 use lib.IntN.{pos-+ℤ-pos, neg_ℤ-+ℤ, +ℤ_assoc, +ℤ_invr}
-use Rattle.numbers.specs.declared.Left.TheVariants.{Seconds}
+use Rattle.std.specs.Prelude.{Some}
 use Rattle.octets.proofs.Choices.{cases}
 use Rattle.numbers.specs.Expiry.{seconds_left, expired}
 use Rattle.numbers.specs.Claims.{ExpiredSaid, RunsDown, Ends}
@@ -20,4 +20,4 @@ runs-down expiry clock n z =
 
 pub ends : Ends
 unfolding seconds_left
-ends = record { first = refl; last = refl; at-expiry = λ e z. rw (ne_eqb e 0 z) (ap Seconds (+ℤ_invr (pos e))); never = λ c. refl }
+ends = record { first = refl; last = refl; at-expiry = λ e z. rw (ne_eqb e 0 z) (ap Some (+ℤ_invr (pos e))); never = λ c. refl }

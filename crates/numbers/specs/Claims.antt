@@ -1,6 +1,5 @@
 -- What is claimed of the published order, that in both modes it is a strict total order on the four numbers, and of the seconds left. Proved in proofs/OrderLaws.antt and proofs/LeftLaws.antt.
-use Rattle.std.specs.Prelude.{◌≡◌, ℕ, ◌+◌, ◌^◌, ◌<◌, true, false, not, ◌&&◌, pos, ◌-ℤ◌, ◌==◌, ◌≢◌, nat_le}
-use Rattle.numbers.specs.declared.Left.TheVariants.{Never, Seconds}
+use Rattle.std.specs.Prelude.{◌≡◌, ℕ, ◌+◌, ◌^◌, ◌<◌, true, false, not, ◌&&◌, pos, ◌-ℤ◌, ◌==◌, ◌≢◌, nat_le, Some, None}
 use Rattle.numbers.specs.Expiry.{seconds_left, seconds_in, expired}
 use Rattle.numbers.specs.declared.Numbers.{Numbers}
 use Rattle.numbers.specs.declared.Mode.{Mode}
@@ -28,7 +27,7 @@ RunsDown = (expiry clock n : ℕ) → (expiry ≢ 0) → seconds_in (seconds_lef
 
 -- "At the ends, expiry 4,294,967,295 at clock 0 gives 4,294,967,295, and expiry 1 at clock 4,294,967,295 gives -4,294,967,294."
 pub record Ends : Type 0 where
-  pub first : seconds_left 4294967295 0 ≡ Seconds (pos 4294967295)
-  pub last : seconds_left 1 4294967295 ≡ Seconds (pos 0 -ℤ pos 4294967294)
-  pub at-expiry : (expiry : ℕ) → (expiry ≢ 0) → seconds_left expiry expiry ≡ Seconds (pos 0)
-  pub never : (clock : ℕ) → seconds_left 0 clock ≡ Never
+  pub first : seconds_left 4294967295 0 ≡ Some (pos 4294967295)
+  pub last : seconds_left 1 4294967295 ≡ Some (pos 0 -ℤ pos 4294967294)
+  pub at-expiry : (expiry : ℕ) → (expiry ≢ 0) → seconds_left expiry expiry ≡ Some (pos 0)
+  pub never : (clock : ℕ) → seconds_left 0 clock ≡ None

@@ -23,7 +23,7 @@ pub struct Numbers {
 }
 
 // How a table resolves conflicts.
-#[derive(Clone, Copy)]
+#[derive(Clone, Copy, Debug, PartialEq, Eq)]
 pub enum Mode {
     ByRevision,
     LastWrite,
@@ -78,54 +78,37 @@ pub fn greater(m: Mode, a: Numbers, b: Numbers) -> bool
 pub fn later(kept: u32, clock: u32) -> u32
     ensures { result ≡ later kept clock }
 {
-    if kept < clock { clock } else { kept }
-}
-
-// The time that is left to a document: it never expires, or so many seconds, none or fewer once it has expired.
-#[derive(Clone, Copy)]
-pub enum Left {
-    Never,
-    Seconds(i64),
+    kept.max(clock)
 }
 
 // The time that is left from a clock on. Every command, listing, purge and the owner's read decide from it.
-pub fn seconds_left(expiry: u32, clock: u32) -> Left
+pub fn seconds_left(expiry: u32, clock: u32) -> Option<i64>
     ensures { result ≡ seconds_left expiry clock }
 {
     if expiry == 0 {
-        return Left::Never;
+        return None;
     }
-    Left::Seconds(expiry as i64 - clock as i64)
+    Some(expiry as i64 - clock as i64)
 }
 
-pub fn is_past(left: Left) -> bool
+pub fn is_past(left: Option<i64>) -> bool
     ensures { result ≡ is_past left }
 {
-    match left {
-        Left::Never => false,
-        Left::Seconds(n) => n <= 0,
-    }
+    matches!(left, Some(n) if n <= 0)
 }
 
 // The seconds that are left, 0 where there is no end.
-pub fn seconds_in(left: Left) -> i64
+pub fn seconds_in(left: Option<i64>) -> i64
     ensures { result ≡ seconds_in left }
 {
-    match left {
-        Left::Never => 0,
-        Left::Seconds(n) => n,
-    }
+    left.unwrap_or(0)
 }
 
 // A number without its sign.
 pub fn magnitude(n: i64) -> u64
     ensures { result ≡ unsigned_abs n }
 {
-    if 0 <= n {
-        return n as u64;
-    }
-    let less = -1 - n;
-    less as u64 + 1
+    n.unsigned_abs()
 }
 
 // The one test of an expiry.
@@ -149,19 +132,14 @@ pub fn absolute(expiry: u32, clock: u32) -> u32
     if (expiry == 0) | (2592000 < expiry) {
         return expiry;
     }
-    let sum = expiry as u64 + clock as u64;
-    if sum <= 0xffffffff {
-        sum as u32
-    } else {
-        0xffffffff
-    }
+    expiry.saturating_add(clock)
 }
 
 // One more; at 2^64 - 1, where the write is refused, the number itself.
 pub fn next(n: u64) -> u64
     ensures { result ≡ next n }
 {
-    if n < 0xffffffffffffffff { n + 1 } else { n }
+    n.saturating_add(1)
 }
 
 impl Cas {
@@ -175,7 +153,7 @@ impl Cas {
     pub fn larger(self, other: Cas) -> Cas
         ensures { result ≡ larger_cas self other }
     {
-        if self.0 < other.0 { other } else { self }
+        Cas(self.0.max(other.0))
     }
 }
 
@@ -192,12 +170,12 @@ impl Revision {
 pub fn increment(n: u64, delta: u64) -> u64
     ensures { result ≡ incremented n delta }
 {
-    std::num::wrapping_add_u64(n, delta)
+    n.wrapping_add(delta)
 }
 
 // A delta less, and no less than 0.
 pub fn decrement(n: u64, delta: u64) -> u64
     ensures { result ≡ decremented n delta }
 {
-    if delta <= n { n - delta } else { 0 }
+    n.saturating_sub(delta)
 }

@@ -11,12 +11,10 @@ fn paste_be(out: &mut [u8], at: usize, n: usize, v: u64)
     requires { at + n ≤ length out.old }
     ensures { out.new ≡ pasted out.old at (bytes_of n v) }
 {
-    let mut k = n;
-    let mut w = v;
-    while 0 < k {
-        k -= 1;
-        out[at + k] = (w % 256) as u8;
-        w = w / 256;
+    let mut left = v;
+    for k in (0..n).rev() {
+        out[at + k] = (left % 256) as u8;
+        left /= 256;
     }
 }
 
@@ -33,9 +31,7 @@ fn paste(out: &mut [u8], at: usize, s: &[u8])
     requires { at + length s.now ≤ length out.old }
     ensures { out.new ≡ pasted out.old at s.now }
 {
-    let end = at + s.len();
-    let room = &mut out[at..end];
-    room.copy_from_slice(s);
+    out[at..at + s.len()].copy_from_slice(s);
 }
 
 // The same by 32 bytes, and the last 32 once more, so that no byte is left to a slower loop. Those go by an array, which the
@@ -60,23 +56,23 @@ pub fn put_bytes(out: &mut [u8], at: usize, s: &[u8])
     }
     if s.len() < 32 {
         paste(out, at, s);
-        return;
+    } else {
+        paste_run(out, at, s);
     }
-    paste_run(out, at, s);
 }
 
-// Copies 32 bytes up, through an array: what they are copied over may be among them.
+// Copies 32 bytes up, through an array: what they are copied over may be among them. std has no copy_within here.
 fn move_chunk(out: &mut [u8], at: usize, by: usize)
     requires { at + 32 + by ≤ length out.old }
     ensures { out.new ≡ pasted out.old (at + by) (part out.old at 32) }
 {
-    let end = at + 32;
     let mut chunk = [0u8; 32];
-    chunk.copy_from_slice(&out[at..end]);
+    chunk.copy_from_slice(&out[at..at + 32]);
     paste(out, at + by, &chunk);
 }
 
-// From the last byte to the first, since each is copied over bytes that were copied before.
+// From the last byte to the first, since each is copied over bytes that were copied before. A `for` over the steps of 32 bytes was
+// tried: 1 to 4 ns more for 33 to 63 bytes, which take 11 to 15.
 fn move_run(out: &mut [u8], at: usize, n: usize, by: usize)
     requires { at + n + by ≤ length out.old }
     ensures { out.new ≡ pasted out.old (at + by) (part out.old at n) }
@@ -86,10 +82,8 @@ fn move_run(out: &mut [u8], at: usize, n: usize, by: usize)
         left -= 32;
         move_chunk(out, at + left, by);
     }
-    while 0 < left {
-        left -= 1;
-        let k = at + left;
-        out[k + by] = out[k];
+    for k in (0..left).rev() {
+        out[at + k + by] = out[at + k];
     }
 }
 
@@ -105,14 +99,13 @@ pub fn move_up(out: &mut [u8], at: usize, n: usize, by: usize)
     }
 }
 
+// `fill` was tried: it writes the last byte apart, 18.1 ns for 16.8 at 1,312 bytes.
 fn paste_zeros(out: &mut [u8], at: usize, n: usize)
     requires { at + n ≤ length out.old }
     ensures { out.new ≡ pasted out.old at (replicate n 0) }
 {
-    let mut i = 0;
-    while i < n {
-        out[at + i] = 0;
-        i += 1;
+    for k in 0..n {
+        out[at + k] = 0;
     }
 }
 

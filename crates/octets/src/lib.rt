@@ -5,26 +5,20 @@
 ghost use Rattle.std.specs.Prelude.{◌≡◌, ℕ, ◌+◌, ◌-◌, ◌^◌, ◌≤◌, ◌<◌, length, drop, leb};
 ghost use Rattle.octets.specs.Parts.{part};
 ghost use Rattle.octets.specs.BigEndian.{num};
-ghost use Rattle.octets.specs.Words.{little, word_at};
+ghost use Rattle.octets.specs.Words.{word_at};
 
 // a - b, or 0 where b is larger.
 pub fn minus(a: usize, b: usize) -> usize
     ensures { result ≡ a - b }
 {
-    if a < b {
-        return 0;
-    }
-    a - b
+    a.saturating_sub(b)
 }
 
 // The bytes from a place on.
 pub fn rest(s: &[u8], at: usize) -> &[u8]
     ensures { result.now ≡ drop at s.now }
 {
-    if at < s.len() {
-        return &s[at..];
-    }
-    &s[..0]
+    &s[at.min(s.len())..]
 }
 
 // The n bytes from a place on, or as many of them as there are.
@@ -32,26 +26,21 @@ pub fn part(s: &[u8], at: usize, n: usize) -> &[u8]
     ensures { result.now ≡ part s.now at n }
 {
     let tail = rest(s, at);
-    if n < tail.len() {
-        return &tail[..n];
-    }
-    tail
+    &tail[..n.min(tail.len())]
 }
 
 // Whether n bytes stand from a place on.
 pub fn fits(len: usize, at: usize, n: usize) -> bool
     ensures { result ≡ leb (at + n) len }
 {
-    if len < at {
-        return false;
-    }
-    n <= len - at
+    at <= len && n <= len - at
 }
 
+// A byte as a number, whose bound the sums below need.
 fn wide(x: u8) -> u64
     ensures { (result ≡ x) × (result < 256) }
 {
-    x as u64
+    u64::from(x)
 }
 
 // The number at a place, n bytes wide. The three widths below are this one.
@@ -60,10 +49,8 @@ fn number(s: &[u8], at: usize, n: usize) -> u64
     ensures { (result ≡ num s.now at n) × (result < 256 ^ n) }
 {
     let mut v: u64 = 0;
-    let mut i: usize = 0;
-    while i < n {
+    for i in 0..n {
         v = v * 256 + wide(s[at + i]);
-        i += 1;
     }
     v
 }
@@ -115,22 +102,12 @@ pub fn be64(s: &[u8], at: usize) -> u64
     number_there(s, at, 8)
 }
 
-// Four bytes, the first one the lowest.
-fn quarter(s: &[u8], at: usize) -> u64
-    requires { at + 4 ≤ length s.now }
-    ensures { (result ≡ little (part s.now at 4)) × (result < 4294967296) }
-{
-    wide(s[at]) + 256 * wide(s[at + 1]) + 65536 * wide(s[at + 2]) + 16777216 * wide(s[at + 3])
-}
-
 // The eight bytes at a place as the machine loads them, for comparing and mixing: one load, with no bytes turned.
 pub fn word(s: &[u8], at: usize) -> u64
     ensures { result ≡ word_at s.now at }
 {
-    if !fits(s.len(), at, 8) {
-        return 0;
+    match rest(s, at).first_chunk::<8>() {
+        Some(bytes) => u64::from_le_bytes(*bytes),
+        None => 0,
     }
-    let low = quarter(s, at);
-    let high = quarter(s, at + 4);
-    low + 4294967296 * high
 }

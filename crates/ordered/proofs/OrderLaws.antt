@@ -3,12 +3,12 @@ use native.Mathlib.Omega.{arith}
 use mathlib.Core.Path.{◌≡◌, refl, ◌∙◌}
 use mathlib.Core.Bool.{true, ◌&&◌, false≢true}
 use mathlib.Core.List.{List, [], ◌∷◌}
-use mathlib.Core.Option.{none, some}
+use Rattle.std.specs.Prelude.{Some, None}
+use Rattle.std.specs.declared.cmp.Ordering.{Ordering}
+use Rattle.std.specs.declared.cmp.Ordering.TheVariants.{Less, Greater}
 use Prim.Native.Nat.{ℕ, zero, suc}
 use lib.ListN.{replicate}
 use Rattle.octets.proofs.Choices.{both}
-use Rattle.keys.specs.declared.Side.{Side}
-use Rattle.keys.specs.declared.Side.TheVariants.{Less, Greater}
 use Rattle.keys.specs.Keys.{side_of}
 use Rattle.keys.proofs.KeyLaws.{sides, side-refl, side-equal, side-flip, side-trans, below-side, transitive, greater-same}
 use Rattle.document.specs.Documents.{Key}
@@ -19,10 +19,10 @@ use Rattle.ordered.specs.Order.{follows, ordered_from, ordered, row_side}
 use Rattle.ordered.specs.Claims.{OrderedDistinct, FreshOrdered}
 
 follows-trans : (a b c : Row) → follows a b ≡ true → follows b c ≡ true → follows a c ≡ true
-follows-trans a b none p q = refl
-follows-trans a none (some z) p q = absurd (false≢true q)
-follows-trans none (some y) (some z) p q = absurd (false≢true p)
-follows-trans (some x) (some y) (some z) p q = transitive x.key y.key z.key p q
+follows-trans a b None p q = refl
+follows-trans a None (Some z) p q = absurd (false≢true q)
+follows-trans None (Some y) (Some z) p q = absurd (false≢true p)
+follows-trans (Some x) (Some y) (Some z) p q = transitive x.key y.key z.key p q
 
 -- every row of a list may stand after a row; each row of a list after all those before it
 abbrev pub AllFollow : Row → List Row → Type 0
@@ -57,15 +57,15 @@ pub each-ordered : (ws : List Row) → EachFollows ws → ordered ws ≡ true
 each-ordered [] c = refl
 each-ordered (w ∷ ws) c = from_each w ws c
 
-pub not-less : (o : Side) → o ≡ Greater → o ≡ Less → ⊥
+pub not-less : (o : Ordering) → o ≡ Greater → o ≡ Less → ⊥
 not-less o g l = let z : ◌≡◌ {A = ℕ} 0 1 = cc in omega arith
 
 -- after a row that isn't below the key all are above it, and the key isn't there
 module _ (key : Key) where
   pub side_after : (w v : Row) → follows w v ≡ true → (row_side key w ≡ Less → ⊥) → row_side key v ≡ Greater
-  side_after w none p n = refl
-  side_after none (some e) p n = absurd (false≢true p)
-  side_after (some d) (some e) p n =
+  side_after w None p n = refl
+  side_after None (Some e) p n = absurd (false≢true p)
+  side_after (Some d) (Some e) p n =
       let l = below-side d.key e.key p in
       sides (side_of d.key key)
       (λ q. absurd (n q))
@@ -75,10 +75,10 @@ module _ (key : Key) where
       let r : side_of key e.key ≡ Less = side-trans key d.key e.key f l in
       side-flip key e.key ∙ rw r)
 
-  pub not_after : (w : Row) (ws : List Row) → AllFollow w ws → (row_side key w ≡ Less → ⊥) → find_row ws key ≡ none
+  pub not_after : (w : Row) (ws : List Row) → AllFollow w ws → (row_side key w ≡ Less → ⊥) → find_row ws key ≡ None
   not_after w [] a n = refl
-  not_after w (none ∷ ws) a n = not_after w ws a.1 n
-  not_after w (some e ∷ ws) a n = rw (greater-same e.key key (side_after w (some e) a.0 n)) (not_after w ws a.1 n)
+  not_after w (None ∷ ws) a n = not_after w ws a.1 n
+  not_after w (Some e ∷ ws) a n = rw (greater-same e.key key (side_after w (Some e) a.0 n)) (not_after w ws a.1 n)
 
 pub ordered-distinct : OrderedDistinct
 ordered-distinct r o = distinct-each r (ordered-each r o)
@@ -88,17 +88,17 @@ ordered-distinct r o = distinct-each r (ordered-each r o)
 
     distinct-each : (ws : List Row) → EachFollows ws → Distinct ws
     distinct-each [] c = tt
-    distinct-each (none ∷ ws) c = distinct-each ws c.1
-    distinct-each (some x ∷ ws) c = (not_after x.key (some x) ws c.0 (own-side x.key), distinct-each ws c.1)
+    distinct-each (None ∷ ws) c = distinct-each ws c.1
+    distinct-each (Some x ∷ ws) c = (not_after x.key (Some x) ws c.0 (own-side x.key), distinct-each ws c.1)
 
 -- free rows
-pub follow-free : (w : Row) (n : ℕ) → AllFollow w (replicate n none)
+pub follow-free : (w : Row) (n : ℕ) → AllFollow w (replicate n None)
 follow-free w zero = tt
 follow-free w (suc n) = (refl, follow-free w n)
 
-pub each_free : (n : ℕ) → EachFollows (replicate n none)
+pub each_free : (n : ℕ) → EachFollows (replicate n None)
 each_free zero = tt
-each_free (suc n) = (follow-free none n, each_free n)
+each_free (suc n) = (follow-free None n, each_free n)
 
 pub fresh-ordered : FreshOrdered
-fresh-ordered n state mode vbucket = each-ordered (replicate n none) (each_free n)
+fresh-ordered n state mode vbucket = each-ordered (replicate n None) (each_free n)

@@ -3,7 +3,7 @@ use native.Mathlib.Omega.{arith}
 use mathlib.Core.Path.{◌≡◌, refl, ap, ◌∙◌}
 use mathlib.Core.Bool.{Bool, true, cond}
 use mathlib.Core.List.{List, [], ◌∷◌, ◌++◌}
-use mathlib.Core.Option.{Option, none, some}
+use Rattle.std.specs.Prelude.{Option, Some, None}
 use Prim.Native.Nat.{ℕ, zero, suc, ◌+◌, ◌-◌, ◌≤◌}
 use lib.ListN.{length, replicate, length-append, length-replicate}
 use Rattle.octets.specs.Compare.{same}
@@ -18,20 +18,20 @@ use Rattle.ordered.proofs.OrderLaws.{AllFollow, EachFollows, ordered-each, each-
 
 -- free rows at the end
 module _ (n : ℕ) where
-  find-free : (m : ℕ) (k : Key) → find_row (replicate m none) k ≡ none
+  find-free : (m : ℕ) (k : Key) → find_row (replicate m None) k ≡ None
   find-free zero k = refl
   find-free (suc m) k = find-free m k
 
-  find-append : (ws : List Row) (k : Key) → find_row (ws ++ replicate n none) k ≡ find_row ws k
+  find-append : (ws : List Row) (k : Key) → find_row (ws ++ replicate n None) k ≡ find_row ws k
   find-append [] k = find-free n k
-  find-append (none ∷ ws) k = find-append ws k
-  find-append (some x ∷ ws) k = ap (λ (o : Option Doc). cond (same x.key k) (some x.doc) o) (find-append ws k)
+  find-append (None ∷ ws) k = find-append ws k
+  find-append (Some x ∷ ws) k = ap (λ (o : Option Doc). cond (same x.key k) (Some x.doc) o) (find-append ws k)
 
-  follow-append : (w : Row) (ws : List Row) → AllFollow w ws → AllFollow w (ws ++ replicate n none)
+  follow-append : (w : Row) (ws : List Row) → AllFollow w ws → AllFollow w (ws ++ replicate n None)
   follow-append w [] a = follow-free w n
   follow-append w (v ∷ ws) a = (a.0, follow-append w ws a.1)
 
-  each_append : (ws : List Row) → EachFollows ws → EachFollows (ws ++ replicate n none)
+  each_append : (ws : List Row) → EachFollows ws → EachFollows (ws ++ replicate n None)
   each_append [] c = each_free n
   each_append (v ∷ ws) c = (follow-append v ws c.0, each_append ws c.1)
 
@@ -39,11 +39,11 @@ module _ (p : Doc → Bool) where
   -- the rows that stay are those that the plain engine's purge leaves
   find-staying : (ws : List Row) (k : Key) → find_row (staying_rows p ws) k ≡ find_row (purge_rows ws p) k
   find-staying [] k = refl
-  find-staying (none ∷ ws) k = find-staying ws k
-  find-staying (some x ∷ ws) k =
+  find-staying (None ∷ ws) k = find-staying ws k
+  find-staying (Some x ∷ ws) k =
       cases (p x.doc)
       (λ t. rw t (find-staying ws k))
-      (λ f. rw f (ap (λ (o : Option Doc). cond (same x.key k) (some x.doc) o) (find-staying ws k)))
+      (λ f. rw f (ap (λ (o : Option Doc). cond (same x.key k) (Some x.doc) o) (find-staying ws k)))
 
   follow-staying : (w : Row) (ws : List Row) → AllFollow w ws → AllFollow w (staying_rows p ws)
   follow-staying w [] a = tt
@@ -69,8 +69,8 @@ module _ (p : Doc → Bool) where
 
     pub length-purged : length (purge_ordered ws p) ≡ length ws
     length-purged =
-        let a : length (purge_ordered ws p) ≡ length staying + length (replicate {A = Row} freed none) = length-append staying (replicate freed none) in
-        let b : length (replicate {A = Row} freed none) ≡ freed = length-replicate freed none in
+        let a : length (purge_ordered ws p) ≡ length staying + length (replicate {A = Row} freed None) = length-append staying (replicate freed None) in
+        let b : length (replicate {A = Row} freed None) ≡ freed = length-replicate freed None in
         omega (arith, few-stay ws)
 
     pub ordered-purge : ordered ws ≡ true → ordered (purge_ordered ws p) ≡ true

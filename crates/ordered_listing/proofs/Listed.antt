@@ -3,10 +3,10 @@ use Prim.Native.Nat.{ℕ}
 use mathlib.Core.Path.{◌≡◌, refl, sym, ap, ◌∙◌}
 use mathlib.Core.Bool.{false, false≢true}
 use mathlib.Core.List.{List, [], ◌∷◌}
-use mathlib.Core.Option.{none, some}
+use Rattle.std.specs.Prelude.{Some, None}
+use Rattle.std.specs.declared.cmp.Ordering.TheVariants.{Less, Greater}
 use lib.ListN.{drop}
 use Rattle.octets.proofs.Choices.{cases}
-use Rattle.keys.specs.declared.Side.TheVariants.{Less, Greater}
 use Rattle.keys.specs.Keys.{side_of, key_below}
 use Rattle.keys.proofs.KeyLaws.{sides}
 use Rattle.document.specs.Documents.{Key, Entry}
@@ -25,42 +25,42 @@ use Rattle.ordered_listing.specs.Claims.{WalksListing}
 use Rattle.ordered_listing.proofs.Walking.{walked_all}
 
 module _ (clock : ℕ) where
-  below-live : (x : Entry) (ws : List Row) → AllFollow (some x) ws → BelowAll x.key (keys_live clock ws)
+  below-live : (x : Entry) (ws : List Row) → AllFollow (Some x) ws → BelowAll x.key (keys_live clock ws)
   below-live x [] a = tt
-  below-live x (none ∷ ws) a = below-live x ws a.1
-  below-live x (some y ∷ ws) a =
+  below-live x (None ∷ ws) a = below-live x ws a.1
+  below-live x (Some y ∷ ws) a =
       let b = below-live x ws a.1 in
-      cases (is_live clock (some y)) (λ t. rw t (a.0, b)) (λ f. rw f b)
+      cases (is_live clock (Some y)) (λ t. rw t (a.0, b)) (λ f. rw f b)
 
   live-rising : (ws : List Row) → EachFollows ws → Rising (keys_live clock ws)
   live-rising [] c = tt
-  live-rising (none ∷ ws) c = live-rising ws c.1
-  live-rising (some x ∷ ws) c =
+  live-rising (None ∷ ws) c = live-rising ws c.1
+  live-rising (Some x ∷ ws) c =
       let r = live-rising ws c.1 in
-      cases (is_live clock (some x)) (λ t. rw t (below-live x ws c.0, r)) (λ f. rw f r)
+      cases (is_live clock (Some x)) (λ t. rw t (below-live x ws c.0, r)) (λ f. rw f r)
 
   module _ (start : Key) where
     -- from a row on that isn't below the start key none is
     none_after : (w : Row) (ws : List Row) → AllFollow w ws → (row_side start w ≡ Less → ⊥) → NoneBelow start (keys_live clock ws)
     none_after w [] a n = tt
-    none_after w (none ∷ ws) a n = none_after w ws a.1 n
-    none_after w (some x ∷ ws) a n =
-        let k : key_below x.key start ≡ false = rw (side_after start w (some x) a.0 n) in
+    none_after w (None ∷ ws) a n = none_after w ws a.1 n
+    none_after w (Some x ∷ ws) a n =
+        let k : key_below x.key start ≡ false = rw (side_after start w (Some x) a.0 n) in
         let r = none_after w ws a.1 n in
-        cases (is_live clock (some x)) (λ t. rw t (k, r)) (λ f. rw f r)
+        cases (is_live clock (Some x)) (λ t. rw t (k, r)) (λ f. rw f r)
 
-    all_after : (x : Entry) (ws : List Row) → AllFollow (some x) ws → key_below x.key start ≡ false
-        → keys_live clock (some x ∷ ws) ≡ from_key start (keys_live clock (some x ∷ ws))
+    all_after : (x : Entry) (ws : List Row) → AllFollow (Some x) ws → key_below x.key start ≡ false
+        → keys_live clock (Some x ∷ ws) ≡ from_key start (keys_live clock (Some x ∷ ws))
     all_after x ws a k =
-        let r = none_after (some x) ws a (λ l. false≢true (sym k ∙ rw l)) in
-        cases (is_live clock (some x)) (λ t. rw (t, k)) (λ f. rw f (sym (from_all start (keys_live clock ws) r)))
+        let r = none_after (Some x) ws a (λ l. false≢true (sym k ∙ rw l)) in
+        cases (is_live clock (Some x)) (λ t. rw (t, k)) (λ f. rw f (sym (from_all start (keys_live clock ws) r)))
 
     walk_from : (ws : List Row) → EachFollows ws → keys_live clock (drop (rows_below start ws) ws) ≡ from_key start (keys_live clock ws)
     walk_from [] c = refl
-    walk_from (none ∷ ws) c = sym (from_all start (keys_live clock ws) (none_after none ws c.0 (not-less Greater refl)))
-    walk_from (some x ∷ ws) c =
+    walk_from (None ∷ ws) c = sym (from_all start (keys_live clock ws) (none_after None ws c.0 (not-less Greater refl)))
+    walk_from (Some x ∷ ws) c =
         sides (side_of x.key start)
-        (λ l. rw l (walk_from ws c.1 ∙ cases (is_live clock (some x)) (λ t. rw (t, l)) (λ f. rw f)))
+        (λ l. rw l (walk_from ws c.1 ∙ cases (is_live clock (Some x)) (λ t. rw (t, l)) (λ f. rw f)))
         (λ e. rw e (all_after x ws c.0 (rw e)))
         (λ g. rw g (all_after x ws c.0 (rw g)))
 

@@ -1,6 +1,5 @@
 -- For the code alone: the keys of the live rows of any memory, as the rows stand. What that is where they are in key order is in Claims.antt.
-use Rattle.std.specs.Prelude.{ℕ, Bool, false, cond, List, [], ltb, drop}
-use Rattle.std.proofs.Math.Option.{none, some}
+use Rattle.std.specs.Prelude.{ℕ, Bool, false, cond, List, [], ltb, drop, Some, None}
 use Rattle.document.specs.Documents.{Key}
 use Rattle.document.specs.Stored.{stored_of, live}
 use Rattle.listing.specs.Listing.{live_keys, taken, keys_bytes}
@@ -11,8 +10,8 @@ use Rattle.ordered_lookup.specs.Halving.{first_from}
 
 -- a row with a live document
 abbrev pub is_live : ℕ → Row → Bool
-is_live clock none = false
-is_live clock (some e) = live (stored_of (some e.doc)) clock
+is_live clock None = false
+is_live clock (Some e) = live (stored_of (Some e.doc)) clock
 
 -- the keys of such rows, in the order of rows
 abbrev pub keys_live : ℕ → List Row → List Key

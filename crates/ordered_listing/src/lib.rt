@@ -2,18 +2,14 @@
 // keys are written as far as they fit.
 #![tactic(auto)]
 
-ghost use Rattle.std.specs.Prelude.{◌≡◌, ◌≤◌, length, drop};
+ghost use Rattle.std.specs.Prelude.{◌≡◌, ◌≤◌, length, drop, map};
 ghost use Rattle.octets.specs.Parts.{written};
 ghost use Rattle.rows.specs.Row.{row_of};
-ghost use Rattle.rows.specs.Table.{table_of};
 ghost use Rattle.listing.specs.Listing.{taken, keys_bytes};
 ghost use Rattle.ordered_listing.specs.Walk.{is_live, keys_live, keys_walked};
 
-use listing::LIMIT;
-use rows::{FIXED, HEADER, ROW};
-
-// The reply room that a listing asks for: a header and a value of 1,278 bytes.
-const ROOM: usize = 1302;
+use listing::ROOM;
+use rows::ROW;
 
 // Whether a row holds a live document.
 fn is_live(r: &[u8], clock: u32) -> bool
@@ -24,31 +20,25 @@ fn is_live(r: &[u8], clock: u32) -> bool
 }
 
 // Writes the keys of the live rows from a place on, as many as the count and the limit let, from byte 24 on, and answers their
-// length. After one that doesn't fit, none is left to write.
-fn put_rows(b: &[u8], first: usize, clock: u32, count: u32, out: &mut [u8]) -> usize
+// length.
+fn put_rows(rows: &[[u8; ROW]], first: usize, clock: u32, count: u32, out: &mut [u8]) -> usize
     requires { 1302 ≤ length out.old }
-    ensures { (result ≡ length (keys_bytes (taken count 1278 (keys_live clock (drop first (table_of b.now).rows)))))
-        × (out.new ≡ written out.old 24 (keys_bytes (taken count 1278 (keys_live clock (drop first (table_of b.now).rows))))) }
+    ensures { (result ≡ length (keys_bytes (taken count 1278 (keys_live clock (drop first (map row_of rows.now))))))
+        × (out.new ≡ written out.old 24 (keys_bytes (taken count 1278 (keys_live clock (drop first (map row_of rows.now)))))) }
 {
-    let n = rows::rows_in(b.len());
     let mut size: usize = 0;
     let mut left = count;
-    let mut i = first;
-    while (i < n) & (0 < left) {
-        let at = HEADER + i * ROW;
-        let end = at + ROW;
-        let r = &b[at..end];
-        i += 1;
-        if is_live(r, clock) {
-            let key = octets::part(r, FIXED, octets::be16(r, 2) as usize);
-            if LIMIT - size < 4 + key.len() {
-                left = 0;
-            } else {
-                octet_writer::put_be(out, 24 + size, 4, key.len() as u64);
-                octet_writer::put_bytes(out, 28 + size, key);
-                size += 4 + key.len();
-                left -= 1;
+    for i in first..rows.len() {
+        if left == 0 {
+            return size;
+        }
+        let row = &rows[i];
+        if is_live(row, clock) {
+            match listing::put_key(out, size, rows::row::key(row)) {
+                Some(longer) => size = longer,
+                None => return size,
             }
+            left -= 1;
         }
     }
     size
@@ -62,5 +52,11 @@ pub fn put_keys(b: &[u8], clock: u32, start: &[u8], count: u32, out: &mut [u8]) 
     if out.len() < ROOM {
         return 0;
     }
-    put_rows(b, ordered_lookup::first_from(b, start), clock, count, out)
+    put_rows(
+        rows::all(b),
+        ordered_lookup::first_from(b, start),
+        clock,
+        count,
+        out,
+    )
 }

@@ -3,30 +3,28 @@ use native.Mathlib.Omega.{arith}
 use native.Mathlib.Numerals.{add-one}
 use native.Mathlib.Nat.{add-zero}
 use mathlib.Core.Path.{◌≡◌, refl, sym, ap, ◌∙◌}
-use mathlib.Core.Bool.{true, false}
-use mathlib.Core.List.{List, [], ◌∷◌}
-use mathlib.Core.Option.{none}
-use Prim.Native.Nat.{ℕ, zero, suc, ◌+◌, ◌-◌, ◌*◌, ◌≤◌, ◌<◌}
+use mathlib.Core.Bool.{true}
+use mathlib.Core.List.{List, [], ◌∷◌, map}
+use Rattle.std.specs.Prelude.{Some, None, slice_get}
+use Rattle.std.proofs.lemmas.Option.{get_or_from_slice_get}
+use Rattle.octets.proofs.Options.{none-some}
+use Rattle.std.specs.declared.cmp.Ordering.{Ordering}
+use Rattle.std.specs.declared.cmp.Ordering.TheVariants.{Less, Equal, Greater}
+use Prim.Native.Nat.{ℕ, zero, suc, ◌+◌, ◌-◌, ◌≤◌, ◌<◌}
 use lib.Dec.{ltb, eqb}
-use lib.ListN.{length, drop, get_or, drop_of_length-le}
+use lib.ListN.{length, drop, get_or, get_or-map, length-map, drop_of_length-le}
 use lib.Seq.{drop-cons}
 use borrow.Author.Tests.{lt-ltb, le-ltb, ltb-true, ltb-false}
-use Rattle.octets.specs.Parts.{part}
 use Rattle.octets.specs.BigEndian.{num}
 use Rattle.octets.proofs.Choices.{cases}
-use Rattle.keys.specs.declared.Side.{Side}
-use Rattle.keys.specs.declared.Side.TheVariants.{Less, Equal, Greater}
 use Rattle.keys.specs.Keys.{side_of, by_side}
 use Rattle.keys.proofs.KeyLaws.{sides}
 use Rattle.document.specs.Documents.{Key}
 use Rattle.engine.specs.declared.Place.{Place}
 use Rattle.engine.specs.declared.Place.TheVariants.{Over, Into}
-use Rattle.rows.specs.Row.{Row, slot_of, key_of, row_of}
-use Rattle.rows.specs.Table.{row_count, table_of}
-use Rattle.rows.proofs.OneRow.{row-at, row-there, row-free, row-used}
-use Rattle.plain.specs.Lookup.{is_free}
+use Rattle.rows.specs.Row.{Row, key_of, row_of}
+use Rattle.rows.proofs.OneRow.{no_row, row-free, row-used}
 use Rattle.plain.proofs.Rows.{is_free-row}
-use Rattle.plain.proofs.TableLaws.{count-rows}
 use Rattle.ordered.specs.Order.{follows, row_side}
 use Rattle.ordered.proofs.OrderLaws.{AllFollow, EachFollows, side_after}
 use Rattle.ordered_lookup.specs.Halving.{middle, halve, halved, key_place, last_free}
@@ -37,7 +35,7 @@ over-into i j e = let z : ◌≡◌ {A = ℕ} 0 1 = cc in absurd (omega arith)
 pub over-same : (i j : ℕ) → Over i ≡ Over j → i ≡ j
 over-same i j e = cc
 
-module _ (side : ℕ → Side) where
+module _ (side : ℕ → Ordering) where
   -- more steps than there are places change nothing
   enough : (m k lo hi : ℕ) → hi - lo ≤ m → hi - lo ≤ k → halve m side lo hi ≡ halve k side lo hi
   unfolding halve
@@ -84,7 +82,7 @@ module _ (side : ℕ → Side) where
         let below = enough n (mid - lo) lo mid (omega arith) (omega arith) in
         ap (λ (k : ℕ). halve k side lo hi) e ∙ rw (lt-ltb lo hi h) (λ i. by_side (side mid) (above i) (Over mid) (below i))
 
-    module _ (h : lo < hi) (o : Side) (e : o ≡ side (middle lo hi)) where
+    module _ (h : lo < hi) (o : Ordering) (e : o ≡ side (middle lo hi)) where
       pub halved-less : o ≡ Less → halved side lo hi ≡ halved side (middle lo hi + 1) hi
       halved-less l = halved-step h ∙ rw (sym e ∙ l)
 
@@ -94,56 +92,49 @@ module _ (side : ℕ → Side) where
       pub halved-greater : o ≡ Greater → halved side lo hi ≡ halved side lo (middle lo hi)
       halved-greater l = halved-step h ∙ rw (sym e ∙ l)
 
--- the rows of memory, as a step reads them
-module _ (b : List ℕ) where
-  pub row_read : (i : ℕ) → i < row_count b → row_of (part b (16 + i * 1312) (16 + i * 1312 + 1312 - (16 + i * 1312))) ≡ get_or (table_of b).rows i none
-  row_read i h =
-      let e : 16 + i * 1312 + 1312 - (16 + i * 1312) ≡ 1312 = omega arith in
-      rw e (ap row_of (sym (row-there b i h)) ∙ sym (row-at b i))
+-- rows as a step reads them
+module _ (rs : List (List ℕ)) where
+  row_read : (i : ℕ) → row_of (get_or rs i []) ≡ get_or (map row_of rs) i None
+  row_read i = sym (rw no_row at (get_or-map row_of rs i []))
 
   -- the side of the key on which the row at a place stands
-  abbrev pub side_at : Key → ℕ → Side
-  side_at key i = row_side key (get_or (table_of b).rows i none)
+  abbrev pub side_at : Key → ℕ → Ordering
+  side_at key i = row_side key (get_or (map row_of rs) i None)
 
-  pub side-read : (key : Key) (i : ℕ) → i < row_count b → row_side key (row_of (part b (16 + i * 1312) (16 + i * 1312 + 1312 - (16 + i * 1312)))) ≡ side_at key i
-  side-read key i h = ap (row_side key) (row_read i h)
+  pub side-read : (key : Key) (i : ℕ) → row_side key (row_of (get_or rs i [])) ≡ side_at key i
+  side-read key i = ap (row_side key) (row_read i)
 
-  pub halving-start : (key : Key) (n : ℕ) → n ≡ row_count b → key_place key (table_of b).rows ≡ halved (side_at key) 0 n
+  pub halving-start : (key : Key) → key_place key (map row_of rs) ≡ halved (side_at key) 0 (length rs)
   unfolding key_place
-  halving-start key n e = ap (halved (side_at key) 0) (count-rows b ∙ sym e)
+  halving-start key = ap (halved (side_at key) 0) (length-map rs row_of)
 
-  pub last_none : row_count b ≡ 0 → false ≡ last_free (table_of b).rows
-  unfolding table_of
-  last_none z = rw z
+last-free : (rs : List (List ℕ)) → 0 < length rs → eqb (num (get_or rs (length rs - 1) []) 0 2) 0 ≡ last_free (map row_of rs)
+last-free [] h = absurd (omega arith)
+last-free (r ∷ []) h = sym (is_free-row r)
+last-free (r ∷ q ∷ rs) h =
+    let z : suc (suc (length rs)) - 1 ≡ suc (suc (length rs) - 1) = omega arith in
+    ap (λ (m : ℕ). eqb (num (get_or (r ∷ q ∷ rs) m []) 0 2) 0) z ∙ last-free (q ∷ rs) (omega arith)
 
-  pub last-kind : (n : ℕ) → n ≡ row_count b → 0 < n → (r : List ℕ) → row_of r ≡ get_or (table_of b).rows (n - 1) none → eqb (num r 0 2) 0 ≡ last_free (table_of b).rows
-  last-kind n e h r q =
-      let l : length (table_of b).rows ≡ n = count-rows b ∙ sym e in
-      sym (is_free-row r) ∙ ap is_free (q ∙ ap (λ (m : ℕ). get_or (table_of b).rows (m - 1) none) (sym l)) ∙ last-there (table_of b).rows (omega (arith, l))
-    where
-      last-there : (ws : List Row) → 1 ≤ length ws → is_free (get_or ws (length ws - 1) none) ≡ last_free ws
-      last-there [] k = absurd (omega arith)
-      last-there (w ∷ []) k = refl
-      last-there (w ∷ v ∷ ws) k =
-          let z : suc (suc (length ws)) - 1 ≡ suc (suc (length ws) - 1) = omega arith in
-          ap (λ (m : ℕ). is_free (get_or (w ∷ v ∷ ws) m none)) z ∙ last-there (v ∷ ws) (omega arith)
+pub last-some : (rs : List (List ℕ)) (r : List ℕ) → Some r ≡ slice_get rs (length rs - 1) → eqb (num r 0 2) 0 ≡ last_free (map row_of rs)
+last-some [] r e = absurd (none-some r (sym e))
+last-some (q ∷ rs) r e =
+    ap (λ (x : List ℕ). eqb (num x 0 2) 0) (sym (get_or_from_slice_get (q ∷ rs) (length (q ∷ rs) - 1) r [] (sym e))) ∙ last-free (q ∷ rs) (omega arith)
 
 -- a row's side, by its kind and its key
 module _ (r key : List ℕ) where
   pub free-side : num r 0 2 ≡ 0 → row_side key (row_of r) ≡ Greater
   free-side e = rw (row-free r e)
 
-  pub used-side : (num r 0 2 ≡ 0 → ⊥) → side_of (part r 32 (num r 2 2)) key ≡ row_side key (row_of r)
-  unfolding key_of slot_of
+  pub used-side : (num r 0 2 ≡ 0 → ⊥) → side_of (key_of r) key ≡ row_side key (row_of r)
   used-side n = rw (row-used r n)
 
 -- rows in order, any two of them
-pub all-at : (w : Row) (ws : List Row) → AllFollow w ws → (i : ℕ) → i < length ws → follows w (get_or ws i none) ≡ true
+pub all-at : (w : Row) (ws : List Row) → AllFollow w ws → (i : ℕ) → i < length ws → follows w (get_or ws i None) ≡ true
 all-at w [] a i h = absurd (omega arith)
 all-at w (v ∷ ws) a zero h = a.0
 all-at w (v ∷ ws) a (suc i) h = all-at w ws a.1 i (omega arith)
 
-each_at : (ws : List Row) → EachFollows ws → (i j : ℕ) → j < i → i < length ws → follows (get_or ws j none) (get_or ws i none) ≡ true
+each_at : (ws : List Row) → EachFollows ws → (i j : ℕ) → j < i → i < length ws → follows (get_or ws j None) (get_or ws i None) ≡ true
 each_at [] c i j h k = absurd (omega arith)
 each_at (w ∷ ws) c zero j h k = absurd (omega arith)
 each_at (w ∷ ws) c (suc i) zero h k = all-at w ws c.0 i (omega arith)
@@ -163,16 +154,16 @@ module _ (key : Key) where
       (λ g. absurd (n (side_after key w v p (λ l. let z : ◌≡◌ {A = ℕ} 0 1 = cc in omega arith))))
 
   module _ (ws : List Row) (c : EachFollows ws) where
-    abbrev at : ℕ → Side
-    at i = row_side key (get_or ws i none)
+    abbrev at : ℕ → Ordering
+    at i = row_side key (get_or ws i None)
 
     -- a row before one that isn't above is below
     below : (i : ℕ) → i < length ws → (at i ≡ Greater → ⊥) → (j : ℕ) → j < i → at j ≡ Less
-    below i h n j l = side_before (get_or ws j none) (get_or ws i none) (each_at ws c i j l h) n
+    below i h n j l = side_before (get_or ws j None) (get_or ws i None) (each_at ws c i j l h) n
 
     module _ (i : ℕ) (h : i < length ws) where
       walk_step : walked i (drop i ws) ≡ by_side (at i) (walked (i + 1) (drop (i + 1) ws)) (Over i) (Into i)
-      walk_step = rw (drop-cons ws i none h, add-one)
+      walk_step = rw (drop-cons ws i None h, add-one)
 
       walk-equal : at i ≡ Equal → walked i (drop i ws) ≡ Over i
       walk-equal e = walk_step ∙ rw e

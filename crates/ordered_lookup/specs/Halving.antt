@@ -1,7 +1,6 @@
 -- For the code alone: places of rows. Order 7: "keys are found by halving", here on any rows.
-use Rattle.std.specs.Prelude.{ℕ, zero, suc, ◌+◌, ◌-◌, ◌/◌, List, [], ◌∷◌, Bool, false, ◌&&◌, cond, length, get_or, ltb}
-use Rattle.std.proofs.Math.Option.{none}
-use Rattle.keys.specs.declared.Side.{Side}
+use Rattle.std.specs.Prelude.{ℕ, zero, suc, ◌+◌, ◌-◌, ◌/◌, List, [], ◌∷◌, Bool, false, ◌&&◌, cond, length, get_or, ltb, None}
+use Rattle.std.specs.declared.cmp.Ordering.{Ordering}
 use Rattle.keys.specs.Keys.{by_side}
 use Rattle.document.specs.Documents.{Key}
 use Rattle.engine.specs.declared.Place.{Place}
@@ -15,7 +14,7 @@ abbrev pub middle : ℕ → ℕ → ℕ
 middle lo hi = lo + (hi - lo) / 2
 
 -- halving these places by the side on which each stands, so many times at most
-unfoldable pub halve : ℕ → (ℕ → Side) → ℕ → ℕ → Place
+unfoldable pub halve : ℕ → (ℕ → Ordering) → ℕ → ℕ → Place
 halve zero side lo hi = Into lo
 halve (suc n) side lo hi =
     cond (ltb lo hi)
@@ -23,14 +22,14 @@ halve (suc n) side lo hi =
     (Into lo)
 
 -- halving until none is left, which takes no more steps than there are places
-unfoldable pub halved : (ℕ → Side) → ℕ → ℕ → Place
+unfoldable pub halved : (ℕ → Ordering) → ℕ → ℕ → Place
 unfolding halve
 halved side lo hi = halve (hi - lo) side lo hi
 
 -- the key's row, or where a new one goes if there is room
 unfoldable pub key_place : Key → List Row → Place
 unfolding halved
-key_place key ws = halved (λ i. row_side key (get_or ws i none)) 0 (length ws)
+key_place key ws = halved (λ i. row_side key (get_or ws i None)) 0 (length ws)
 
 -- the number of a place, 0 without one
 abbrev pub place_number : Place → ℕ

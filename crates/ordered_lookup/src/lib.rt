@@ -2,85 +2,63 @@
 // is found where the rows are in order is in specs/Claims.antt.
 #![tactic(auto)]
 
-ghost use Rattle.std.specs.Prelude.{◌≡◌, ◌&&◌};
+ghost use Rattle.std.specs.Prelude.{◌≡◌, map};
 ghost use Rattle.rows.specs.Row.{row_of};
 ghost use Rattle.rows.specs.Table.{table_of};
 ghost use Rattle.ordered.specs.Order.{row_side};
-ghost use Rattle.ordered_lookup.specs.Halving.{key_place, last_free, with_room, place_ordered, first_from};
+ghost use Rattle.ordered_lookup.specs.Halving.{key_place, last_free, place_ordered, first_from};
 
 use engine::Place;
-use keys::Side;
-use rows::{FIXED, HEADER, ROW};
+use rows::ROW;
+use std::cmp::Ordering;
 
 // On which side of a key a row stands. A free row is above every key.
-fn row_side(r: &[u8], key: &[u8]) -> Side
+fn row_side(r: &[u8], key: &[u8]) -> Ordering
     ensures { result ≡ row_side key.now (row_of r.now) }
 {
     if octets::be16(r, 0) == 0 {
-        return Side::Greater;
+        return Ordering::Greater;
     }
-    keys::compare(octets::part(r, FIXED, octets::be16(r, 2) as usize), key)
+    keys::compare(rows::row::key(r), key)
 }
 
-// The key's row, or the place of the first row above it: where a new row goes if there is room.
-fn key_place(b: &[u8], key: &[u8]) -> Place
-    ensures { result ≡ key_place key.now (table_of b.now).rows }
+// The key's row, or the place of the first row above it: where a new row goes if there is room. Not `binary_search_by`, which says
+// nothing of rows in no order: `place` promises what halving gives on any memory.
+fn key_place(rows: &[[u8; ROW]], key: &[u8]) -> Place
+    ensures { result ≡ key_place key.now (map row_of rows.now) }
 {
     let mut lo: usize = 0;
-    let mut hi = rows::rows_in(b.len());
+    let mut hi = rows.len();
     while lo < hi {
         let mid = lo + (hi - lo) / 2;
-        let at = HEADER + mid * ROW;
-        let end = at + ROW;
-        match row_side(&b[at..end], key) {
-            Side::Less => {
-                lo = mid + 1;
-            }
-            Side::Equal => {
-                return Place::Over(mid);
-            }
-            Side::Greater => {
-                hi = mid;
-            }
+        match row_side(&rows[mid], key) {
+            Ordering::Less => lo = mid + 1,
+            Ordering::Equal => return Place::Over(mid),
+            Ordering::Greater => hi = mid,
         }
     }
     Place::Into(lo)
 }
 
 // Whether the last row is free: in key order, whether any is.
-fn last_free(b: &[u8]) -> bool
-    ensures { result ≡ last_free (table_of b.now).rows }
+fn last_free(rows: &[[u8; ROW]]) -> bool
+    ensures { result ≡ last_free (map row_of rows.now) }
 {
-    let n = rows::rows_in(b.len());
-    if n == 0 {
-        return false;
+    match rows.last() {
+        Some(row) => octets::be16(row, 0) == 0,
+        None => false,
     }
-    let at = HEADER + (n - 1) * ROW;
-    let end = at + ROW;
-    octets::be16(&b[at..end], 0) == 0
 }
 
-// A new row's place, where one is asked for and there is room.
-fn new_place(b: &[u8], i: usize, new: bool) -> Place
-    ensures { result ≡ with_room (new && last_free (table_of b.now).rows) (Place.Into i) }
-{
-    if !new {
-        return Place::Full;
-    }
-    if !last_free(b) {
-        return Place::Full;
-    }
-    Place::Into(i)
-}
-
-// The place of a key's document: over its row, else a new row's.
+// The place of a key's document: over its row, else a new row's where one is asked for and there is room.
 pub fn place(b: &[u8], key: &[u8], new: bool) -> Place
     ensures { result ≡ place_ordered new key.now (table_of b.now).rows }
 {
-    match key_place(b, key) {
+    let rows = rows::all(b);
+    match key_place(rows, key) {
+        Place::Into(i) if new && last_free(rows) => Place::Into(i),
         Place::Over(i) => Place::Over(i),
-        Place::Into(i) => new_place(b, i, new),
-        Place::Full => Place::Full,
+        _ => Place::Full,
     }
 }
 
@@ -88,9 +66,8 @@ pub fn place(b: &[u8], key: &[u8], new: bool) -> Place
 pub fn first_from(b: &[u8], key: &[u8]) -> usize
     ensures { result ≡ first_from key.now (table_of b.now).rows }
 {
-    match key_place(b, key) {
-        Place::Over(i) => i,
-        Place::Into(i) => i,
+    match key_place(rows::all(b), key) {
+        Place::Over(i) | Place::Into(i) => i,
         Place::Full => 0,
     }
 }

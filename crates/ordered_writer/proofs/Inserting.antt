@@ -3,7 +3,7 @@ use native.Mathlib.Omega.{arith}
 use native.Mathlib.Nat.{zero-add}
 use mathlib.Core.Path.{◌≡◌, refl, sym, ap, ◌∙◌}
 use mathlib.Core.List.{List, [], ◌∷◌, ◌++◌, append_assoc}
-use mathlib.Core.Option.{none, some}
+use Rattle.std.specs.Prelude.{Some, None}
 use Prim.Native.Nat.{ℕ, zero, suc, ◌+◌, ◌-◌, ◌*◌, ◌≤◌, ◌<◌}
 use lib.ListN.{length, take, drop, length-append, take-append-drop}
 use lib.Seq.{take_at, drop_at, length-take-le}
@@ -19,7 +19,6 @@ use Rattle.rows.specs.Good.{EntryGood, AllGood}
 use Rattle.rows.specs.Find.{find_row, free_rows}
 use Rattle.rows.proofs.RowLaws.{row-length}
 use Rattle.rows.proofs.Heads.{head-length}
-use Rattle.plain.specs.declared.Found.TheVariants.{At}
 use Rattle.plain.specs.Lookup.{free_in}
 use Rattle.plain.proofs.TableLaws.{good-first, good_more, rows-length, table-count, good-sound}
 use Rattle.ordered.specs.Insert.{rows_below, one_free_less, insert_row}
@@ -31,48 +30,48 @@ use Rattle.ordered_writer.specs.Claims.{InsertsGood}
 -- how many used rows stand before the first free one
 abbrev pub used_first : List Row → ℕ
 used_first [] = 0
-used_first (none ∷ ws) = 0
-used_first (some x ∷ ws) = suc (used_first ws)
+used_first (None ∷ ws) = 0
+used_first (Some x ∷ ws) = suc (used_first ws)
 
-pub free-at : (ws : List Row) (k : ℕ) → 0 < free_rows ws → free_in k ws ≡ At (k + used_first ws)
+pub free-at : (ws : List Row) (k : ℕ) → 0 < free_rows ws → free_in k ws ≡ Some (k + used_first ws)
 free-at [] k h = absurd (omega arith)
-free-at (none ∷ ws) k h = let e : k ≡ k + 0 = omega arith in ap At e
-free-at (some x ∷ ws) k h = let e : k + 1 + used_first ws ≡ k + suc (used_first ws) = omega arith in free-at ws (k + 1) h ∙ ap At e
+free-at (None ∷ ws) k h = let e : k ≡ k + 0 = omega arith in ap Some e
+free-at (Some x ∷ ws) k h = let e : k + 1 + used_first ws ≡ k + suc (used_first ws) = omega arith in free-at ws (k + 1) h ∙ ap Some e
 
 free-within : (ws : List Row) → 0 < free_rows ws → used_first ws < length ws
 free-within [] h = absurd (omega arith)
-free-within (none ∷ ws) h = omega arith
-free-within (some x ∷ ws) h = omega (arith, free-within ws h)
+free-within (None ∷ ws) h = omega arith
+free-within (Some x ∷ ws) h = omega (arith, free-within ws h)
 
 -- those rows, the free one, and the rows after it
-open-split : (ws : List Row) → 0 < free_rows ws → ws ≡ take (used_first ws) ws ++ (none ∷ drop (suc (used_first ws)) ws)
+open-split : (ws : List Row) → 0 < free_rows ws → ws ≡ take (used_first ws) ws ++ (None ∷ drop (suc (used_first ws)) ws)
 open-split [] h = absurd (omega arith)
-open-split (none ∷ ws) h = refl
-open-split (some x ∷ ws) h = ap (λ (l : List Row). some x ∷ l) (open-split ws h)
+open-split (None ∷ ws) h = refl
+open-split (Some x ∷ ws) h = ap (λ (l : List Row). Some x ∷ l) (open-split ws h)
 
 less-split : (ws : List Row) → 0 < free_rows ws → one_free_less ws ≡ take (used_first ws) ws ++ drop (suc (used_first ws)) ws
 less-split [] h = absurd (omega arith)
-less-split (none ∷ ws) h = refl
-less-split (some x ∷ ws) h = ap (λ (l : List Row). some x ∷ l) (less-split ws h)
+less-split (None ∷ ws) h = refl
+less-split (Some x ∷ ws) h = ap (λ (l : List Row). Some x ∷ l) (less-split ws h)
 
 -- past some of those rows
 used-drop : (i : ℕ) (ws : List Row) → i ≤ used_first ws → used_first (drop i ws) ≡ used_first ws - i
 used-drop zero ws h = omega arith
 used-drop (suc i) [] h = absurd (omega arith)
-used-drop (suc i) (none ∷ ws) h = absurd (omega arith)
-used-drop (suc i) (some x ∷ ws) h = used-drop i ws (omega arith) ∙ omega arith
+used-drop (suc i) (None ∷ ws) h = absurd (omega arith)
+used-drop (suc i) (Some x ∷ ws) h = used-drop i ws (omega arith) ∙ omega arith
 
 free-drop : (i : ℕ) (ws : List Row) → i ≤ used_first ws → free_rows (drop i ws) ≡ free_rows ws
 free-drop zero ws h = refl
 free-drop (suc i) [] h = absurd (omega arith)
-free-drop (suc i) (none ∷ ws) h = absurd (omega arith)
-free-drop (suc i) (some x ∷ ws) h = free-drop i ws (omega arith)
+free-drop (suc i) (None ∷ ws) h = absurd (omega arith)
+free-drop (suc i) (Some x ∷ ws) h = free-drop i ws (omega arith)
 
 -- a new key's place
 place-within : (key : Key) (ws : List Row) → rows_below key ws ≤ used_first ws
 place-within key [] = omega arith
-place-within key (none ∷ ws) = omega arith
-place-within key (some x ∷ ws) =
+place-within key (None ∷ ws) = omega arith
+place-within key (Some x ∷ ws) =
     sides (side_of x.key key) (λ l. rw l (omega (arith, place-within key ws))) (λ e. rw e (omega arith)) (λ g. rw g (omega arith))
 
 pub rows_append : (a b : List Row) → rows_bytes (a ++ b) ≡ rows_bytes a ++ rows_bytes b
@@ -93,19 +92,19 @@ module _ (mark : ℕ) where
   module _ (e : Entry) (k : EntryGood mark e) where
     -- the rows up to the first free one behind the entry's, over all of them
     rows-moved : (ws : List Row) → AllGood mark ws → 0 < free_rows ws
-        → pasted (rows_bytes ws) 0 (row_bytes (some e) ++ take (used_first ws * 1312) (rows_bytes ws)) ≡ rows_bytes (some e ∷ one_free_less ws)
+        → pasted (rows_bytes ws) 0 (row_bytes (Some e) ++ take (used_first ws * 1312) (rows_bytes ws)) ≡ rows_bytes (Some e ∷ one_free_less ws)
     rows-moved ws g h =
         let u = used_first ws in
-        let E = row_bytes (some e) in
+        let E = row_bytes (Some e) in
         let B = rows_bytes (take u ws) in
-        let F = row_bytes none in
+        let F = row_bytes None in
         let D = rows_bytes (drop (suc u) ws) in
-        let s : rows_bytes ws ≡ B ++ (F ++ D) = ap rows_bytes (open-split ws h) ∙ rows_append (take u ws) (none ∷ drop (suc u) ws) in
+        let s : rows_bytes ws ≡ B ++ (F ++ D) = ap rows_bytes (open-split ws h) ∙ rows_append (take u ws) (None ∷ drop (suc u) ws) in
         let n : length (take u ws) ≡ u = length-take-le u ws (omega (arith, free-within ws h)) in
         let l : length B ≡ u * 1312 = rows-length mark (take u ws) (good-take u ws g) ∙ ap (λ (m : ℕ). m * 1312) n in
         let a : take (u * 1312) (rows_bytes ws) ≡ B = ap (take (u * 1312)) s ∙ take_at B (F ++ D) (u * 1312) l in
         let p : length (B ++ F) ≡ length (E ++ B) =
-        length-append B F ∙ omega (arith, row-length mark none tt, row-length mark (some e) k) ∙ sym (length-append E B) in
+        length-append B F ∙ omega (arith, row-length mark None tt, row-length mark (Some e) k) ∙ sym (length-append E B) in
         (λ i. pasted ((s ∙ sym (append_assoc B F D)) i) 0 (E ++ a i))
         ∙ pasted-over (B ++ F) D (E ++ B) p
         ∙ append_assoc E B D
@@ -113,13 +112,13 @@ module _ (mark : ℕ) where
 
     -- the same behind the header and the rows before the place
     bytes-moved : (t : Table) (i : ℕ) → AllGood mark t.rows → 0 < free_rows t.rows → i ≤ used_first t.rows
-        → pasted (table_bytes t) (16 + i * 1312) (row_bytes (some e) ++ part (table_bytes t) (16 + i * 1312) ((used_first t.rows - i) * 1312))
-        ≡ table_bytes (record { head = t.head; rows = take i t.rows ++ (some e ∷ one_free_less (drop i t.rows)) })
+        → pasted (table_bytes t) (16 + i * 1312) (row_bytes (Some e) ++ part (table_bytes t) (16 + i * 1312) ((used_first t.rows - i) * 1312))
+        ≡ table_bytes (record { head = t.head; rows = take i t.rows ++ (Some e ∷ one_free_less (drop i t.rows)) })
     unfolding table_bytes
     bytes-moved t i g h w =
         let ws = t.rows in
         let at = 16 + i * 1312 in
-        let E = row_bytes (some e) in
+        let E = row_bytes (Some e) in
         let H = head_bytes t.head in
         let T = rows_bytes (take i ws) in
         let R = rows_bytes (drop i ws) in
@@ -134,10 +133,10 @@ module _ (mark : ℕ) where
         ∙ (λ j. pasted ((H ++ T) ++ R) (z j) (E ++ take (sym (used-drop i ws w) j * 1312) (d j)))
         ∙ pasted-skip (H ++ T) R at 0 (E ++ take (used_first (drop i ws) * 1312) R) l
         ∙ ap (λ (x : List ℕ). (H ++ T) ++ x) (rows-moved (drop i ws) (good-drop i ws g) (rw (free-drop i ws w) h))
-        ∙ append_assoc H T (rows_bytes (some e ∷ one_free_less (drop i ws)))
-        ∙ ap (λ (x : List ℕ). H ++ x) (sym (rows_append (take i ws) (some e ∷ one_free_less (drop i ws))))
+        ∙ append_assoc H T (rows_bytes (Some e ∷ one_free_less (drop i ws)))
+        ∙ ap (λ (x : List ℕ). H ++ x) (sym (rows_append (take i ws) (Some e ∷ one_free_less (drop i ws))))
 
-module _ (t : Table) (e : Entry) (g : GoodOrdered t) (k : EntryGood t.head.mark.0 e) (n : find_row t.rows e.key ≡ none) (h : 0 < free_rows t.rows) where
+module _ (t : Table) (e : Entry) (g : GoodOrdered t) (k : EntryGood t.head.mark.0 e) (n : find_row t.rows e.key ≡ None) (h : 0 < free_rows t.rows) where
   abbrev place : ℕ
   place = rows_below e.key t.rows
 
@@ -157,6 +156,6 @@ pub inserts-good : InsertsGood
 inserts-good t key d g k n h =
     let e : Entry = record { key = key; doc = d } in
     let b = table_bytes t in
-    let f : free_in 0 (table_of b).rows ≡ At (used_first t.rows) =
-    ap (λ (x : Table). free_in 0 x.rows) (good-sound t g.good).1 ∙ free-at t.rows 0 h ∙ ap At (zero-add (used_first t.rows)) in
+    let f : free_in 0 (table_of b).rows ≡ Some (used_first t.rows) =
+    ap (λ (x : Table). free_in 0 x.rows) (good-sound t g.good).1 ∙ free-at t.rows 0 h ∙ ap Some (zero-add (used_first t.rows)) in
     ap (inserted_by b (rows_below key t.rows) e) f ∙ bytes-inserted t e g k n h

@@ -3,7 +3,7 @@ use native.Mathlib.Omega.{arith}
 use mathlib.Core.Path.{◌≡◌, sym, ap, ◌∙◌}
 use mathlib.Core.Bool.{false, and-false}
 use mathlib.Core.List.{List, []}
-use mathlib.Core.Option.{some}
+use Rattle.std.specs.Prelude.{Some}
 use Prim.Native.Nat.{ℕ, ◌+◌, ◌-◌, ◌*◌, ◌≤◌, ◌<◌}
 use lib.Dec.{leb}
 use lib.ListN.{length, drop, drop_of_length-le}
@@ -26,7 +26,7 @@ module _ (e : Entry) (room : length e.key + length e.doc.value ≤ 1280) where
   whole = 1280 - length e.key
 
   -- an entry over a whole row, whatever it held
-  over-whole : (r : List ℕ) → length r ≡ 1312 → over_bytes r e whole ≡ row_bytes (some e)
+  over-whole : (r : List ℕ) → length r ≡ 1312 → over_bytes r e whole ≡ row_bytes (Some e)
   unfolding zeros
   over-whole r l =
       let n : 32 + (length e.key + whole) ≡ 1312 = omega arith in
@@ -56,12 +56,12 @@ module _ (e : Entry) (room : length e.key + length e.doc.value ≤ 1280) where
         let l : length apart ≡ length b = apart-length in
         let c : i < row_count apart = omega arith in
         let z : length (row_at apart i) ≡ 1312 = row-size apart i c in
-        let o : over_bytes (row_at apart i) e whole ≡ row_bytes (some e) = over-whole (row_at apart i) z in
-        let w : length (row_bytes (some e)) ≡ 1312 = ap length (sym o) ∙ length_over (row_at apart i) e whole ∙ z in
+        let o : over_bytes (row_at apart i) e whole ≡ row_bytes (Some e) = over-whole (row_at apart i) z in
+        let w : length (row_bytes (Some e)) ≡ 1312 = ap length (sym o) ∙ length_over (row_at apart i) e whole ∙ z in
         q
         ∙ ap (λ (x : List ℕ). row_stored x i e whole) p
         ∙ rw (lt-ltb i (row_count apart) c, o)
-        (pasted-before b at 1312 (row_bytes (some e)) rows w (omega arith)
+        (pasted-before b at 1312 (row_bytes (Some e)) rows w (omega arith)
         ∙ rw (le-leb i u h, lt-ltb u (row_count b) k, le-leb (length e.key + length e.doc.value) 1280 room))
 
 module _ (b : List ℕ) (i u : ℕ) (e : Entry) where

@@ -1,6 +1,5 @@
 -- What an insertion and a purge mean on a good table in key order. Proved in proofs/.
-use Rattle.std.specs.Prelude.{ℕ, ◌<◌, ◌≡◌}
-use Rattle.std.proofs.Math.Option.{none}
+use Rattle.std.specs.Prelude.{ℕ, ◌<◌, ◌≡◌, None}
 use Rattle.document.specs.Documents.{Key, Doc}
 use Rattle.document.specs.Stored.{gone_doc}
 use Rattle.rows.specs.Table.{Table, table_bytes}
@@ -17,7 +16,7 @@ use Rattle.ordered_writer.specs.Gaps.{gaps_closed}
 abbrev pub InsertsGood : Type 0
 InsertsGood =
     (t : Table) (key : Key) (d : Doc) → GoodOrdered t → EntryGood t.head.mark.0 (record { key = key; doc = d })
-    → find_row t.rows key ≡ none → 0 < free_rows t.rows
+    → find_row t.rows key ≡ None → 0 < free_rows t.rows
     → inserted (table_bytes t) (rows_below key t.rows) (record { key = key; doc = d })
     ≡ table_bytes (record { head = t.head; rows = ordered_engine.put t.rows key d })
 

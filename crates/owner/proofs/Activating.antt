@@ -8,13 +8,12 @@ use Rattle.octets.specs.Parts.{Bytes, written}
 use Rattle.octets.specs.BigEndian.{bytes_of}
 use Rattle.octets.proofs.Choices.{cases}
 use Rattle.rows.specs.Table.{table_of, table_bytes}
-use Rattle.engine.specs.declared.Checked.{Checked}
+use Rattle.std.specs.Prelude.{Option}
+use Rattle.document.specs.declared.Head.{Head}
 use Rattle.engine.specs.declared.Config.{Config}
 use Rattle.engines.specs.Damage.{sound_by, checked_by}
 use Rattle.engines.proofs.Tables.{sound-good-by, state-put}
-use Rattle.owning.specs.declared.Activated.{Activated}
-use Rattle.owning.specs.declared.Activated.TheVariants.{Damaged, Dead, Active}
-use Rattle.owning.specs.Owner.{is_dead, activate_of, activated_table, activated_bytes}
+use Rattle.owning.specs.Owner.{Activated, NotActivated as Damaged, Dead, Active, is_dead, activate_of, activated_table, activated_bytes}
 use Rattle.owning.proofs.Activating.{activate-damaged}
 use Rattle.owner.specs.Shown.{activation_of}
 
@@ -33,7 +32,7 @@ module _ (config : Config) (b : List ℕ) where
   unfolding checked_by activate_of table_of
   by-checked = cases (sound_by config b) (λ s. rw s) (λ s. rw s)
 
-  module _ (a : Activated) (c : Checked) (e : c ≡ checked_by config b) (f : a ≡ activation_of c) where
+  module _ (a : Activated) (c : Option Head) (e : c ≡ checked_by config b) (f : a ≡ activation_of c) where
     pub answers : a ≡ activate_of config b
     answers = f ∙ ap activation_of e ∙ by-checked
 
@@ -48,7 +47,7 @@ module _ (config : Config) (b : List ℕ) where
       absurd (omega arith))
 
   -- the state's byte, written alone
-  pub makes : (c : Checked) (s : List ℕ) → Bytes b → c ≡ checked_by config b → Active ≡ activation_of c → s ≡ written b 0 (bytes_of 1 1) → s ≡ activated_bytes config b
+  pub makes : (c : Option Head) (s : List ℕ) → Bytes b → c ≡ checked_by config b → Active ≡ activation_of c → s ≡ written b 0 (bytes_of 1 1) → s ≡ activated_bytes config b
   makes c s y e f w =
       let g = sound-good-by config b y (was-sound (answers Active c e f)) in
       w ∙ ap (λ (m : List ℕ). written m 0 (bytes_of 1 1)) (sym g.0) ∙ state-put (table_of b) 1 ∙ leaves Active c e f

@@ -3,17 +3,16 @@ use Prim.Native.Nat.{ℕ, ◌^◌, ◌<◌}
 use mathlib.Core.Path.{◌≡◌, refl, sym, ap, ◌∙◌}
 use mathlib.Core.Bool.{true, false, cond}
 use mathlib.Core.List.{List}
-use mathlib.Core.Option.{Option, none, some}
+use Rattle.std.specs.Prelude.{Option, Some, None, ℤ}
+use Rattle.document.specs.declared.Metadata.{Metadata}
 use lib.ListN.{length}
 use Rattle.octets.specs.Parts.{Bytes, written}
 use Rattle.octets.specs.BigEndian.{num, bytes_of}
 use Rattle.octets.proofs.Choices.{cases}
-use Rattle.numbers.specs.declared.Left.{Left}
 use Rattle.numbers.specs.Expiry.{later, seconds_left, is_past, seconds_in}
 use Rattle.document.specs.declared.Head.{Head}
 use Rattle.document.specs.Documents.{Key, Doc, doc_value}
 use Rattle.document.specs.Stored.{stored_of, is_document, numbers_of, gone_doc}
-use Rattle.document.specs.declared.Stored.{Stored}
 use Rattle.rows.specs.Row.{Row}
 use Rattle.rows.specs.Table.{head_of, table_of, table_at, clock_at, table_bytes}
 use Rattle.rows.specs.Find.{find_row, value_place}
@@ -25,16 +24,13 @@ use Rattle.table.specs.declared.Lookup.{Lookup}
 use Rattle.table.specs.Calls.{lookup_of, purged_by}
 use Rattle.table.proofs.Looking.{finds-sound}
 use Rattle.table.proofs.Keeping.{purges-good}
-use Rattle.owning.specs.declared.Document.{Document}
-use Rattle.owning.specs.declared.Document.TheVariants.{Damaged, Missing, Expired, Live}
-use Rattle.owning.specs.declared.Purged.TheVariants.{Damaged as NotPurged, Freed}
-use Rattle.owning.specs.Owner.{shown, read_of, purge_of, purged_bytes}
+use Rattle.owning.specs.Owner.{NotPurged, Freed, Document, Damaged, Missing, Expired, Live, shown, read_of, purge_of, purged_bytes}
 use Rattle.owner.specs.Shown.{shown_by}
 use Rattle.owner.specs.Purging.{purge_step}
 
 -- a lookup, by whether its row is a document, and by the time that is left to it
 module _ (clock : ℕ) (l : Lookup) where
-  abbrev pub left : Left
+  abbrev pub left : Option ℤ
   left = seconds_left (numbers_of l.stored).expiry clock
 
   pub shown-none : is_document l.stored ≡ false → Missing ≡ shown_by clock l
@@ -50,15 +46,15 @@ module _ (clock : ℕ) (l : Lookup) where
   shown-live e p = rw (e, p)
 
 -- what a row with its value at a place shows
-abbrev told : ℕ → Stored → ℕ → ℕ → Document
+abbrev told : ℕ → Option Metadata → ℕ → ℕ → Document
 told clock s at len =
     let left = seconds_left (numbers_of s).expiry clock in
     cond (is_document s) (cond (is_past left) (Expired (seconds_in left)) (Live (numbers_of s) left at len)) Missing
 
 -- by what the table's rows have for the key
 by-doc : (rows : List Row) (clock : ℕ) (key : Key) (o : Option Doc) → told clock (stored_of o) (value_place rows key 16) (length (doc_value o)) ≡ shown rows clock key o
-by-doc rows clock key none = refl
-by-doc rows clock key (some d) = cases d.tomb (λ t. rw t) (λ t. rw t)
+by-doc rows clock key None = refl
+by-doc rows clock key (Some d) = cases d.tomb (λ t. rw t) (λ t. rw t)
 
 -- the later of the head's clock and the call's
 pub later-at : (b : List ℕ) (clock : ℕ) (h : Head) (now : ℕ) → h ≡ head_of b → now ≡ later h.clock clock → now ≡ clock_at (table_of b) clock

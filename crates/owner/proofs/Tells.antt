@@ -3,7 +3,7 @@ use native.Mathlib.Omega.{arith}
 use mathlib.Core.Path.{◌≡◌, refl, sym, ap, ◌∙◌}
 use mathlib.Core.Bool.{Bool, true, false, cond, not, false≢true}
 use mathlib.Core.List.{List}
-use mathlib.Core.Option.{Option, none, some}
+use Rattle.std.specs.Prelude.{Option, Some, None, ℤ}
 use Prim.Native.Nat.{ℕ}
 use lib.ListN.{length}
 use lib.Dec.{eqb}
@@ -13,12 +13,9 @@ use borrow.Author.Tests.{not-true, not-false}
 use Rattle.octets.specs.Parts.{part}
 use Rattle.octets.proofs.Choices.{cases, both}
 use Rattle.octets.proofs.Options.{options, none-some}
-use Rattle.numbers.specs.declared.Left.{Left}
-use Rattle.numbers.specs.declared.Left.TheVariants.{Never, Seconds}
 use Rattle.numbers.specs.Expiry.{seconds_left, is_past, seconds_in, expired}
 use Rattle.document.specs.Documents.{Key, Doc, doc_value}
 use Rattle.document.specs.Stored.{metadata_of, stored_of, live, is_document, gone_doc}
-use Rattle.document.specs.declared.Stored.TheVariants.{Used}
 use Rattle.rows.specs.Row.{Row}
 use Rattle.rows.specs.Table.{table_of, table_at, clock_at, fresh}
 use Rattle.rows.specs.Find.{find_row, value_place}
@@ -26,35 +23,34 @@ use Rattle.plain.proofs.TableLaws.{no_key}
 use Rattle.engines.specs.Damage.{sound_by}
 use Rattle.engines.proofs.Tables.{sound-good-by, good-sound-by, purge-good-by, fresh-good-by, clock-good-by}
 use Rattle.table.proofs.Looking.{finds-sound}
-use Rattle.owning.specs.declared.Document.TheVariants.{Missing, Live}
-use Rattle.owning.specs.Owner.{shown, shown_left, purged_bytes, make_ok}
+use Rattle.owning.specs.Owner.{Missing, Live, shown, shown_left, purged_bytes, make_ok}
 use Rattle.owner.specs.Claims.{ReadShows, ReadMisses, ReadExpired, NoSuchKey, PurgeSound, MakeSound}
 use Rattle.owner.proofs.Making.{accepted, refused, in-range}
 use Rattle.owner.proofs.Reading.{read-sound}
 
 abbrev kept : ℕ → Option Doc → Option Doc
-kept clock o = cond (live (stored_of o) clock) o none
+kept clock o = cond (live (stored_of o) clock) o None
 
-kept-live : (clock : ℕ) (d : Doc) → live (Used (metadata_of d)) clock ≡ true → kept clock (some d) ≡ some d
-kept-live clock d t = ap (λ (c : Bool). cond c (some d) none) t
+kept-live : (clock : ℕ) (d : Doc) → live (Some (metadata_of d)) clock ≡ true → kept clock (Some d) ≡ Some d
+kept-live clock d t = ap (λ (c : Bool). cond c (Some d) None) t
 
-kept-over : (clock : ℕ) (d : Doc) → live (Used (metadata_of d)) clock ≡ false → kept clock (some d) ≡ none
-kept-over clock d t = ap (λ (c : Bool). cond c (some d) none) t
+kept-over : (clock : ℕ) (d : Doc) → live (Some (metadata_of d)) clock ≡ false → kept clock (Some d) ≡ None
+kept-over clock d t = ap (λ (c : Bool). cond c (Some d) None) t
 
-kept-none : (clock : ℕ) → kept clock none ≡ none
+kept-none : (clock : ℕ) → kept clock None ≡ None
 unfolding live
 kept-none clock = refl
 
 -- ---- the time that is left
 -- a live document isn't past, and one that isn't live is
-shown-live : (rows : List Row) (clock : ℕ) (key : Key) (d : Doc) → live (Used (metadata_of d)) clock ≡ true
-    → shown rows clock key (some d) ≡ Live d.numbers (seconds_left d.numbers.expiry clock) (value_place rows key 16) (length d.value)
+shown-live : (rows : List Row) (clock : ℕ) (key : Key) (d : Doc) → live (Some (metadata_of d)) clock ≡ true
+    → shown rows clock key (Some d) ≡ Live d.numbers (seconds_left d.numbers.expiry clock) (value_place rows key 16) (length d.value)
 unfolding live expired
 shown-live rows clock key d t =
     let (tomb, past) = both (not d.tomb) (not (is_past (seconds_left d.numbers.expiry clock))) t in
     rw (not-true d.tomb tomb, not-true (is_past (seconds_left d.numbers.expiry clock)) past)
 
-past-over : (clock : ℕ) (d : Doc) → d.tomb ≡ false → live (stored_of (some d)) clock ≡ false → is_past (seconds_left d.numbers.expiry clock) ≡ true
+past-over : (clock : ℕ) (d : Doc) → d.tomb ≡ false → live (stored_of (Some d)) clock ≡ false → is_past (seconds_left d.numbers.expiry clock) ≡ true
 unfolding live expired
 past-over clock d e f = not-false (is_past (seconds_left d.numbers.expiry clock)) (rw e at f)
 
@@ -63,9 +59,9 @@ unfolding seconds_left
 past-difference expiry clock p =
     cases (eqb expiry 0) (λ z. absurd (false≢true (rw z at p))) (λ z. rw z)
 
-past-least : (left : Left) → is_past left ≡ true → le_z (seconds_in left) (pos 0) ≡ true
-past-least Never p = absurd (false≢true p)
-past-least (Seconds n) p = p
+past-least : (left : Option ℤ) → is_past left ≡ true → le_z (seconds_in left) (pos 0) ≡ true
+past-least None p = absurd (false≢true p)
+past-least (Some n) p = p
 
 pub read-shows : ReadShows
 read-shows config b call key d y s e =
@@ -74,9 +70,9 @@ read-shows config b call key d y s e =
     let f = finds-sound config b key false y s in
     options (find_row rows key)
     (λ n. none-some d (sym (ap (kept clock) n ∙ kept-none clock) ∙ e))
-    (λ x o. cases (live (Used (metadata_of x)) clock)
+    (λ x o. cases (live (Some (metadata_of x)) clock)
     (λ t.
-    let z : some x ≡ some d = sym (ap (kept clock) o ∙ kept-live clock x t) ∙ e in
+    let z : Some x ≡ Some d = sym (ap (kept clock) o ∙ kept-live clock x t) ∙ e in
     let q : x ≡ d = cc in
     let l = value_place rows key 16 in
     let at = f.stands in

@@ -1,6 +1,5 @@
 -- What the owner's calls mean on a sound table. Proved in proofs/Tells.antt.
-use Rattle.std.specs.Prelude.{ℕ, ◌+◌, ◌^◌, ◌≤◌, ◌<◌, ◌≡◌, List, true, false, cond, ◌⊎◌, length, ℤ, pos, ◌-ℤ◌}
-use Rattle.std.proofs.Math.Option.{Option, none, some}
+use Rattle.std.specs.Prelude.{ℕ, ◌+◌, ◌^◌, ◌≤◌, ◌<◌, ◌≡◌, List, true, false, cond, ◌⊎◌, length, ℤ, pos, ◌-ℤ◌, Option, Some, None}
 use Rattle.std.specs.Int.Signed.{le_z}
 use Rattle.octets.specs.Parts.{Bytes, part}
 use Rattle.document.specs.Documents.{Key, Doc}
@@ -10,12 +9,11 @@ use Rattle.rows.specs.Table.{table_of, clock_at}
 use Rattle.rows.specs.Find.{find_row}
 use Rattle.engine.specs.declared.Config.{Config}
 use Rattle.engines.specs.Damage.{sound_by}
-use Rattle.owning.specs.declared.Document.TheVariants.{Missing, Expired, Live}
-use Rattle.owning.specs.Owner.{read_of, purged_bytes, made, make_outcome}
+use Rattle.owning.specs.Owner.{Missing, Expired, Live, read_of, purged_bytes, made, make_outcome}
 
 -- the live document of a key, at the later of the kept clock and the call's
 abbrev pub live_doc : List ℕ → ℕ → Key → Option Doc
-live_doc b clock key = cond (live (stored_of (find_row (table_of b).rows key)) (clock_at (table_of b) clock)) (find_row (table_of b).rows key) none
+live_doc b clock key = cond (live (stored_of (find_row (table_of b).rows key)) (clock_at (table_of b) clock)) (find_row (table_of b).rows key) None
 
 -- reading shows a document: its numbers, the time that is left to it, and its value as a part of the table memory
 pub record Shows (config : Config) (b : List ℕ) (clock : ℕ) (key : Key) (d : Doc) : Type 0 where
@@ -27,7 +25,7 @@ pub record Shows (config : Config) (b : List ℕ) (clock : ℕ) (key : Key) (d :
 
 abbrev pub ReadShows : Type 0
 ReadShows =
-    (config : Config) (b : List ℕ) (clock : ℕ) (key : Key) (d : Doc) → Bytes b → sound_by config b ≡ true → live_doc b clock key ≡ some d
+    (config : Config) (b : List ℕ) (clock : ℕ) (key : Key) (d : Doc) → Bytes b → sound_by config b ≡ true → live_doc b clock key ≡ Some d
     → Shows config b clock key d
 
 -- no row, or a tombstone
@@ -45,8 +43,8 @@ pub record ShowsPast (config : Config) (b : List ℕ) (clock : ℕ) (key : Key) 
 
 abbrev pub ReadExpired : Type 0
 ReadExpired =
-    (config : Config) (b : List ℕ) (clock : ℕ) (key : Key) (d : Doc) → Bytes b → sound_by config b ≡ true → find_row (table_of b).rows key ≡ some d
-    → d.tomb ≡ false → live (stored_of (some d)) (clock_at (table_of b) clock) ≡ false → ShowsPast config b clock key d
+    (config : Config) (b : List ℕ) (clock : ℕ) (key : Key) (d : Doc) → Bytes b → sound_by config b ≡ true → find_row (table_of b).rows key ≡ Some d
+    → d.tomb ≡ false → live (stored_of (Some d)) (clock_at (table_of b) clock) ≡ false → ShowsPast config b clock key d
 
 -- "so for a key of 0 or over 250 bytes too"
 abbrev pub NoSuchKey : Type 0

@@ -3,16 +3,20 @@
 
 ghost use Rattle.std.specs.Prelude.{◌≡◌, ◌+◌, ◌*◌, ◌≤◌, length};
 ghost use Rattle.rows.specs.Table.{table_bytes, fresh};
-ghost use Rattle.owning.specs.Owner.{size_of, make_ok, make_outcome, made, read_of, purge_of, purged_bytes, activate_of, activated_bytes};
-ghost use Rattle.owner.specs.Shown.{shown_by, activation_of};
+ghost use Rattle.owning.specs.Owner.{made_told, read_told, purged_told, activated_told, size_of, make_ok, make_outcome, made, read_of, purge_of, purged_bytes, activate_of, activated_bytes};
+ghost use Rattle.owner.specs.Shown.{shown_by};
 ghost use Rattle.owner.specs.Purging.{purge_step};
 
 use document::Head;
-use engine::{Checked, Config};
+use engine::Config;
 use numbers::Cas;
-use owning::{Activated, Document, Purged};
+use owning::{ActivateError, Document, MakeError, PurgeError, ReadError};
 use rows::{HEADER, ROW};
 use table::Lookup;
+
+const ACTIVE: u8 = 1;
+
+const DEAD: u8 = 4;
 
 // The bytes that a table of so many rows needs, 0 where no table has so many.
 pub fn size(rows: usize) -> usize
@@ -49,43 +53,46 @@ fn put_fresh(s: &mut [u8], rows: usize, state: u8, mode: u8, vbucket: u16)
     octet_writer::put_zeros(s, HEADER, rows * ROW);
 }
 
-// Makes a fresh table: 0, or 5 where it is refused and the memory is unchanged.
-pub fn make(s: &mut [u8], rows: usize, state: u8, mode: u8, vbucket: u16) -> u8
-    ensures { (result ≡ make_outcome (length s.old) rows state mode) × (s.new ≡ made s.old rows state mode vbucket) }
+// Makes a fresh table. Where that is refused the memory is unchanged. State and mode are numbers: telling which are in range is this call's part
+// (`make_ok`).
+pub fn make(s: &mut [u8], rows: usize, state: u8, mode: u8, vbucket: u16) -> Result<(), MakeError>
+    ensures { (made_told result ≡ make_outcome (length s.old) rows state mode) × (s.new ≡ made s.old rows state mode vbucket) }
 {
     if !make_ok(s.len(), rows, state, mode) {
-        return 5;
+        return Err(MakeError::OutOfRange);
     }
     put_fresh(s, rows, state, mode, vbucket);
-    0
+    Ok(())
 }
 
-fn shown(l: Lookup, clock: u32) -> Document
-    ensures { result ≡ shown_by clock l }
+fn shown(l: Lookup, clock: u32) -> Result<Document, ReadError>
+    ensures { read_told result ≡ shown_by clock l }
 {
-    let stored = l.stored;
-    if !document::is_document(stored) {
-        return Document::Missing;
+    if !document::is_document(l.stored) {
+        return Err(ReadError::Missing);
     }
-    let numbers = document::numbers_of(stored);
+    let numbers = document::numbers_of(l.stored);
     let left = numbers::seconds_left(numbers.expiry, clock);
     if numbers::is_past(left) {
-        return Document::Expired(numbers::seconds_in(left));
+        return Err(ReadError::Expired(numbers::seconds_in(left)));
     }
-    Document::Live(numbers, left, l.at, l.len)
+    Ok(Document {
+        numbers,
+        left,
+        at: l.at,
+        len: l.len,
+    })
 }
 
 // Reads a key's live document, at the later of the kept clock and this one. Nothing changes.
-pub fn read(config: Config, s: &[u8], clock: u32, key: &[u8]) -> Document
-    ensures { result ≡ read_of config s.now clock key.now }
+pub fn read(config: Config, s: &[u8], clock: u32, key: &[u8]) -> Result<Document, ReadError>
+    ensures { read_told result ≡ read_of config s.now clock key.now }
 {
-    match table::checked(config, s) {
-        Checked::Damaged => Document::Damaged,
-        Checked::Sound(head) => shown(
-            table::find(config, s, key, false),
-            numbers::later(head.clock, clock),
-        ),
-    }
+    let Some(head) = table::checked(config, s) else {
+        return Err(ReadError::Damaged);
+    };
+    let lookup = table::find(config, s, key, false);
+    shown(lookup, numbers::later(head.clock, clock))
 }
 
 // Purges memory that its caller knows to be a table that is not damaged, and says how many rows were freed.
@@ -99,39 +106,25 @@ pub fn purge_step(config: Config, s: &mut [u8], clock: u32, bound: Cas) -> usize
 
 // Frees the tombstones and expired documents with CAS at or below the bound, and says how many. The later of the kept clock and
 // this one decides, and is kept.
-pub fn purge(config: Config, s: &mut [u8], clock: u32, bound: Cas) -> Purged
-    ensures { (result ≡ purge_of config s.old clock bound.0) × (s.new ≡ purged_bytes config s.old clock bound.0) }
+pub fn purge(config: Config, s: &mut [u8], clock: u32, bound: Cas) -> Result<usize, PurgeError>
+    ensures { (purged_told result ≡ purge_of config s.old clock bound.0) × (s.new ≡ purged_bytes config s.old clock bound.0) }
 {
-    match table::checked(config, s) {
-        Checked::Damaged => Purged::Damaged,
-        Checked::Sound(_) => Purged::Freed(purge_step(config, s, clock, bound)),
+    if !table::is_sound(config, s) {
+        return Err(PurgeError::Damaged);
     }
-}
-
-fn activation(c: Checked) -> Activated
-    ensures { result ≡ activation_of c }
-{
-    match c {
-        Checked::Damaged => Activated::Damaged,
-        Checked::Sound(head) => {
-            if head.state == 4 {
-                return Activated::Dead;
-            }
-            Activated::Active
-        }
-    }
+    Ok(purge_step(config, s, clock, bound))
 }
 
 // Makes a table active, unless it is damaged or dead. Nothing but the state changes.
-pub fn activate(config: Config, s: &mut [u8]) -> Activated
-    ensures { (result ≡ activate_of config s.old) × (s.new ≡ activated_bytes config s.old) }
+pub fn activate(config: Config, s: &mut [u8]) -> Result<(), ActivateError>
+    ensures { (activated_told result ≡ activate_of config s.old) × (s.new ≡ activated_bytes config s.old) }
 {
-    match activation(table::checked(config, s)) {
-        Activated::Damaged => Activated::Damaged,
-        Activated::Dead => Activated::Dead,
-        Activated::Active => {
-            row_writer::put_state(s, 1);
-            Activated::Active
-        }
+    let Some(head) = table::checked(config, s) else {
+        return Err(ActivateError::Damaged);
+    };
+    if head.state == DEAD {
+        return Err(ActivateError::Dead);
     }
+    row_writer::put_state(s, ACTIVE);
+    Ok(())
 }

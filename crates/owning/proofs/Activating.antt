@@ -15,9 +15,7 @@ use Rattle.engine.specs.declared.Config.{Config}
 use Rattle.engines.specs.Damage.{sound_by}
 use Rattle.engines.specs.Claims.{GoodBy}
 use Rattle.engines.proofs.Tables.{sound-good-by, good-sound-by, state-good-by}
-use Rattle.owning.specs.declared.Activated.{Activated}
-use Rattle.owning.specs.declared.Activated.TheVariants.{Damaged, Dead, Active}
-use Rattle.owning.specs.Owner.{is_dead, activate_outcome, activate_status, activate_of, activated_table, activated_bytes}
+use Rattle.owning.specs.Owner.{Activated, NotActivated as Damaged, Dead, Active, is_dead, activate_outcome, activate_status, activate_of, activated_table, activated_bytes}
 use Rattle.owning.specs.Claims.{ActivateAnswers, SameButActive, ActivateDamaged, ActivateDead, ActivateActive, ActivateMakes, ActivateKeeps, ActivateTwice}
 
 -- ---- by the damage test and the state

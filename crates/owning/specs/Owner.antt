@@ -1,8 +1,16 @@
 -- The owner's calls, on any memory: make a fresh table, read a document, purge, and make a table active. Of reading and purging: "Both answer 5 on a damaged table and change nothing."
-use Rattle.std.specs.Prelude.{ℕ, ◌+◌, ◌*◌, List, Bool, cond, ◌&&◌, length, leb, eqb}
-use Rattle.std.proofs.Math.Option.{Option, none, some}
+use Rattle.std.specs.Prelude.{ℕ, ◌+◌, ◌*◌, List, Bool, cond, ◌&&◌, length, leb, eqb, Option, Some, None, ℤ}
+use Rattle.std.specs.declared.result.Result.{Result}
+use Rattle.std.specs.declared.result.Result.TheVariants.{Ok, Err}
 use Rattle.document.specs.Documents.{Key, Doc}
-use Rattle.numbers.specs.declared.Left.{Left}
+use Rattle.numbers.specs.declared.Numbers.{Numbers}
+use Rattle.owning.specs.declared.Document.{Document as Shown}
+use Rattle.owning.specs.declared.ReadError.{ReadError}
+use Rattle.owning.specs.declared.ReadError.TheVariants.{Damaged as NotRead, Missing as NoDocument, Expired as Past}
+use Rattle.owning.specs.declared.PurgeError.{PurgeError}
+use Rattle.owning.specs.declared.ActivateError.{ActivateError}
+use Rattle.owning.specs.declared.ActivateError.TheVariants.{Damaged as DamagedTable, Dead as DeadTable}
+use Rattle.owning.specs.declared.MakeError.{MakeError}
 use Rattle.numbers.specs.Expiry.{seconds_left, is_past, seconds_in}
 use Rattle.document.specs.declared.Head.{Head}
 use Rattle.document.specs.Head.{stated}
@@ -11,22 +19,60 @@ use Rattle.rows.specs.Row.{Row}
 use Rattle.rows.specs.Table.{Table, table_of, table_at, clock_at, table_bytes, fresh}
 use Rattle.rows.specs.RowRules.{size_ok}
 use Rattle.rows.specs.Find.{find_row, value_place}
-use Rattle.engine.specs.declared.Checked.TheVariants.{Damaged as NotSound}
 use Rattle.engine.specs.declared.Config.{Config}
 use Rattle.plain.specs.Damage.{checked_outcome}
 use Rattle.plain.specs.Purge.{gone_count}
 use Rattle.engines.specs.Engines.{engine_of}
 use Rattle.engines.specs.Damage.{sound_by}
-use Rattle.owning.specs.declared.Document.{Document}
-use Rattle.owning.specs.declared.Document.TheVariants.{Damaged, Missing, Expired, Live}
-use Rattle.owning.specs.declared.Purged.{Purged}
-use Rattle.owning.specs.declared.Purged.TheVariants.{Damaged as NotPurged, Freed}
-use Rattle.owning.specs.declared.Activated.{Activated}
-use Rattle.owning.specs.declared.Activated.TheVariants.{Damaged as NotActivated, Dead, Active}
+
+-- what a read answers: outcome 5; status 0x01, for an expired document with the seconds that are left; or the live document's four numbers, the time that is left, and where its value stands: a place and a length
+pub data Document : Type 0 where
+  Damaged : Document
+  Missing : Document
+  Expired : ℤ → Document
+  Live : Numbers → Option ℤ → ℕ → ℕ → Document
+
+-- outcome 5, or how many rows were freed
+pub data Purged : Type 0 where
+  NotPurged : Purged
+  Freed : ℕ → Purged
+
+-- outcome 5; status 0x07, for a dead table; or the table is active
+pub data Activated : Type 0 where
+  NotActivated : Activated
+  Dead : Activated
+  Active : Activated
+
+-- what the code answers, in these
+abbrev pub unread_told : ReadError → Document
+unread_told NotRead = Damaged
+unread_told NoDocument = Missing
+unread_told (Past left) = Expired left
+
+abbrev pub read_told : Result Shown ReadError → Document
+read_told (Ok d) = Live d.numbers d.left d.at d.len
+read_told (Err e) = unread_told e
+
+abbrev pub purged_told : Result ℕ PurgeError → Purged
+purged_told (Ok n) = Freed n
+purged_told (Err e) = NotPurged
+
+abbrev pub inactive_told : ActivateError → Activated
+inactive_told DamagedTable = NotActivated
+inactive_told DeadTable = Dead
+
+abbrev pub activated_told : Result (Unit {0}) ActivateError → Activated
+activated_told (Ok done) = Active
+activated_told (Err e) = inactive_told e
+
+-- 01's outcome of making a table: "refused with 5"
+abbrev pub made_told : Result (Unit {0}) MakeError → ℕ
+made_told (Ok done) = 0
+made_told (Err e) = 5
 
 -- 01's numbers for the answers: outcome 5 on a damaged table, status 0x01 where there is no live document
 abbrev pub read_outcome : Document → ℕ
-read_outcome Damaged = checked_outcome NotSound
+read_outcome Damaged = checked_outcome None
 read_outcome Missing = 0
 read_outcome (Expired s) = 0
 read_outcome (Live n left at len) = 0
@@ -38,7 +84,7 @@ read_status (Expired s) = 0x01
 read_status (Live n left at len) = 0
 
 abbrev pub purge_outcome : Purged → ℕ
-purge_outcome NotPurged = checked_outcome NotSound
+purge_outcome NotPurged = checked_outcome None
 purge_outcome (Freed n) = 0
 
 -- how many rows a purge freed
@@ -48,7 +94,7 @@ purged_count (Freed n) = n
 
 -- order 9, of making a table active: "It answers 5 on a damaged table and 0x07 on a dead one."
 abbrev pub activate_outcome : Activated → ℕ
-activate_outcome NotActivated = checked_outcome NotSound
+activate_outcome NotActivated = checked_outcome None
 activate_outcome Dead = 0
 activate_outcome Active = 0
 
@@ -75,12 +121,12 @@ made b n state mode vbucket = cond (make_ok (length b) n state mode) (table_byte
 
 -- "the live document's four numbers and where its value stands in the table memory, or status 0x01 exactly if there is none"; order 5, of the seconds left:
 -- "The owner's read shows it, beside 0x01 for an expired document too."
-abbrev pub shown_left : List Row → Key → Doc → Left → Document
+abbrev pub shown_left : List Row → Key → Doc → Option ℤ → Document
 shown_left rows key d left = cond (is_past left) (Expired (seconds_in left)) (Live d.numbers left (value_place rows key 16) (length d.value))
 
 abbrev pub shown : List Row → ℕ → Key → Option Doc → Document
-shown rows clock key none = Missing
-shown rows clock key (some d) = cond d.tomb Missing (shown_left rows key d (seconds_left d.numbers.expiry clock))
+shown rows clock key None = Missing
+shown rows clock key (Some d) = cond d.tomb Missing (shown_left rows key d (seconds_left d.numbers.expiry clock))
 
 -- at the later of the two clocks; it takes the memory as it is, and so raises none
 unfoldable pub read_of : Config → List ℕ → ℕ → Key → Document

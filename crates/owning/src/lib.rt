@@ -1,29 +1,41 @@
 // What the owner's calls answer. What they mean is in specs/: definitions that the code and the theorems share.
 #![tactic(auto)]
 
-use numbers::{Left, Numbers};
+use numbers::Numbers;
 
-// Outcome 5; status 0x01, for an expired document with the seconds that are left; or the live document's four numbers, the time that
-// is left, and where its value stands: a place and a length.
+// A live document: its four numbers, the seconds that are left, none where it never expires, and where its value stands: a place and a
+// length.
 #[derive(Clone, Copy)]
-pub enum Document {
+pub struct Document {
+    pub numbers: Numbers,
+    pub left: Option<i64>,
+    pub at: usize,
+    pub len: usize,
+}
+
+// Why there is no live document to show: outcome 5, or status 0x01, for an expired document with the seconds that are left.
+#[derive(Clone, Copy, Debug, PartialEq, Eq)]
+pub enum ReadError {
     Damaged,
     Missing,
     Expired(i64),
-    Live(Numbers, Left, usize, usize),
 }
 
-// Outcome 5, or how many rows were freed.
-#[derive(Clone, Copy)]
-pub enum Purged {
+// Why nothing was purged: outcome 5.
+#[derive(Clone, Copy, Debug, PartialEq, Eq)]
+pub enum PurgeError {
     Damaged,
-    Freed(usize),
 }
 
-// Outcome 5; status 0x07, for a dead table; or the table is active.
-#[derive(Clone, Copy)]
-pub enum Activated {
+// Why a table wasn't made active: outcome 5, or status 0x07.
+#[derive(Clone, Copy, Debug, PartialEq, Eq)]
+pub enum ActivateError {
     Damaged,
     Dead,
-    Active,
+}
+
+// Why no table was made: outcome 5. The row count, state or mode is out of range, or the memory has another size.
+#[derive(Clone, Copy, Debug, PartialEq, Eq)]
+pub enum MakeError {
+    OutOfRange,
 }

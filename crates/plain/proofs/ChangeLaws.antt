@@ -3,7 +3,7 @@ use native.Mathlib.Omega.{arith}
 use mathlib.Core.Path.{◌≡◌, refl, sym, ap, ◌∙◌}
 use mathlib.Core.Bool.{Bool}
 use mathlib.Core.List.{List, [], ◌∷◌, ◌++◌}
-use mathlib.Core.Option.{none, some}
+use Rattle.std.specs.Prelude.{Some, None}
 use Prim.Native.Nat.{ℕ, zero, suc, ◌+◌, ◌*◌, ◌≤◌, ◌<◌}
 use lib.ListN.{length, set, replicate, length-set, length-replicate, replicate-append-replicate}
 use Rattle.octets.specs.Parts.{pasted}
@@ -38,8 +38,8 @@ entry-raise m mark e h g = record {
 
 pub raise : (m mark : ℕ) (ws : List Row) → m ≤ mark → AllGood m ws → AllGood mark ws
 raise m mark [] h g = tt
-raise m mark (none ∷ ws) h g = raise m mark ws h g
-raise m mark (some e ∷ ws) h g = (entry-raise m mark e h g.0, raise m mark ws h g.1)
+raise m mark (None ∷ ws) h g = raise m mark ws h g
+raise m mark (Some e ∷ ws) h g = (entry-raise m mark e h g.0, raise m mark ws h g.1)
 
 -- a row put at a place, in the rows and in their bytes
 module _ (mark : ℕ) (w : Row) (r : RowGood mark w) where
@@ -70,7 +70,7 @@ pub put-good : (t : Table) (key : Key) (d : Doc) → Good t → EntryGood t.head
     → Good (record { head = t.head; rows = put_row t.rows key d })
 put-good t key d g k room =
     let p = place-room key t.rows room in
-    let row : put_row t.rows key d ≡ set t.rows p.0 (some (record { key = key; doc = d })) = (at_place key t.rows p.0 p.1).put d in
+    let row : put_row t.rows key d ≡ set t.rows p.0 (Some (record { key = key; doc = d })) = (at_place key t.rows p.0 p.1).put d in
     record {
       least = rw (row, length-set) g.least;
       most = rw (row, length-set) g.most;
@@ -79,15 +79,15 @@ put-good t key d g k room =
       vbucket = g.vbucket;
       clock = g.clock;
       mark = g.mark;
-      rows = rw row (good-set t.head.mark.0 (some (record { key = key; doc = d })) k t.rows p.0 g.rows);
+      rows = rw row (good-set t.head.mark.0 (Some (record { key = key; doc = d })) k t.rows p.0 g.rows);
       keys = plain-laws.good-put t.rows key d g.keys room;
     }
 
 module _ (p : Doc → Bool) where
   rows-purge : (mark : ℕ) (ws : List Row) → AllGood mark ws → AllGood mark (purge_rows ws p)
   rows-purge mark [] g = tt
-  rows-purge mark (none ∷ ws) g = rows-purge mark ws g
-  rows-purge mark (some x ∷ ws) g = cases (p x.doc) (λ e. rw e (rows-purge mark ws g.1)) (λ e. rw e (g.0, rows-purge mark ws g.1))
+  rows-purge mark (None ∷ ws) g = rows-purge mark ws g
+  rows-purge mark (Some x ∷ ws) g = cases (p x.doc) (λ e. rw e (rows-purge mark ws g.1)) (λ e. rw e (g.0, rows-purge mark ws g.1))
 
 pub purge-good : PurgeGood
 purge-good t p g = record {
@@ -103,17 +103,17 @@ purge-good t p g = record {
 }
 
 -- a fresh table
-pub free-good : (mark n : ℕ) → AllGood mark (replicate n none)
+pub free-good : (mark n : ℕ) → AllGood mark (replicate n None)
 free-good mark zero = tt
 free-good mark (suc n) = free-good mark n
 
-free-distinct : (n : ℕ) → Distinct (replicate n none)
+free-distinct : (n : ℕ) → Distinct (replicate n None)
 free-distinct zero = tt
 free-distinct (suc n) = free-distinct n
 
 pub fresh-good : FreshGood
 fresh-good n state mode vbucket l m s k v =
-    let e : length (replicate {A = Row} n none) ≡ n = length-replicate n none in
+    let e : length (replicate {A = Row} n None) ≡ n = length-replicate n None in
     record {
       least = rw e l;
       most = rw e m;
@@ -126,7 +126,7 @@ fresh-good n state mode vbucket l m s k v =
       keys = free-distinct n;
     }
 
-free-rows : (n : ℕ) → rows_bytes (replicate n none) ≡ replicate (n * 1312) 0
+free-rows : (n : ℕ) → rows_bytes (replicate n None) ≡ replicate (n * 1312) 0
 unfolding row_bytes
 free-rows zero = refl
 free-rows (suc n) =

@@ -1,16 +1,16 @@
 -- The plain engine meets the laws of an engine.
+use Rattle.std.specs.Prelude.{is_some, Option, Some, None}
 use native.Mathlib.Omega.{arith}
 use mathlib.Core.Path.{◌≡◌, refl, sym, ◌∙◌, ap}
 use mathlib.Core.Bool.{Bool, false, cond, true≢false}
 use mathlib.Core.List.{List, [], ◌∷◌}
-use mathlib.Core.Option.{Option, none, some}
 use Prim.Native.Nat.{suc, ◌+◌, ◌<◌}
 use lib.ListN.{length}
 use Rattle.octets.specs.Compare.{same}
 use Rattle.octets.proofs.Choices.{cases}
 use Rattle.octets.proofs.Tests.{same_true, same_refl}
 use Rattle.document.specs.Documents.{Key, Doc}
-use Rattle.engine.specs.Engine.{Laws, after_purge, is_some, find_entry, DistinctKeys}
+use Rattle.engine.specs.Engine.{Laws, after_purge, find_entry, DistinctKeys}
 use Rattle.rows.specs.Row.{Row}
 use Rattle.plain.specs.Plain.{replace, fill, purge_rows, Distinct, used_rows, plain}
 use Rattle.rows.specs.Find.{find_row, free_rows}
@@ -21,47 +21,47 @@ same-flip a b h = cases (same b a) (λ s. absurd (true≢false (sym (rw (same_tr
 
 -- the tests for two keys that differ can be swapped
 pub swap : (i k j : Key) (a b : Doc) (o : Option Doc) → same i k ≡ false
-    → cond (same i j) (some a) (cond (same k j) (some b) o) ≡ cond (same k j) (some b) (cond (same i j) (some a) o)
+    → cond (same i j) (Some a) (cond (same k j) (Some b) o) ≡ cond (same k j) (Some b) (cond (same i j) (Some a) o)
 swap i k j a b o h = cases (same k j) (λ s. rw (s, ← same_true k j s, h)) (λ s. rw s)
 
-find-replace : (r : List Row) (k : Key) (d e : Doc) → find_row r k ≡ some e → (j : Key) → find_row (replace r k d) j ≡ cond (same k j) (some d) (find_row r j)
+find-replace : (r : List Row) (k : Key) (d e : Doc) → find_row r k ≡ Some e → (j : Key) → find_row (replace r k d) j ≡ cond (same k j) (Some d) (find_row r j)
 find-replace [] k d e h j = none-some e h
-find-replace (none ∷ r) k d e h j = find-replace r k d e h j
-find-replace (some x ∷ r) k d e h j =
+find-replace (None ∷ r) k d e h j = find-replace r k d e h j
+find-replace (Some x ∷ r) k d e h j =
     cases (same x.key k)
     (λ s. rw (s, same_true x.key k s) (cases (same k j) (λ q. rw q) (λ q. rw q)))
     (λ s. rw (s, find-replace r k d e (rw s at h) j) (swap x.key k j x.doc d (find_row r j) s))
 
-find-fill : (r : List Row) (k : Key) (d : Doc) → find_row r k ≡ none → 0 < free_rows r → (j : Key) → find_row (fill r k d) j ≡ cond (same k j) (some d) (find_row r j)
+find-fill : (r : List Row) (k : Key) (d : Doc) → find_row r k ≡ None → 0 < free_rows r → (j : Key) → find_row (fill r k d) j ≡ cond (same k j) (Some d) (find_row r j)
 find-fill [] k d h f j = absurd (omega arith)
-find-fill (none ∷ r) k d h f j = refl
-find-fill (some x ∷ r) k d h f j =
+find-fill (None ∷ r) k d h f j = refl
+find-fill (Some x ∷ r) k d h f j =
     cases (same x.key k)
     (λ s. none-some x.doc (sym (rw s at h)))
     (λ s. rw (find-fill r k d (rw s at h) f j) (swap x.key k j x.doc d (find_row r j) s))
 
 free-replace : (r : List Row) (k : Key) (d : Doc) → free_rows (replace r k d) ≡ free_rows r
 free-replace [] k d = refl
-free-replace (none ∷ r) k d = ap suc (free-replace r k d)
-free-replace (some x ∷ r) k d = cases (same x.key k) (λ s. rw s) (λ s. rw s (free-replace r k d))
+free-replace (None ∷ r) k d = ap suc (free-replace r k d)
+free-replace (Some x ∷ r) k d = cases (same x.key k) (λ s. rw s) (λ s. rw s (free-replace r k d))
 
 free-fill : (r : List Row) (k : Key) (d : Doc) → 0 < free_rows r → suc (free_rows (fill r k d)) ≡ free_rows r
 free-fill [] k d f = omega arith
-free-fill (none ∷ r) k d f = refl
-free-fill (some x ∷ r) k d f = free-fill r k d f
+free-fill (None ∷ r) k d f = refl
+free-fill (Some x ∷ r) k d f = free-fill r k d f
 
-distinct-replace : (r : List Row) (k : Key) (d e : Doc) → find_row r k ≡ some e → Distinct r → Distinct (replace r k d)
+distinct-replace : (r : List Row) (k : Key) (d e : Doc) → find_row r k ≡ Some e → Distinct r → Distinct (replace r k d)
 distinct-replace [] k d e h g = tt
-distinct-replace (none ∷ r) k d e h g = distinct-replace r k d e h g
-distinct-replace (some x ∷ r) k d e h g =
+distinct-replace (None ∷ r) k d e h g = distinct-replace r k d e h g
+distinct-replace (Some x ∷ r) k d e h g =
     cases (same x.key k)
     (λ s. rw s (rw (same_true x.key k s) at g.0, g.1))
     (λ s. rw s (find-replace r k d e (rw s at h) x.key ∙ rw (same-flip x.key k s) g.0, distinct-replace r k d e (rw s at h) g.1))
 
-distinct-fill : (r : List Row) (k : Key) (d : Doc) → find_row r k ≡ none → 0 < free_rows r → Distinct r → Distinct (fill r k d)
+distinct-fill : (r : List Row) (k : Key) (d : Doc) → find_row r k ≡ None → 0 < free_rows r → Distinct r → Distinct (fill r k d)
 distinct-fill [] k d h f g = tt
-distinct-fill (none ∷ r) k d h f g = (h, g)
-distinct-fill (some x ∷ r) k d h f g =
+distinct-fill (None ∷ r) k d h f g = (h, g)
+distinct-fill (Some x ∷ r) k d h f g =
     cases (same x.key k)
     (λ s. none-some x.doc (sym (rw s at h)))
     (λ s. (find-fill r k d (rw s at h) f x.key ∙ rw (same-flip x.key k s) g.0, distinct-fill r k d (rw s at h) f g.1))
@@ -69,8 +69,8 @@ distinct-fill (some x ∷ r) k d h f g =
 module _ (p : Doc → Bool) where
   find-purge : (r : List Row) → Distinct r → (k : Key) → find_row (purge_rows r p) k ≡ after_purge p (find_row r k)
   find-purge [] g k = refl
-  find-purge (none ∷ r) g k = find-purge r g k
-  find-purge (some x ∷ r) g k =
+  find-purge (None ∷ r) g k = find-purge r g k
+  find-purge (Some x ∷ r) g k =
       cases (same x.key k)
       (λ s. cases (p x.doc)
       (λ t. rw (s, t, find-purge r g.1 k, ← same_true x.key k s, g.0))
@@ -79,42 +79,42 @@ module _ (p : Doc → Bool) where
 
   distinct-purge : (r : List Row) → Distinct r → Distinct (purge_rows r p)
   distinct-purge [] g = tt
-  distinct-purge (none ∷ r) g = distinct-purge r g
-  distinct-purge (some x ∷ r) g =
+  distinct-purge (None ∷ r) g = distinct-purge r g
+  distinct-purge (Some x ∷ r) g =
       cases (p x.doc)
       (λ t. rw t (distinct-purge r g.1))
       (λ t. rw t (find-purge r g.1 x.key ∙ ap (after_purge p) g.0, distinct-purge r g.1))
 
   pub length-purge : (ws : List Row) → length (purge_rows ws p) ≡ length ws
   length-purge [] = refl
-  length-purge (none ∷ ws) = ap suc (length-purge ws)
-  length-purge (some x ∷ ws) = ap suc (length-purge ws)
+  length-purge (None ∷ ws) = ap suc (length-purge ws)
+  length-purge (Some x ∷ ws) = ap suc (length-purge ws)
 
 -- the used rows' entries, and how many rows there are
 find-used : (r : List Row) (k : Key) → find_row r k ≡ find_entry (used_rows r) k
 find-used [] k = refl
-find-used (none ∷ r) k = find-used r k
-find-used (some x ∷ r) k = ap (λ (o : Option Doc). cond (same x.key k) (some x.doc) o) (find-used r k)
+find-used (None ∷ r) k = find-used r k
+find-used (Some x ∷ r) k = ap (λ (o : Option Doc). cond (same x.key k) (Some x.doc) o) (find-used r k)
 
 distinct-used : (r : List Row) → Distinct r → DistinctKeys (used_rows r)
 distinct-used [] g = tt
-distinct-used (none ∷ r) g = distinct-used r g
-distinct-used (some x ∷ r) g = (sym (find-used r x.key) ∙ g.0, distinct-used r g.1)
+distinct-used (None ∷ r) g = distinct-used r g
+distinct-used (Some x ∷ r) g = (sym (find-used r x.key) ∙ g.0, distinct-used r g.1)
 
 count-used : (r : List Row) → free_rows r + length (used_rows r) ≡ length r
 count-used [] = refl
-count-used (none ∷ r) = omega (arith, count-used r)
-count-used (some x ∷ r) = omega (arith, count-used r)
+count-used (None ∷ r) = omega (arith, count-used r)
+count-used (Some x ∷ r) = omega (arith, count-used r)
 
 length-replace : (r : List Row) (k : Key) (d : Doc) → length (replace r k d) ≡ length r
 length-replace [] k d = refl
-length-replace (none ∷ r) k d = ap suc (length-replace r k d)
-length-replace (some x ∷ r) k d = cases (same x.key k) (λ s. rw s) (λ s. rw s (ap suc (length-replace r k d)))
+length-replace (None ∷ r) k d = ap suc (length-replace r k d)
+length-replace (Some x ∷ r) k d = cases (same x.key k) (λ s. rw s) (λ s. rw s (ap suc (length-replace r k d)))
 
 length-fill : (r : List Row) (k : Key) (d : Doc) → length (fill r k d) ≡ length r
 length-fill [] k d = refl
-length-fill (none ∷ r) k d = refl
-length-fill (some x ∷ r) k d = ap suc (length-fill r k d)
+length-fill (None ∷ r) k d = refl
+length-fill (Some x ∷ r) k d = ap suc (length-fill r k d)
 
 pub plain-laws : Laws plain
 plain-laws = record {

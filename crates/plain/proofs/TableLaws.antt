@@ -1,10 +1,10 @@
 -- A table's bytes and what they say, both ways: sound bytes are the bytes of a good table.
+use Rattle.std.specs.Prelude.{is_some, Option, Some, None}
 use native.Mathlib.Omega.{arith}
 use mathlib.Core.Path.{◌≡◌, refl, sym, ap, ◌∙◌}
 use mathlib.Core.Logic.{◌⊎◌, inl, ⊎_elim}
 use mathlib.Core.Bool.{true, not, ◌&&◌, true≢false}
 use mathlib.Core.List.{List, [], ◌∷◌, ◌++◌}
-use mathlib.Core.Option.{Option, none, some}
 use Prim.Native.Nat.{ℕ, zero, suc, ◌+◌, ◌*◌, ◌^◌, ◌≤◌, ◌<◌}
 use lib.ListN.{length, take, drop, get_or, length-append, length-take, length-drop, take-append-drop}
 use lib.Seq.{take_at, drop_at}
@@ -19,7 +19,6 @@ use Rattle.octets.proofs.Numbers.{be-bytes, num-back, num-below}
 use Rattle.octets.proofs.Tests.{same_true}
 use Rattle.document.specs.Documents.{Key, Doc}
 use Rattle.document.specs.declared.Head.{Head}
-use Rattle.plain.specs.declared.Found.TheVariants.{Nothing}
 use Rattle.rows.specs.Row.{Row, slot_of, row_of, row_bytes}
 use Rattle.rows.specs.Table.{Table, head_of, chunks, row_count, rows_of, table_of, head_bytes, rows_bytes, table_bytes}
 use Rattle.plain.specs.Lookup.{find_in}
@@ -29,19 +28,18 @@ use Rattle.plain.specs.Plain.{Distinct}
 use Rattle.rows.specs.Find.{find_row}
 use Rattle.plain.specs.Claims.{Good, SoundGood, GoodSound}
 use Rattle.rows.specs.Good.{AllGood}
-use Rattle.engine.specs.Engine.{is_some}
 use Rattle.plain.proofs.Places.{nothing-find}
 use Rattle.rows.proofs.RowLaws.{RowGood, row-length, row_read, row-sound, row_back}
 
 -- a run of rows
 module _ (mark : ℕ) where
   pub good-first : (w : Row) (ws : List Row) → AllGood mark (w ∷ ws) → RowGood mark w × AllGood mark ws
-  good-first none ws g = (tt, g)
-  good-first (some e) ws g = g
+  good-first None ws g = (tt, g)
+  good-first (Some e) ws g = g
 
   pub good_more : (w : Row) (ws : List Row) → RowGood mark w → AllGood mark ws → AllGood mark (w ∷ ws)
-  good_more none ws g a = a
-  good_more (some e) ws g a = (g, a)
+  good_more None ws g a = a
+  good_more (Some e) ws g a = (g, a)
 
   pub rows-length : (ws : List Row) → AllGood mark ws → length (rows_bytes ws) ≡ length ws * 1312
   rows-length [] g = refl
@@ -92,21 +90,21 @@ unfolding table_of
 count-rows b = length-rows (row_count b) (drop 16 b)
 
 -- no two used rows have one key, as the test and as the engine's rule
-none_found : (o : Option Doc) → not (is_some o) ≡ true → o ≡ none
-none_found none e = refl
-none_found (some d) e = absurd (true≢false (sym e))
+none_found : (o : Option Doc) → not (is_some o) ≡ true → o ≡ None
+none_found None e = refl
+none_found (Some d) e = absurd (true≢false (sym e))
 
 pub distinct-keys : (ws : List Row) → distinct ws ≡ true → Distinct ws
 distinct-keys [] e = tt
-distinct-keys (none ∷ ws) e = distinct-keys ws e
-distinct-keys (some x ∷ ws) e =
+distinct-keys (None ∷ ws) e = distinct-keys ws e
+distinct-keys (Some x ∷ ws) e =
     let q = both (not (is_some (find_row ws x.key))) (distinct ws) e in
     (none_found (find_row ws x.key) q.0, distinct-keys ws q.1)
 
 pub keys-distinct : (ws : List Row) → Distinct ws → distinct ws ≡ true
 keys-distinct [] g = refl
-keys-distinct (none ∷ ws) g = keys-distinct ws g
-keys-distinct (some x ∷ ws) g = λ i. not (is_some (g.0 i)) && keys-distinct ws g.1 i
+keys-distinct (None ∷ ws) g = keys-distinct ws g
+keys-distinct (Some x ∷ ws) g = λ i. not (is_some (g.0 i)) && keys-distinct ws g.1 i
 
 -- the header
 head-back : (b : List ℕ) → Bytes b → 16 ≤ length b → head_bytes (head_of b) ≡ part b 0 16
@@ -198,17 +196,17 @@ sound-good b y e =
     )
 
 -- every key of a good table has 1 to 250 bytes
-pub no_key : (mark : ℕ) (ws : List Row) (key : Key) → AllGood mark ws → (length key ≡ 0) ⊎ (250 < length key) → find_row ws key ≡ none
+pub no_key : (mark : ℕ) (ws : List Row) (key : Key) → AllGood mark ws → (length key ≡ 0) ⊎ (250 < length key) → find_row ws key ≡ None
 no_key mark [] key g h = refl
-no_key mark (none ∷ ws) key g h = no_key mark ws key g h
-no_key mark (some x ∷ ws) key g h =
+no_key mark (None ∷ ws) key g h = no_key mark ws key g h
+no_key mark (Some x ∷ ws) key g h =
     cases (same x.key key)
     (λ s.
     let l : length x.key ≡ length key = ap length (same_true x.key key s) in
     ⊎_elim (λ z. absurd (omega (arith, g.0.key-least))) (λ z. absurd (omega (arith, g.0.key-most))) h)
     (λ s. rw s (no_key mark ws key g.1 h))
 
-pub empty-key : (b : List ℕ) → Bytes b → sound b ≡ true → (key : List ℕ) → length key ≡ 0 → find_in key 0 (table_of b).rows ≡ Nothing
+pub empty-key : (b : List ℕ) → Bytes b → sound b ≡ true → (key : List ℕ) → length key ≡ 0 → find_in key 0 (table_of b).rows ≡ None
 empty-key b y s key e = nothing-find key 0 (table_of b).rows (no_key (table_of b).head.mark.0 (table_of b).rows key (sound-good b y s).1.rows (inl e))
 
 -- a good table is read back from its bytes

@@ -1,13 +1,12 @@
 -- A purge: a row whose document the test picks is freed in place.
-use Rattle.std.specs.Prelude.{ℕ, ◌+◌, List, [], ◌∷◌, Bool, true, false}
-use Rattle.std.proofs.Math.Option.{none, some}
+use Rattle.std.specs.Prelude.{ℕ, ◌+◌, List, [], ◌∷◌, Bool, true, false, Some, None}
 use Rattle.document.specs.Documents.{Doc}
 use Rattle.rows.specs.Row.{Row}
 
 -- a used row whose document the test picks
 abbrev pub picked : (Doc → Bool) → Row → Bool
-picked p none = false
-picked p (some e) = p e.doc
+picked p None = false
+picked p (Some e) = p e.doc
 
 abbrev pub one : Bool → ℕ
 one true = 1

@@ -3,9 +3,3 @@
 #![tactic(auto)]
 
 pub mod lookup;
-
-#[derive(Clone, Copy)]
-pub enum Found {
-    At(usize),
-    Nothing,
-}

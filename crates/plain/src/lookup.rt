@@ -1,109 +1,73 @@
 // Finding a key's row and the lowest free one.
-ghost use Rattle.std.specs.Prelude.{◌≡◌, cond, ◌+◌, ◌*◌, ◌≤◌, length, drop};
+ghost use Rattle.std.specs.Prelude.{◌≡◌, cond, map};
 ghost use Rattle.rows.specs.Row.{row_of};
-ghost use Rattle.rows.specs.Table.{rows_of, table_of};
-ghost use Rattle.plain.specs.Lookup.{holds, run_rows, find_in, free_in, free_place, key_row, place_by};
+ghost use Rattle.rows.specs.Table.{table_of};
+ghost use Rattle.plain.specs.Lookup.{holds, is_free, run_rows, find_in, free_in, free_place, key_row, place_by};
 
-use crate::Found;
 use engine::Place;
-use rows::{FIXED, HEADER, ROW};
+use rows::ROW;
 
 // Whether a row is used and has this key.
 fn row_holds(r: &[u8], key: &[u8]) -> bool
     ensures { result ≡ holds key.now (row_of r.now) }
 {
-    let kind = octets::be16(r, 0);
-    let k = octets::be16(r, 2) as usize;
-    (kind != 0) & compare::same(octets::part(r, FIXED, k), key)
+    (octets::be16(r, 0) != 0) & compare::same(rows::row::key(r), key)
 }
 
-// The first of the left rows from at that holds the key, counted from i.
-fn find_from(s: &[u8], key: &[u8], at: usize, left: usize, i: usize) -> Found
-    requires { (at + left * 1312 ≤ length s.now) × (i ≤ at) }
-    ensures { result ≡ find_in key.now i (rows_of left (drop at s.now)) }
+fn is_free(r: &[u8]) -> bool
+    ensures { result ≡ is_free (row_of r.now) }
 {
-    let mut a = at;
-    let mut n = left;
-    let mut k = i;
-    while 0 < n {
-        let end = a + ROW;
-        if row_holds(&s[a..end], key) {
-            return Found::At(k);
-        }
-        a += ROW;
-        n -= 1;
-        k += 1;
-    }
-    Found::Nothing
+    octets::be16(r, 0) == 0
 }
 
-// The first free one of the left rows from at, counted from i.
-fn free_from(s: &[u8], at: usize, left: usize, i: usize) -> Found
-    requires { (at + left * 1312 ≤ length s.now) × (i ≤ at) }
-    ensures { result ≡ free_in i (rows_of left (drop at s.now)) }
+// The first of these rows that holds the key.
+pub fn find_among(rows: &[[u8; ROW]], key: &[u8]) -> Option<usize>
+    ensures { result ≡ find_in key.now 0 (map row_of rows.now) }
 {
-    let mut a = at;
-    let mut n = left;
-    let mut k = i;
-    while 0 < n {
-        let end = a + ROW;
-        if octets::be16(&s[a..end], 0) == 0 {
-            return Found::At(k);
-        }
-        a += ROW;
-        n -= 1;
-        k += 1;
-    }
-    Found::Nothing
+    rows.iter().position(|row| row_holds(row, key))
 }
 
-// The first row of a run of rows that holds the key.
-pub fn find_in(s: &[u8], key: &[u8]) -> Found
+// The first row of a run of rows, whatever stands in it, that holds the key.
+pub fn find_in(s: &[u8], key: &[u8]) -> Option<usize>
     ensures { result ≡ find_in key.now 0 (run_rows s.now) }
 {
-    find_from(s, key, 0, s.len() / ROW, 0)
+    find_among(s.as_chunks::<ROW>().0, key)
 }
 
 // The place of the row that holds the key.
-pub fn find(s: &[u8], key: &[u8]) -> Found
+pub fn find(s: &[u8], key: &[u8]) -> Option<usize>
     ensures { result ≡ find_in key.now 0 (table_of s.now).rows }
 {
-    if s.len() < HEADER {
-        return Found::Nothing;
-    }
-    find_from(s, key, HEADER, rows::rows_in(s.len()), 0)
+    find_among(rows::all(s), key)
 }
 
 // The place of the lowest free row.
-pub fn free(s: &[u8]) -> Found
+pub fn free(s: &[u8]) -> Option<usize>
     ensures { result ≡ free_in 0 (table_of s.now).rows }
 {
-    if s.len() < HEADER {
-        return Found::Nothing;
-    }
-    free_from(s, HEADER, rows::rows_in(s.len()), 0)
+    rows::all(s).iter().position(|row| is_free(row))
 }
 
 // The key's row. No sound row has an empty key, so that there is nothing to look for.
-fn find_key(s: &[u8], key: &[u8]) -> Found
+fn find_key(s: &[u8], key: &[u8]) -> Option<usize>
     ensures { result ≡ key_row key.now (table_of s.now).rows }
 {
-    if key.len() == 0 {
-        return Found::Nothing;
+    if key.is_empty() {
+        return None;
     }
     find(s, key)
 }
 
 // A new row's place: the lowest free one, which is looked for only where a new row is asked for.
 fn free_place(s: &[u8], new: bool) -> Place
-    ensures { result ≡ free_place (cond new (free_in 0 (table_of s.now).rows) Found.Nothing) }
+    ensures { result ≡ free_place (cond new (free_in 0 (table_of s.now).rows) None) }
 {
     if !new {
         return Place::Full;
     }
     match free(s) {
-        Found::At(i) => Place::Into(i),
-        Found::Nothing => Place::Full,
+        Some(i) => Place::Into(i),
+        None => Place::Full,
     }
 }
 
@@ -112,7 +76,7 @@ pub fn place(s: &[u8], key: &[u8], new: bool) -> Place
     ensures { result ≡ place_by new key.now (table_of s.now).rows }
 {
     match find_key(s, key) {
-        Found::At(i) => Place::Over(i),
-        Found::Nothing => free_place(s, new),
+        Some(i) => Place::Over(i),
+        None => free_place(s, new),
     }
 }

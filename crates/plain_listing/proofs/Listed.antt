@@ -3,7 +3,7 @@ use Prim.Native.Nat.{ℕ, ◌+◌, ◌-◌, ◌*◌, ◌≤◌, ◌<◌}
 use mathlib.Core.Path.{◌≡◌, refl, sym, ap, ◌∙◌}
 use mathlib.Core.Bool.{Bool, true, false, not, ◌||◌, false≢true}
 use mathlib.Core.List.{List, [], ◌∷◌}
-use mathlib.Core.Option.{none, some}
+use Rattle.std.specs.Prelude.{Some, None}
 use native.Mathlib.Omega.{arith}
 use lib.Dec.{eqb, ltb}
 use lib.ListN.{length, drop}
@@ -16,16 +16,16 @@ use Rattle.document.specs.Documents.{Key}
 use Rattle.document.specs.Stored.{stored_of, alive, live}
 use Rattle.listing.specs.Listing.{live_keys, insert_key, sort_keys, from_key, keys_bytes, taken, keys_from, listed_keys, listing}
 use Rattle.listing.proofs.Sorting.{from-insert}
-use Rattle.rows.specs.Row.{Row, slot_of, key_of, row_of}
+use Rattle.rows.specs.Row.{Row, key_of, row_of}
 use Rattle.rows.specs.Table.{row_count, row_at, rows_of, table_of}
 use Rattle.rows.proofs.OneRow.{row-free, row-used, row-alive, row-there, row-size, key-inside, first-row}
 use Rattle.plain.specs.Plain.{used_rows}
 use Rattle.plain_listing.specs.Places.{key_at, is_listed, row_key, with_key, keys_listed, fitting_keys}
 
 -- the key of a row that was cut out at its place
-pub key-cut : (b r : List ℕ) (i : ℕ) → i < row_count b → r ≡ part b (16 + i * 1312) 1312 → part r 32 (num r 2 2) ≡ key_at b i
-unfolding key_at key_of slot_of
-key-cut b r i h e = ap (λ (x : List ℕ). part x 32 (num x 2 2)) (e ∙ sym (row-there b i h))
+pub key-cut : (b r : List ℕ) (i : ℕ) → i < row_count b → r ≡ part b (16 + i * 1312) 1312 → key_of r ≡ key_at b i
+unfolding key_at
+key-cut b r i h e = ap key_of (e ∙ sym (row-there b i h))
 
 pub key-short : (b : List ℕ) (i : ℕ) → i < row_count b → length (key_at b i) ≤ 1280
 unfolding key_at
@@ -40,8 +40,7 @@ module _ (clock : ℕ) (start : Key) (r : List ℕ) where
     listed-dead kind expiry k x e = rw (row-used r u, row-alive r clock kind expiry k x, e)
 
     pub listed-live : (kind expiry : ℕ) → kind ≡ num r 0 2 → expiry ≡ num r 12 4 → alive (eqb kind 2) expiry clock ≡ true
-        → is_listed clock start (row_of r) ≡ not (key_below (part r 32 (num r 2 2)) start)
-    unfolding key_of slot_of
+        → is_listed clock start (row_of r) ≡ not (key_below (key_of r) start)
     listed-live kind expiry k x e = rw (row-used r u, row-alive r clock kind expiry k x, e)
 
     pub listed-key : row_key (row_of r) ≡ key_of r
@@ -89,10 +88,10 @@ module _ (clock : ℕ) (start : Key) where
   -- those are the live keys from the start key on
   pub listed-from : (ws : List Row) → sort_keys (keys_listed clock start ws) ≡ from_key start (sort_keys (live_keys clock (used_rows ws)))
   listed-from [] = refl
-  listed-from (none ∷ ws) = listed-from ws
-  listed-from (some e ∷ ws) =
+  listed-from (None ∷ ws) = listed-from ws
+  listed-from (Some e ∷ ws) =
       let ks = sort_keys (live_keys clock (used_rows ws)) in
-      cases (live (stored_of (some e.doc)) clock)
+      cases (live (stored_of (Some e.doc)) clock)
       (λ t. cases (key_below e.key start)
       (λ u. rw (t, u) (listed-from ws ∙ sym (from-insert start e.key ks ∙ rw u)))
       (λ f. rw (t, f) (ap (insert_key e.key) (listed-from ws) ∙ sym (from-insert start e.key ks ∙ rw f))))

@@ -1,6 +1,5 @@
 -- For the code alone: places of rows put in key order, on any memory. What it writes on a table that is not damaged is the listing of its documents.
-use Rattle.std.specs.Prelude.{ℕ, ◌<◌, Bool, false, not, ◌&&◌, ◌||◌, cond, List, [], ◌∷◌, map, ltb, drop}
-use Rattle.std.proofs.Math.Option.{none, some}
+use Rattle.std.specs.Prelude.{ℕ, ◌<◌, Bool, false, not, ◌&&◌, ◌||◌, cond, List, [], ◌∷◌, map, ltb, drop, Some, None}
 use Rattle.keys.specs.Keys.{key_below}
 use Rattle.document.specs.Documents.{Key}
 use Rattle.document.specs.Stored.{stored_of, live}
@@ -24,12 +23,12 @@ Within n (i ∷ is) = (i < n) × Within n is
 
 -- a row with a live document whose key is at or after the start key
 abbrev pub is_listed : ℕ → Key → Row → Bool
-is_listed clock start none = false
-is_listed clock start (some e) = live (stored_of (some e.doc)) clock && not (key_below e.key start)
+is_listed clock start None = false
+is_listed clock start (Some e) = live (stored_of (Some e.doc)) clock && not (key_below e.key start)
 
 abbrev pub row_key : Row → Key
-row_key none = []
-row_key (some e) = e.key
+row_key None = []
+row_key (Some e) = e.key
 
 -- keys in order, and the key of a row among them where it is listed
 abbrev pub with_key : ℕ → Key → Row → List Key → List Key

@@ -11,12 +11,8 @@ ghost use Rattle.listing.specs.Listing.{insert_key, sort_keys, taken, keys_bytes
 ghost use Rattle.listing.specs.Order.{InOrder};
 ghost use Rattle.plain_listing.specs.Places.{key_at, keys_of, Within, is_listed, with_key, keys_listed, fitting_keys};
 
-use keys::Side;
-use listing::LIMIT;
-use rows::{FIXED, HEADER, ROW};
-
-// The reply room that a listing asks for: a header and a value of 1,278 bytes.
-const ROOM: usize = 1302;
+use listing::ROOM;
+use rows::{HEADER, ROW};
 
 // The key of the row at a place.
 fn key_at(b: &[u8], i: usize) -> &[u8]
@@ -24,20 +20,14 @@ fn key_at(b: &[u8], i: usize) -> &[u8]
     ensures { result.now ≡ key_at b.now i }
 {
     let at = HEADER + i * ROW;
-    let end = at + ROW;
-    let r = &b[at..end];
-    octets::part(r, FIXED, octets::be16(r, 2) as usize)
+    rows::row::key(&b[at..at + ROW])
 }
 
 // Whether a key stands before another.
 fn is_below(s: &[u8], t: &[u8]) -> bool
     ensures { result ≡ key_below s.now t.now }
 {
-    match keys::compare(s, t) {
-        Side::Less => true,
-        Side::Equal => false,
-        Side::Greater => false,
-    }
+    keys::compare(s, t).is_lt()
 }
 
 // Whether a row holds a live document whose key is at or after the start key.
@@ -51,11 +41,12 @@ fn is_listed(r: &[u8], clock: u32, start: &[u8]) -> bool
     if !document::alive(kind == 2, octets::be32(r, 12), clock) {
         return false;
     }
-    !is_below(octets::part(r, FIXED, octets::be16(r, 2) as usize), start)
+    !is_below(rows::row::key(r), start)
 }
 
 // Where a key belongs among the places from first on, which are in key order. Before all of them is looked at first: in a
-// table whose keys rise from row to row it is there.
+// table whose keys rise from row to row it is there. Not `partition_point`, whose test must answer for any place: `key_at` is for
+// the places of rows.
 fn position(b: &[u8], order: &[u8], first: usize, key: &[u8]) -> usize
     requires order_len { (length order.now ≡ 256) × (first ≤ 256) }
     requires within { Within (row_count b.now) (drop first order.now) × InOrder (keys_of b.now order.now first) }
@@ -88,10 +79,8 @@ fn insert(order: &mut [u8], first: usize, p: usize, place: u8)
     ensures { (length order.new ≡ 256)
         × (drop (first - 1) order.new ≡ take (p - first) (drop first order.old) ++ (place ∷ drop p order.old)) }
 {
-    let mut j = first;
-    while j < p {
+    for j in first..p {
         order[j - 1] = order[j];
-        j += 1;
     }
     order[p - 1] = place;
 }
@@ -122,16 +111,13 @@ fn put_in_order(b: &[u8], n: usize, clock: u32, start: &[u8], order: &mut [u8]) 
         × (keys_of b.now order.new result ≡ sort_keys (keys_listed clock start.now (table_of b.now).rows))) }
 {
     let mut first: usize = 256;
-    let mut i = n;
-    while 0 < i {
-        i -= 1;
+    for i in (0..n).rev() {
         first = put_row(b, i, clock, start, order, first);
     }
     first
 }
 
-// Writes keys from byte 24 on, as many as the count and the limit let, and answers their length. After one that doesn't fit, none
-// is left to write.
+// Writes keys from byte 24 on, as many as the count and the limit let, and answers their length.
 fn put_ordered(b: &[u8], order: &[u8], first: usize, count: u32, out: &mut [u8]) -> usize
     requires { (1302 ≤ length out.old) × ((length order.now ≡ 256) × ((first ≤ 256) × Within (row_count b.now) (drop first order.now))) }
     ensures { (result ≡ length (keys_bytes (taken count 1278 (keys_of b.now order.now first))))
@@ -139,18 +125,15 @@ fn put_ordered(b: &[u8], order: &[u8], first: usize, count: u32, out: &mut [u8])
 {
     let mut size: usize = 0;
     let mut left = count;
-    let mut j = first;
-    while (j < order.len()) & (0 < left) {
-        let key = key_at(b, order[j] as usize);
-        j += 1;
-        if LIMIT - size < 4 + key.len() {
-            left = 0;
-        } else {
-            octet_writer::put_be(out, 24 + size, 4, key.len() as u64);
-            octet_writer::put_bytes(out, 28 + size, key);
-            size += 4 + key.len();
-            left -= 1;
+    for j in first..order.len() {
+        if left == 0 {
+            return size;
         }
+        match listing::put_key(out, size, key_at(b, order[j] as usize)) {
+            Some(longer) => size = longer,
+            None => return size,
+        }
+        left -= 1;
     }
     size
 }

@@ -2,7 +2,7 @@
 use mathlib.Core.Path.{◌≡◌, refl, sym, ap, ◌∙◌}
 use mathlib.Core.Bool.{Bool, cond}
 use mathlib.Core.List.{List, [], ◌∷◌, ◌++◌}
-use mathlib.Core.Option.{none, some}
+use Rattle.std.specs.Prelude.{Some, None}
 use Prim.Native.Nat.{ℕ, ◌+◌, ◌^◌, ◌<◌}
 use lib.ListN.{length, take, drop, replicate}
 use lib.Seq.{take_at}
@@ -22,17 +22,17 @@ use Rattle.rows.proofs.Heads.{head-length}
 module _ (p : Doc → Bool) where
   -- one row, and those after it
   abbrev purged : Row → Row
-  purged none = none
-  purged (some e) = cond (p e.doc) none (some e)
+  purged None = None
+  purged (Some e) = cond (p e.doc) None (Some e)
 
   purge-first : (w : Row) (ws : List Row) → purge_rows (w ∷ ws) p ≡ purged w ∷ purge_rows ws p
-  purge-first none ws = refl
-  purge-first (some e) ws = refl
+  purge-first None ws = refl
+  purge-first (Some e) ws = refl
 
   row-purged : (w : Row) → cond (picked p w) (replicate 1312 0) (row_bytes w) ≡ row_bytes (purged w)
   unfolding row_bytes
-  row-purged none = refl
-  row-purged (some e) = cases (p e.doc) (λ t. rw t) (λ t. rw t)
+  row-purged None = refl
+  row-purged (Some e) = cases (p e.doc) (λ t. rw t) (λ t. rw t)
 
   module _ (mark : ℕ) (small : mark < 2 ^ 64) where
     rows-purged : (ws : List Row) → AllGood mark ws → purge_bytes p (length ws) (rows_bytes ws) ≡ rows_bytes (purge_rows ws p)

@@ -7,29 +7,31 @@ use Prim.Native.Nat.{ℕ, suc, ◌+◌, ◌-◌, ◌≤◌, ◌<◌}
 use lib.Dec.{eqb}
 use lib.ListN.{length, take, drop, replicate, length-replicate, take-append-drop}
 use lib.Seq.{drop-drop}
-use Rattle.octets.specs.Parts.{part, pasted, written}
+use borrow.Rule.Slice.PartMut.{put_mid}
+use Rattle.octets.specs.Parts.{part, pasted}
+use Rattle.octets.specs.BigEndian.{num}
 use Rattle.octets.proofs.Choices.{cases}
-use Rattle.octets.proofs.Lists.{part_length, pasted-self, take-pasted, drop-pasted, written-fits}
+use Rattle.octets.proofs.Lists.{part_length, take-pasted, drop-pasted}
 use Rattle.document.specs.Documents.{Doc}
-use Rattle.document.specs.Stored.{gone, gone_doc}
+use Rattle.document.specs.Stored.{metadata_of, gone, gone_doc}
 use Rattle.rows.specs.Row.{slot_of, doc_of, row_of}
 use Rattle.rows.specs.Table.{row_count}
+use Rattle.rows.proofs.OneRow.{row_cut}
 use Rattle.plain.specs.Purge.{picked, one}
 use Rattle.plain_writer.specs.Change.{purge_row, purge_bytes, purge_count, purged_rows, freed_rows}
 
 -- the test of a row, by its fixed part
-pub gone-row : (clock bound : ℕ) (r : List ℕ)
-    → (not (eqb (slot_of r).kind 0) && gone clock bound (record { tomb = eqb (slot_of r).kind 2; numbers = (slot_of r).numbers })) ≡ picked (gone_doc clock bound) (row_of r)
-unfolding row_of doc_of gone_doc
-gone-row clock bound r = cases (eqb (slot_of r).kind 0) (λ t. rw t) (λ f. rw f)
+pub gone-row : (clock bound : ℕ) (r : List ℕ) → (not (eqb (num r 0 2) 0) && gone clock bound (metadata_of (doc_of r))) ≡ picked (gone_doc clock bound) (row_of r)
+unfolding row_of doc_of slot_of gone_doc
+gone-row clock bound r = cases (eqb (num r 0 2) 0) (λ t. rw t) (λ f. rw f)
 
 module _ (p : Doc → Bool) where
   module _ (r : List ℕ) where
-    row-freed : picked p (row_of r) ≡ true → purge_row p r ≡ replicate 1312 0
+    pub row-freed : picked p (row_of r) ≡ true → purge_row p r ≡ replicate 1312 0
     unfolding purge_row
     row-freed e = rw e
 
-    row_kept : picked p (row_of r) ≡ false → purge_row p r ≡ r
+    pub row_kept : picked p (row_of r) ≡ false → purge_row p r ≡ r
     unfolding purge_row
     row_kept e = rw e
 
@@ -40,14 +42,14 @@ module _ (p : Doc → Bool) where
         (λ f. ap length (row_kept f) ∙ l)
 
   module _ (s : List ℕ) (at : ℕ) (h : at + 1312 ≤ length s) where
-    -- what a row's purge leaves, by the test
-    pub freed : (s' : List ℕ) → picked p (row_of (part s at 1312)) ≡ true → s' ≡ written s at (replicate 1312 0) → s' ≡ pasted s at (purge_row p (part s at 1312))
-    freed s' e w =
-        let l : length (replicate {A = ℕ} 1312 0) ≡ 1312 = length-replicate {A = ℕ} 1312 0 in
-        w ∙ written-fits s at (replicate 1312 0) (rw l h) ∙ ap (pasted s at) (sym (row-freed (part s at 1312) e))
-
-    pub left : picked p (row_of (part s at 1312)) ≡ false → s ≡ pasted s at (purge_row p (part s at 1312))
-    left e = pasted-self s at 1312 h ∙ ap (pasted s at) (sym (row_kept (part s at 1312) e))
+    -- the row is lent, and comes back purged
+    pub row_lent : (r : List ℕ) → r ≡ purge_row p (take (at + 1312 - at) (drop at s)) → put_mid at (at + 1312 - at) s r ≡ pasted s at (purge_row p (part s at 1312))
+    unfolding pasted
+    row_lent r e =
+        let o = purge_row p (part s at 1312) in
+        let q : r ≡ o = e ∙ ap (purge_row p) (row_cut s at) in
+        let n : at + 1312 - at ≡ length o = omega (arith, row-length (part s at 1312) (part_length s at 1312 h)) in
+        rw (q, n, drop-drop (length o) at s)
 
     -- a step of the loop over rows
     module _ (s' : List ℕ) (n : ℕ) (m : 0 < n) (e : s' ≡ pasted s at (purge_row p (part s at 1312))) where

@@ -3,17 +3,15 @@ use Prim.Native.Nat.{ℕ}
 use mathlib.Core.Path.{◌≡◌, refl, sym, ap, ◌∙◌}
 use mathlib.Core.Bool.{Bool, true, false, cond, ◌&&◌, true≢false}
 use mathlib.Core.List.{List, [], ◌∷◌}
-use mathlib.Core.Option.{Option, none, some}
+use Rattle.std.specs.Prelude.{Option, Some, None}
 use lib.Dec.{eqb}
 use borrow.Author.Tests.{ne_eqb}
 use Rattle.engine.specs.declared.Config.{Config}
 use Rattle.octets.specs.Compare.{same}
 use Rattle.octets.proofs.Choices.{cases}
 use Rattle.octets.proofs.Options.{none-some}
-use Rattle.digits.specs.declared.Number.{Number}
 use Rattle.document.specs.declared.Head.{Head}
 use Rattle.document.specs.declared.Metadata.{Metadata}
-use Rattle.document.specs.declared.Stored.TheVariants.{Used}
 use Rattle.document.specs.Documents.{Key, Doc, doc_value}
 use Rattle.document.specs.Stored.{live, stored_of}
 use Rattle.commands.specs.declared.Context.{Context}
@@ -29,8 +27,7 @@ use Rattle.effects.specs.declared.Reply.{Reply}
 use Rattle.effects.specs.declared.Reply.TheVariants.{Bare, Found, Counted, Version as VersionReply, Keys}
 use Rattle.effects.specs.declared.Done.{Done}
 use Rattle.effects.specs.Done.{nothing, done_of}
-use Rattle.decision.specs.declared.Decision.{Decision}
-use Rattle.decision.specs.Decision.{decision}
+use Rattle.decision.specs.Decision.{Decision, decision}
 use Rattle.decision.specs.Decide.{Request, bytes_from, doc_from, reply_value, effect_of}
 use Rattle.listing.specs.Listing.{live_keys, sort_keys, from_key, taken, keys_bytes, keys_from, listed_keys, listing}
 use Rattle.rows.specs.Row.{Row}
@@ -91,31 +88,31 @@ module _ (rows rows' : List Row) (clock : ℕ) (key : Key) (keys : live_keys clo
   blind-reply op opaque x p = rw (blind-value x.done.reply p.0)
 
 -- a document that isn't live put in place of another that isn't changes no live key
-pub put-dead : (config : Config) (clock : ℕ) (rows : List Row) (k : Key) (d e : Doc) → (engine_of config).Good rows → find_row rows k ≡ some d → live (stored_of (some d)) clock ≡ false
-    → live (stored_of (some e)) clock ≡ false
+pub put-dead : (config : Config) (clock : ℕ) (rows : List Row) (k : Key) (d e : Doc) → (engine_of config).Good rows → find_row rows k ≡ Some d → live (stored_of (Some d)) clock ≡ false
+    → live (stored_of (Some e)) clock ≡ false
     → live_keys clock (used_rows rows) ≡ live_keys clock (used_rows ((engine_of config).put rows k e))
 put-dead config clock rows k d e g there dead dead' =
     replaced rows there ∙ ap (λ (r : List Row). live_keys clock (used_rows r)) (sym (put-replaces config rows k e d g there))
   where
-    replaced : (ws : List Row) → find_row ws k ≡ some d → live_keys clock (used_rows ws) ≡ live_keys clock (used_rows (replace ws k e))
+    replaced : (ws : List Row) → find_row ws k ≡ Some d → live_keys clock (used_rows ws) ≡ live_keys clock (used_rows (replace ws k e))
     replaced [] f = none-some d f
-    replaced (none ∷ ws) f = replaced ws f
-    replaced (some x ∷ ws) f =
+    replaced (None ∷ ws) f = replaced ws f
+    replaced (Some x ∷ ws) f =
         cases (same x.key k)
         (λ t.
-        let g : some x.doc ≡ some d = rw t at f in
+        let g : Some x.doc ≡ Some d = rw t at f in
         let z : x.doc ≡ d = cc in
         rw (t, z, dead, dead'))
-        (λ t. rw t (λ i. cond (live (stored_of (some x.doc)) clock) (x.key ∷ replaced ws (rw t at f) i) (replaced ws (rw t at f) i)))
+        (λ t. rw t (λ i. cond (live (stored_of (Some x.doc)) clock) (x.key ∷ replaced ws (rw t at f) i) (replaced ws (rw t at f) i)))
 
 -- ---- two rows
-module _ (h : Head) (free : Bool) (clock : ℕ) (m m' : Metadata) (n n' : Number) (size size' : ℕ) (dead : live (Used m) clock ≡ false) (dead' : live (Used m') clock ≡ false)
+module _ (h : Head) (free : Bool) (clock : ℕ) (m m' : Metadata) (n n' : Option ℕ) (size size' : ℕ) (dead : live (Some m) clock ≡ false) (dead' : live (Some m') clock ≡ false)
     (revision : m.numbers.revision ≡ m'.numbers.revision) (cas : m.numbers.cas ≡ m'.numbers.cas) where
   abbrev c : Context
-  c = record { head = h; row = Used m; free = free; clock = clock; number = n; size = size }
+  c = record { head = h; row = Some m; free = free; clock = clock; number = n; size = size }
 
   abbrev c' : Context
-  c' = record { head = h; row = Used m'; free = free; clock = clock; number = n'; size = size' }
+  c' = record { head = h; row = Some m'; free = free; clock = clock; number = n'; size = size' }
 
   same-rule : (x : Command) → IsPlain x → rule_of c x ≡ rule_of c' x
   unfolding rule_of

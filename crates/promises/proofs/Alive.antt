@@ -3,7 +3,7 @@ use Prim.Native.Nat.{ℕ, ◌/◌, ◌%◌}
 use mathlib.Core.Path.{◌≡◌, refl, sym, ap, subst, ◌∙◌}
 use mathlib.Core.Bool.{Bool, true, false, not, ◌&&◌, ◌||◌}
 use mathlib.Core.List.{List, ◌++◌}
-use mathlib.Core.Option.{Option, none, some}
+use Rattle.std.specs.Prelude.{Option, Some, None}
 use lib.Dec.{eqb}
 use borrow.Author.Tests.{eq-eqb, ne_eqb, not-false, eqb-true}
 use Rattle.engine.specs.declared.Config.{Config}
@@ -13,13 +13,11 @@ use Rattle.numbers.specs.Order.{greater}
 use Rattle.numbers.specs.Expiry.{seconds_left, is_past, expired}
 use Rattle.document.specs.Documents.{Key, Doc}
 use Rattle.document.specs.Stored.{stored_of, live, accepted}
-use Rattle.document.specs.declared.Stored.TheVariants.{Nothing}
 use Rattle.header.specs.declared.Header.{Header}
 use Rattle.header.specs.Header.{header_of}
 use Rattle.shape.specs.Shapes.{among, shape_of}
 use Rattle.with_meta.specs.WithMeta.{with_meta}
-use Rattle.request.specs.declared.Gate.{Gate}
-use Rattle.request.specs.declared.Gate.TheVariants.{Stop, Whole}
+use Rattle.request.specs.Reading.{Gate, Stop, Whole}
 use Rattle.commands.specs.declared.Context.{Context}
 use Rattle.commands.specs.declared.Instruction.{Instruction}
 use Rattle.commands.specs.declared.MetaKind.{MetaKind}
@@ -52,19 +50,19 @@ use Rattle.promises.proofs.Dead.{seen, command, rule, instruction, tests, needs-
 use Rattle.promises.proofs.Dead.{without-unstored, without-missing, without-conflict, is-unstored, is-missing, is-conflict}
 
 -- ---- what the owner's read tells
-shown-live : (rows : List Row) (clock : ℕ) (k : Key) (d : Doc) → read_live (shown rows clock k (some d)) ≡ live (stored_of (some d)) clock
+shown-live : (rows : List Row) (clock : ℕ) (k : Key) (d : Doc) → read_live (shown rows clock k (Some d)) ≡ live (stored_of (Some d)) clock
 unfolding live expired
 shown-live rows clock k d =
     let past = is_past (seconds_left d.numbers.expiry clock) in
     cases d.tomb (λ t. rw t) (λ t. cases past (λ p. rw (t, p)) (λ p. rw (t, p)))
 
-shown-none : (clock : ℕ) → live (stored_of none) clock ≡ false
+shown-none : (clock : ℕ) → live (stored_of None) clock ≡ false
 unfolding live
 shown-none clock = refl
 
 read-row : (rows : List Row) (clock : ℕ) (k : Key) (o : Option Doc) → read_live (shown rows clock k o) ≡ live (stored_of o) clock
-read-row rows clock k none = sym (shown-none clock)
-read-row rows clock k (some d) = shown-live rows clock k d
+read-row rows clock k None = sym (shown-none clock)
+read-row rows clock k (Some d) = shown-live rows clock k d
 
 read_live-of : (config : Config) (b : List ℕ) (clock : ℕ) (k : Key) → sound_by config b ≡ true → read_live (read_of config b clock k) ≡ live (stored_of (doc_at b k)) (clock_at (table_of b) clock)
 unfolding read_of
@@ -152,7 +150,7 @@ live-is-found config b clock s room d r at l e =
     ((missed, unstored), read_live-of config b clock (key_in s) r.undamaged ∙ t)
 
 -- ---- with-meta
-module _ (config : Config) (b : List ℕ) (clock : ℕ) (s : List ℕ) (d : Doc) (at : doc_at b (key_in s) ≡ some d) (n : NotLive (later_at b clock) (some d)) (c : header_cas s ≡ 0)
+module _ (config : Config) (b : List ℕ) (clock : ℕ) (s : List ℕ) (d : Doc) (at : doc_at b (key_in s) ≡ Some d) (n : NotLive (later_at b clock) (Some d)) (c : header_cas s ≡ 0)
     (k : MetaKind) (asks : command config b clock s ≡ meta_command k (with_meta (extras_in s)))
     (unforced : eqb ((with_meta (extras_in s)).options % 2) 1 ≡ false) (unskipped : eqb ((with_meta (extras_in s)).options / 8 % 2) 1 ≡ false) where
   abbrev wins : Bool
@@ -167,7 +165,7 @@ module _ (config : Config) (b : List ℕ) (clock : ℕ) (s : List ℕ) (d : Doc)
   beaten = rw (asks, unforced, unskipped, at)
 
   unfound : lives config b clock s ≡ false
-  unfound = rw at (dead-at b clock (some d) n)
+  unfound = rw at (dead-at b clock (Some d) n)
 
   compared : (tests config b clock s).conflict ≡ not wins
   unfolding tests_of
@@ -190,7 +188,7 @@ dead-is-compared config b clock s room d r at n e c unforced unskipped =
 -- ---- a command that stores nothing
 module _ (c : Context) where
   abbrev pub Kept : Done → Type 0
-  Kept x = (x.store ≡ Nothing) × (x.head ≡ c.head)
+  Kept x = (x.store ≡ None) × (x.head ≡ c.head)
 
   kept : (i : Instruction) (x : Command) → i.command ≡ x → Kept (done_of c x) → Kept (decision c i).done
   unfolding decision
@@ -204,7 +202,7 @@ module _ (config : Config) (t : Table) (clock : ℕ) (s : List ℕ) where
   sees = context_on t clock (find_row t.rows (key_in s))
 
   frame-kept : (x : Command) → (request_of config.forcing s (header_of s)).command ≡ x → Kept sees (done_of sees x)
-      → ((frame_effect config t clock s (header_of s)).store ≡ none) × ((frame_effect config t clock s (header_of s)).head ≡ t.head)
+      → ((frame_effect config t clock s (header_of s)).store ≡ None) × ((frame_effect config t clock s (header_of s)).head ≡ t.head)
   unfolding frame_effect decision_on
   frame-kept x asks k =
       let (none-stored, same_head) = kept sees (instruction_of (request_of config.forcing s (header_of s))) x asks k in
@@ -214,7 +212,7 @@ module _ (config : Config) (t : Table) (clock : ℕ) (s : List ℕ) where
   abbrev Reads : ℕ → Type 0
   Reads n = Kept sees (done_of sees (ask sees (extras_in s) n))
 
-  pub read-only-keeps : among (opcode s) read_only ≡ true → (frame_effect config t clock s (header_of s)).store ≡ none
+  pub read-only-keeps : among (opcode s) read_only ≡ true → (frame_effect config t clock s (header_of s)).store ≡ None
   unfolding shape_of command_of done_of request_of
   read-only-keeps e =
       let all : Each Reads read_only =

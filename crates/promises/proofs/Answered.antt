@@ -4,7 +4,7 @@ use Prim.Native.Nat.{ℕ, ◌+◌, ◌≤◌}
 use mathlib.Core.Path.{◌≡◌, refl, sym, ap, ◌∙◌}
 use mathlib.Core.Bool.{Bool, true, false, cond, ◌&&◌}
 use mathlib.Core.List.{List, [], ◌∷◌, ◌++◌, append_assoc}
-use mathlib.Core.Option.{some}
+use Rattle.std.specs.Prelude.{Option, Some}
 use lib.ListN.{length, drop}
 use lib.Dec.{eqb}
 use borrow.Author.Tests.{eq-eqb}
@@ -15,8 +15,6 @@ use Rattle.octets.proofs.Choices.{cases}
 use Rattle.octets.proofs.Numbers.{num-back}
 use Rattle.numbers.specs.Growth.{cas_after}
 use Rattle.document.specs.declared.Metadata.{Metadata}
-use Rattle.document.specs.declared.Stored.{Stored}
-use Rattle.document.specs.declared.Stored.TheVariants.{Used}
 use Rattle.document.specs.declared.Side.{Side}
 use Rattle.document.specs.Documents.{Key, Doc, doc_value}
 use Rattle.document.specs.Stored.{live, stored_of, numbers_of}
@@ -33,16 +31,14 @@ use Rattle.effects.specs.declared.Reply.{Reply}
 use Rattle.effects.specs.declared.Reply.TheVariants.{Bare, Found}
 use Rattle.effects.specs.declared.Done.{Done as Effects}
 use Rattle.effects.specs.Done.{done_of, nothing, join_done}
-use Rattle.decision.specs.declared.Decision.{Decision}
-use Rattle.decision.specs.Decision.{decision}
+use Rattle.decision.specs.Decision.{Decision, decision}
 use Rattle.decision.specs.Decide.{doc_from, bytes_from, reply_extras, reply_key, reply_value}
 use Rattle.decode.specs.Decode.{plain_of, counter_of, touch_of, meta_command, command_of, request_of}
 use Rattle.rows.specs.Row.{Row}
 use Rattle.rows.specs.Find.{find_row}
 use Rattle.rows.specs.Table.{table_of, clock_at}
-use Rattle.serving.specs.declared.Served.TheVariants.{Done}
 use Rattle.serving.specs.Reply.{body_of, reply_shows, reply_header, reply_bytes}
-use Rattle.serving.specs.Serve.{decision_at, frame_reply, answer_by, reply_by, served, served_reply, served_length}
+use Rattle.serving.specs.Serve.{Done, decision_at, frame_reply, answer_by, reply_by, served, served_reply, served_length}
 use Rattle.serving.proofs.Formed.{no, by_cond}
 use Rattle.serving.proofs.Gated.{was-open}
 use Rattle.promises.specs.Merge.{doc_at}
@@ -126,7 +122,7 @@ module _ (config : Config) (b : List ℕ) (clock : ℕ) (s : List ℕ) where
 -- ---- a command that writes stores a row, and answers with its CAS
 record Stores (x : Effects) : Type 0 where
   row : Metadata
-  stored : x.store ≡ Used row
+  stored : x.store ≡ Some row
   cas : x.cas.0 ≡ row.numbers.cas.0
 
 done-stores : (c : Context) (x : Command) → is_mutation x ≡ true → Stores (done_of c x)
@@ -175,8 +171,8 @@ module _ (config : Config) (b : List ℕ) (clock : ℕ) (s : List ℕ) (e : amon
     numbers = stores.row.numbers;
   }
 
-  stored : does config b clock s ≡ some document
-  stored = ap (λ (x : Stored). doc_from x document.value) stores.stored
+  stored : does config b clock s ≡ Some document
+  stored = ap (λ (x : Option Metadata). doc_from x document.value) stores.stored
 
   cas-is : (decision_at config b clock s (header_of s)).status ≡ 0 → (decision_at config b clock s (header_of s)).done.cas.0 ≡ document.numbers.cas.0
   cas-is zero =
@@ -217,7 +213,7 @@ module _ (config : Config) (b : List ℕ) (clock : ℕ) (s : List ℕ) (e : amon
       command-asked config b clock s
       ∙ at-opcode (λ n. ask (seen config b clock s) (extras_in s) n ≡ Get (among n (0x0c ∷ 0x0d ∷ []))) (opcode s) gets (refl, (refl, (refl, (refl, tt)))) e
 
-  shows-it : (d : Doc) → doc_at b (key_in s) ≡ some d → cond (silent config b clock s) [] (said config b clock s (done config b clock s)) ≡ get_reply s d
+  shows-it : (d : Doc) → doc_at b (key_in s) ≡ Some d → cond (silent config b clock s) [] (said config b clock s (done config b clock s)) ≡ get_reply s d
   unfolding done_of rule_of
   shows-it d there = rw (gets-it, and-false (instruction config b clock s).quiet, there)
 
@@ -256,7 +252,7 @@ module _ (config : Config) (b : List ℕ) (clock : ℕ) (s : List ℕ) (e : amon
   unfolding request_of shape_of
   touch-loud = at-opcode (λ n. (shape_of n).quiet ≡ false) (opcode s) touches (refl, (refl, tt)) e
 
-  touch-said : (d : Doc) → doc_at b (key_in s) ≡ some d
+  touch-said : (d : Doc) → doc_at b (key_in s) ≡ Some d
       → cond (silent config b clock s) [] (said config b clock s (done config b clock s)) ≡ touch_reply s (eqb (opcode s) 0x1d) d.numbers.flags d.value (done config b clock s).cas.0
   unfolding done_of
   touch-said d there =

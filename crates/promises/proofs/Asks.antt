@@ -8,8 +8,7 @@ use lib.Dec.{eqb}
 use borrow.Author.Tests.{eqb-true}
 use Rattle.octets.specs.BigEndian.{num}
 use Rattle.octets.proofs.Choices.{cases, both, neither}
-use Rattle.shape.specs.declared.Shape.{Shape}
-use Rattle.shape.specs.Shapes.{commands, unbuilt, among, shape_by, look_up, shape_of, Command as Known}
+use Rattle.shape.specs.Shapes.{Shape, commands, unbuilt, among, shape_by, look_up, shape_of, Command as Known}
 use Rattle.document.specs.declared.Side.{Side}
 use Rattle.document.specs.declared.Side.TheVariants.{Front, Back}
 use Rattle.with_meta.specs.WithMeta.{with_meta}

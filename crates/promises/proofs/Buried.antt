@@ -5,7 +5,7 @@ use mathlib.Core.Path.{◌≡◌, refl, sym, ap, subst, ◌∙◌}
 use mathlib.Core.Bool.{true, false}
 use mathlib.Core.List.{List, [], ◌∷◌}
 use mathlib.Core.Logic.{◌⊎◌, inl, inr, ⊎_elim}
-use mathlib.Core.Option.{Option, none, some}
+use Rattle.std.specs.Prelude.{Option, Some, None}
 use lib.ListN.{length}
 use lib.Dec.{ltb}
 use Rattle.engine.specs.declared.Config.{Config}
@@ -20,10 +20,8 @@ use Rattle.document.specs.Stored.{stored_of, metadata_of, live}
 use Rattle.header.specs.declared.Header.{Header}
 use Rattle.header.specs.Header.{header_of}
 use Rattle.shape.specs.Shapes.{among}
-use Rattle.request.specs.declared.Gate.{Gate}
-use Rattle.request.specs.declared.Gate.TheVariants.{Stop, Whole}
-use Rattle.decision.specs.declared.Decision.{Decision}
-use Rattle.decision.specs.Decision.{decision}
+use Rattle.request.specs.Reading.{Gate, Stop, Whole}
+use Rattle.decision.specs.Decision.{Decision, decision}
 use Rattle.decision.specs.Decide.{Effect, effect_of, context_of, instruction_of}
 use Rattle.decode.specs.Decode.{request_of}
 use Rattle.engine.specs.Engine.{Room, store_row}
@@ -37,10 +35,8 @@ use Rattle.engines.specs.Damage.{sound_by}
 use Rattle.engines.specs.Claims.{GoodBy}
 use Rattle.engines.proofs.EngineLaws.{engines-laws, put-replaces}
 use Rattle.engines.proofs.Tables.{sound-good-by, good-sound-by, put-good-by}
-use Rattle.serving.specs.declared.Served.{Served}
-use Rattle.serving.specs.declared.Served.TheVariants.{Done}
 use Rattle.serving.specs.Reply.{reply_shows, reply_bytes}
-use Rattle.serving.specs.Serve.{reaches_decision, decision_on, frame_effect, effect_at, table_changed, frame_change, frame_table, frame_reply}
+use Rattle.serving.specs.Serve.{Served, Done, reaches_decision, decision_on, frame_effect, effect_at, table_changed, frame_change, frame_table, frame_reply}
 use Rattle.serving.specs.Serve.{gate_all, answer_by, table_by, reply_by, served, served_table, served_reply}
 use Rattle.serving.proofs.Change.{changing, unchanged}
 use Rattle.serving.proofs.Gated.{was-open}
@@ -53,13 +49,13 @@ use Rattle.promises.proofs.Liveness.{dead, dead-at}
 use Rattle.promises.proofs.Alike.{Blind, blind-effect, blind-reply, put-dead, same-decision}
 
 -- ---- rows
-pub found-good : (mark : ℕ) (ws : List Row) (k : Key) (d : Doc) → AllGood mark ws → find_row ws k ≡ some d → EntryGood mark (record { key = k; doc = d })
+pub found-good : (mark : ℕ) (ws : List Row) (k : Key) (d : Doc) → AllGood mark ws → find_row ws k ≡ Some d → EntryGood mark (record { key = k; doc = d })
 found-good mark [] k d g e = none-some d e
-found-good mark (none ∷ ws) k d g e = found-good mark ws k d g e
-found-good mark (some x ∷ ws) k d g e =
+found-good mark (None ∷ ws) k d g e = found-good mark ws k d g e
+found-good mark (Some x ∷ ws) k d g e =
     cases (same x.key k)
     (λ t.
-    let f : some x.doc ≡ some d = rw t at e in
+    let f : Some x.doc ≡ Some d = rw t at e in
     let z : x.doc ≡ d = cc in
     let y = same_true x.key k t in
     subst (EntryGood mark) (λ i. record { key = y i; doc = z i }) g.0)
@@ -67,25 +63,25 @@ found-good mark (some x ∷ ws) k d g e =
 
 replaced-twice : (ws : List Row) (k : Key) (a d : Doc) → replace (replace ws k a) k d ≡ replace ws k d
 replaced-twice [] k a d = refl
-replaced-twice (none ∷ ws) k a d = ap (λ (r : List Row). none ∷ r) (replaced-twice ws k a d)
-replaced-twice (some x ∷ ws) k a d =
+replaced-twice (None ∷ ws) k a d = ap (λ (r : List Row). None ∷ r) (replaced-twice ws k a d)
+replaced-twice (Some x ∷ ws) k a d =
     cases (same x.key k)
     (λ t. rw (t, same_refl k))
-    (λ t. rw t (rw t (ap (λ (r : List Row). some x ∷ r) (replaced-twice ws k a d))))
+    (λ t. rw t (rw t (ap (λ (r : List Row). Some x ∷ r) (replaced-twice ws k a d))))
 
 -- putting over what was put
-put-twice : (config : Config) (ws : List Row) (k : Key) (a d e : Doc) → (engine_of config).Good ws → find_row ws k ≡ some e
+put-twice : (config : Config) (ws : List Row) (k : Key) (a d e : Doc) → (engine_of config).Good ws → find_row ws k ≡ Some e
     → (engine_of config).put ((engine_of config).put ws k a) k d ≡ (engine_of config).put ws k d
 put-twice config ws k a d e g f =
     let room : Room (engine_of config) ws k = λ n. none-some e (sym n ∙ f) in
-    let there : find_row ((engine_of config).put ws k a) k ≡ some a = (engines-laws config).find-put ws k a g room k ∙ rw (same_refl k) in
+    let there : find_row ((engine_of config).put ws k a) k ≡ Some a = (engines-laws config).find-put ws k a g room k ∙ rw (same_refl k) in
     put-replaces config ((engine_of config).put ws k a) k d a ((engines-laws config).good-put ws k a g room) there
     ∙ ap (λ (r : List Row). replace r k d) (put-replaces config ws k a e g f)
     ∙ replaced-twice ws k a d
     ∙ sym (put-replaces config ws k d e g f)
 
 module _ (config : Config) (b : List ℕ) (clock : ℕ) (s : List ℕ) (d : Doc) (y : Bytes b) (z : Bytes s) (small : clock < 2 ^ 32) (undamaged : sound_by config b ≡ true)
-    (there : doc_at b (key_in s) ≡ some d)
+    (there : doc_at b (key_in s) ≡ Some d)
     (past : Expired (later_at b clock) d) (Plain-op : among (opcode s) with_metas ≡ false) where
   abbrev h : Header
   h = header_of s
@@ -147,7 +143,7 @@ module _ (config : Config) (b : List ℕ) (clock : ℕ) (s : List ℕ) (d : Doc)
   grave-table : table_of grave ≡ u₀
   grave-table = (good-sound-by config u₀ good-grave).1
 
-  grave-found : find_row u.rows k ≡ some (tombstone_of d)
+  grave-found : find_row u.rows k ≡ Some (tombstone_of d)
   grave-found = (engines-laws config).find-put t.rows k (tombstone_of d) good.kept room k ∙ rw (same_refl k)
 
   grave-free : free_rows u.rows ≡ free_rows t.rows
@@ -161,11 +157,11 @@ module _ (config : Config) (b : List ℕ) (clock : ℕ) (s : List ℕ) (d : Doc)
   unfolding request_of
   plain-command = plain-asked (opcode s) (extras_in s) Plain-op
 
-  dead-row : live (stored_of (some d)) c ≡ false
-  dead-row = dead-at b clock (some d) (inr past)
+  dead-row : live (stored_of (Some d)) c ≡ false
+  dead-row = dead-at b clock (Some d) (inr past)
 
-  dead-grave : live (stored_of (some (tombstone_of d))) c ≡ false
-  dead-grave = dead c (some (tombstone_of d)) (inl refl)
+  dead-grave : live (stored_of (Some (tombstone_of d))) c ≡ false
+  dead-grave = dead c (Some (tombstone_of d)) (inl refl)
 
   -- the decision where the key has this document and so many rows are free
   abbrev with : Option Doc → ℕ → Decision
@@ -175,8 +171,8 @@ module _ (config : Config) (b : List ℕ) (clock : ℕ) (s : List ℕ) (d : Doc)
   rows_alike =
       let alike = same-decision t.head (ltb 0 (free_rows t.rows)) c (metadata_of d) (metadata_of (tombstone_of d)) (number_of d.value) (number_of []) (length d.value) 0
       dead-row dead-grave refl refl (instruction_of (request_of config.forcing s h)) plain-command in
-      let e : with (find_row t.rows k) (free_rows t.rows) ≡ with (some d) (free_rows t.rows) = λ j. with (there j) (free_rows t.rows) in
-      let f : with (find_row u.rows k) (free_rows u.rows) ≡ with (some (tombstone_of d)) (free_rows t.rows) = λ j. with (grave-found j) (grave-free j) in
+      let e : with (find_row t.rows k) (free_rows t.rows) ≡ with (Some d) (free_rows t.rows) = λ j. with (there j) (free_rows t.rows) in
+      let f : with (find_row u.rows k) (free_rows u.rows) ≡ with (Some (tombstone_of d)) (free_rows t.rows) = λ j. with (grave-found j) (grave-free j) in
       (e ∙ alike.0 ∙ sym f, subst (λ (x : Decision). Blind x.done) (sym e) alike.1)
 
   decided : Same (decision_on config t c s h) (decision_on config u c s h)
@@ -212,7 +208,7 @@ module _ (config : Config) (b : List ℕ) (clock : ℕ) (s : List ℕ) (d : Doc)
     effect = frame_effect config t c s h
 
     -- nothing stored: both stay, but for the kept clock
-    stay : effect.store ≡ none → Ends
+    stay : effect.store ≡ None → Ends
     unfolding frame_table
     stay e =
         let head = (changing config t c s h good.good z inside).keeps e in
@@ -226,7 +222,7 @@ module _ (config : Config) (b : List ℕ) (clock : ℕ) (s : List ℕ) (d : Doc)
     with_rows r = record { head = effect.head; rows = r }
 
     -- a document stored: the tombstone's row is written over
-    written_over : (e : Doc) → effect.store ≡ some e → Ends
+    written_over : (e : Doc) → effect.store ≡ Some e → Ends
     unfolding frame_table
     written_over e stores =
         let rows = put-twice config t.rows k (tombstone_of d) e d good.kept there in

@@ -6,7 +6,7 @@ use mathlib.Core.Path.{◌≡◌, refl, sym, ap, subst, ◌∙◌}
 use mathlib.Core.Bool.{Bool, true, false, cond}
 use mathlib.Core.List.{List, [], ◌∷◌}
 use mathlib.Core.Logic.{inl, inr}
-use mathlib.Core.Option.{Option, none, some}
+use Rattle.std.specs.Prelude.{Option, Some, None}
 use borrow.Author.Tests.{le-leb}
 use Rattle.keys.specs.Keys.{side_of}
 use Rattle.engine.specs.declared.Config.{Config}
@@ -42,8 +42,7 @@ use Rattle.engines.specs.Claims.{GoodBy}
 use Rattle.engines.proofs.EngineLaws.{engines-laws}
 use Rattle.engines.proofs.Tables.{sound-good-by, good-sound-by}
 use Rattle.engines.specs.Engines.{engine_of}
-use Rattle.owning.specs.declared.Document.TheVariants.{Expired as ExpiredBy}
-use Rattle.owning.specs.Owner.{read_of, read_status, purge_of, purged_bytes}
+use Rattle.owning.specs.Owner.{Expired as ExpiredBy, read_of, read_status, purge_of, purged_bytes}
 use Rattle.owning.proofs.Activating.{activate-damaged}
 use Rattle.serving.specs.Serve.{gate_all, decision_on, frame_effect, frame_table, served, served_table}
 use Rattle.serving.proofs.Formed.{no}
@@ -105,7 +104,7 @@ keeps-latest config b xs y p =
 expired-later : (n m : ℕ) (d : Doc) → n ≤ m → Expired n d → Expired m d
 expired-later n m d l e = record { document = e.document; ends = e.ends; past = omega (arith, e.past, l) }
 
-left-again : (d : Doc) (o p : Option Doc) → Left (some d) o → Left o p → Left (some d) p
+left-again : (d : Doc) (o p : Option Doc) → Left (Some d) o → Left o p → Left (Some d) p
 left-again d o p (inl a) (inl b) = inl (b ∙ a)
 left-again d o p (inr a) (inl b) = inr (b ∙ a)
 left-again d o p l (inr b) = inr b
@@ -113,7 +112,7 @@ left-again d o p l (inr b) = inr b
 -- a document that is expired at the kept clock, and whose row is as it was or freed
 record Over (config : Config) (t : Table) (k : Key) (d : Doc) : Type 0 where
   good : GoodBy config t
-  left : Left (some d) (find_row t.rows k)
+  left : Left (Some d) (find_row t.rows k)
   expired : Expired t.head.clock d
 
 grows : (r : Bool) (n c : ℕ) → n ≤ cond r (max n c) n
@@ -122,7 +121,7 @@ grows false n c = omega arith
 
 -- the same after a call that doesn't write its key
 module _ (config : Config) (k : Key) (d : Doc) where
-  next : (t : Table) (x : TableCall) → (s : Steps config t x) → writes_key config (table_bytes t) x k ≡ false → Left (some d) (find_row t.rows k)
+  next : (t : Table) (x : TableCall) → (s : Steps config t x) → writes_key config (table_bytes t) x k ≡ false → Left (Some d) (find_row t.rows k)
       → Expired s.table.head.clock d → Over config s.table k d
   next t x s f l e = record { good = s.good; left = left-again d _ _ l (s.docs k f); expired = e }
 
@@ -145,13 +144,13 @@ module _ (config : Config) (t : Table) (k : Key) (d : Doc) (o : Over config t k 
   row : doc_at b k ≡ find_row t.rows k
   row = ap (λ (x : Table). find_row x.rows k) (good-sound-by config t o.good).1
 
-  left : Left (some d) (doc_at b k)
-  left = subst (Left (some d)) (sym row) o.left
+  left : Left (Some d) (doc_at b k)
+  left = subst (Left (Some d)) (sym row) o.left
 
   past : (clock : ℕ) → Expired (later_at b clock) d
   past clock = expired-later t.head.clock (later_at b clock) d (omega (arith, kept-good config t o.good)) o.expired
 
-  not-live-by : (clock : ℕ) (x : Option Doc) → Left (some d) x → NotLive (later_at b clock) x
+  not-live-by : (clock : ℕ) (x : Option Doc) → Left (Some d) x → NotLive (later_at b clock) x
   not-live-by clock x (inl e) = subst (NotLive (later_at b clock)) (sym e) (inr (past clock))
   not-live-by clock x (inr e) = subst (NotLive (later_at b clock)) (sym e) tt
 
@@ -167,14 +166,14 @@ module _ (config : Config) (t : Table) (k : Key) (d : Doc) (o : Over config t k 
   unread : (clock : ℕ) → read_status (read_of config b clock k) ≡ 0x01
   unread clock = dead-read config b clock k undamaged (not_live clock)
 
-  told : (clock : ℕ) → doc_at b k ≡ some d → read_of config b clock k ≡ ExpiredBy (pos d.numbers.expiry -ℤ pos (later_at b clock))
+  told : (clock : ℕ) → doc_at b k ≡ Some d → read_of config b clock k ≡ ExpiredBy (pos d.numbers.expiry -ℤ pos (later_at b clock))
   told clock at = ((read-tells config b clock k undamaged).1 d at).past (past clock)
 
   unlisted : (clock : ℕ) (start : Key) (count : ℕ) → OneOf k (listed_keys (docs_in b) (later_at b clock) start count) → ⊥
   unlisted clock start count m =
       let keys : (engine_of config).Good (table_of b).rows = subst (λ (x : Table). (engine_of config).Good x.rows) (sym (good-sound-by config t o.good).1) o.good.kept in
       let l = (lists-exactly (docs_in b) (later_at b clock) start count ((engines-laws config).distinct-docs (table_of b).rows keys)).only k m in
-      let there : doc_at b k ≡ some l.doc = (engines-laws config).find-docs (table_of b).rows keys k ∙ l.found in
+      let there : doc_at b k ≡ Some l.doc = (engines-laws config).find-docs (table_of b).rows keys k ∙ l.found in
       no (sym (dead (later_at b clock) (doc_at b k) (not_live clock)) ∙ ap (λ (x : Option Doc). live (stored_of x) (later_at b clock)) there ∙ l.live)
 
   goes : (clock bound : ℕ) → d.numbers.cas.0 ≤ bound → gone_doc (clock_at t clock) bound d ≡ true
@@ -183,11 +182,11 @@ module _ (config : Config) (t : Table) (k : Key) (d : Doc) (o : Over config t k 
       let e = expired-later t.head.clock (clock_at t clock) d (omega arith) o.expired in
       rw (e.document, is-expired d.numbers.expiry (clock_at t clock) e.ends e.past, le-leb d.numbers.cas.0 bound l)
 
-  freed-by : (p : Doc → Bool) (x : Option Doc) → p d ≡ true → Left (some d) x → after_purge p x ≡ none
+  freed-by : (p : Doc → Bool) (x : Option Doc) → p d ≡ true → Left (Some d) x → after_purge p x ≡ None
   freed-by p x e (inl f) = ap (after_purge p) f ∙ rw e
   freed-by p x e (inr f) = ap (after_purge p) f
 
-  freed : (clock bound : ℕ) → clock < 2 ^ 32 → d.numbers.cas.0 ≤ bound → doc_at (purged_bytes config b clock bound) k ≡ none
+  freed : (clock bound : ℕ) → clock < 2 ^ 32 → d.numbers.cas.0 ≤ bound → doc_at (purged_bytes config b clock bound) k ≡ None
   freed clock bound c l =
       ap (λ (m : List ℕ). doc_at m k) (purged-bytes config t o.good clock bound c)
       ∙ ap (λ (x : Table). find_row x.rows k) (good-sound-by config _ (purged-good config t o.good clock bound c)).1

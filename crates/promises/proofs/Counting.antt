@@ -3,7 +3,7 @@ use Prim.Native.Nat.{ℕ, ◌+◌, ◌^◌, ◌≤◌, ◌<◌}
 use mathlib.Core.Path.{◌≡◌, refl, sym, ap, subst, ◌∙◌}
 use mathlib.Core.Bool.{Bool, true, false}
 use mathlib.Core.List.{List}
-use mathlib.Core.Option.{Option, some}
+use Rattle.std.specs.Prelude.{Option, Some}
 use native.Mathlib.Omega.{arith}
 use borrow.Author.Tests.{eq-eqb, ne_eqb, le-leb, ltb-false, le-ltb, lt-ltb}
 use Rattle.engine.specs.declared.Config.{Config}
@@ -16,7 +16,7 @@ use Rattle.numbers.specs.Expiry.{passes, absolute}
 use Rattle.document.specs.Documents.{Doc, doc_value}
 use Rattle.document.specs.Stored.{live, numbers_of}
 use Rattle.header.specs.Header.{header_of}
-use Rattle.request.specs.declared.Gate.TheVariants.{Whole}
+use Rattle.request.specs.Reading.{Whole}
 use Rattle.commands.specs.declared.Kind.{Kind}
 use Rattle.commands.specs.declared.Counter.{Counter}
 use Rattle.commands.specs.declared.Command.TheVariants.{Write, Count}
@@ -79,7 +79,7 @@ faultless config b clock s room a = (unfailing config b clock s room a).fault
 
 -- what a served frame stores is what its key has then
 pub stored_at : (config : Config) (b : List ℕ) (clock : ℕ) (s : List ℕ) (room : ℕ) (d : Doc) → Bytes b → Bytes s → clock < 2 ^ 32 → gate_all config b room s ≡ Whole (header_of s)
-    → (effect_at config b clock s (header_of s)).store ≡ some d → doc_at (served_table config b clock s room) (key_in s) ≡ some d
+    → (effect_at config b clock s (header_of s)).store ≡ Some d → doc_at (served_table config b clock s room) (key_in s) ≡ Some d
 unfolding served_table frame_table
 stored_at config b clock s room d y z c o e =
     let t = table_at (table_of b) clock in
@@ -102,9 +102,9 @@ does config b clock s =
     doc_from done.store (bytes_from done.source (request_of config.forcing s (header_of s)).value (doc_value (doc_at b (key_in s))))
 
 -- a frame with status 0 stores it
-module _ (config : Config) (b : List ℕ) (clock : ℕ) (s : List ℕ) (room : ℕ) (d : Doc) (stores : does config b clock s ≡ some d) where
+module _ (config : Config) (b : List ℕ) (clock : ℕ) (s : List ℕ) (room : ℕ) (d : Doc) (stores : does config b clock s ≡ Some d) where
   reached : reaches_decision s (header_of s) ≡ true → (decision_at config b clock s (header_of s)).status ≡ 0
-      → (effect_at config b clock s (header_of s)).store ≡ some d
+      → (effect_at config b clock s (header_of s)).store ≡ Some d
   unfolding frame_effect decision_on decision
   reached r e = rw (r, eq-eqb _ 0 (rw r at e)) stores
 
@@ -112,7 +112,7 @@ module _ (config : Config) (b : List ℕ) (clock : ℕ) (s : List ℕ) (room : �
   unfolding decision_on
   unreached r e = no (sym r ∙ zero-reaches s (header_of s) (rw r at e))
 
-  pub done_at : Bytes b → Bytes s → clock < 2 ^ 32 → Answers config b clock s room 0 → doc_at (served_table config b clock s room) (key_in s) ≡ some d
+  pub done_at : Bytes b → Bytes s → clock < 2 ^ 32 → Answers config b clock s room 0 → doc_at (served_table config b clock s room) (key_in s) ≡ Some d
   done_at y z c (len, e) =
       let zero = sym (statuses-in-order config (table_at (table_of b) clock) (clock_at (table_of b) clock) s (header_of s)) ∙ answered config b clock s room 0 _ len e in
       let stored = cases (reaches_decision s (header_of s)) (λ r. reached r zero) (λ r. absurd (unreached r zero)) in
@@ -127,17 +127,17 @@ module _ (config : Config) (b : List ℕ) (clock : ℕ) (s : List ℕ) (room : �
   abbrev counting : ℕ → ℕ → ℕ → Doc
   counting n flags expiry = record { tomb = false; value = digits n; numbers = plain_numbers (seen config b clock s) flags expiry }
 
-  begins : NotLive (later_at b clock) (doc_at b (key_in s)) → does config b clock s ≡ some (counting (initial_in s) 0 (absolute (counter_expiry s) (clock_at (table_of b) clock)))
+  begins : NotLive (later_at b clock) (doc_at b (key_in s)) → does config b clock s ≡ Some (counting (initial_in s) 0 (absolute (counter_expiry s) (clock_at (table_of b) clock)))
   unfolding done_of
   begins n = rw (asks, dead-at b clock (doc_at b (key_in s)) n)
 
-  goes_on : (d : Doc) → doc_at b (key_in s) ≡ some d → Live (later_at b clock) d
-      → does config b clock s ≡ some (counting (sum (seen config b clock s).number counter) (numbers_of (seen config b clock s).row).flags (numbers_of (seen config b clock s).row).expiry)
+  goes_on : (d : Doc) → doc_at b (key_in s) ≡ Some d → Live (later_at b clock) d
+      → does config b clock s ≡ Some (counting (sum (seen config b clock s).number counter) (numbers_of (seen config b clock s).row).flags (numbers_of (seen config b clock s).row).expiry)
   unfolding done_of
   goes_on d at l = let t : live (seen config b clock s).row (clock_at (table_of b) clock) ≡ true = rw at (alive-at b clock d l) in rw (asks, t)
 
   anew : NotLive (later_at b clock) (doc_at b (key_in s)) → Bytes b → Bytes s → clock < 2 ^ 32 → Answers config b clock s room 0
-      → (d : Doc) × ((doc_at (served_table config b clock s room) (key_in s) ≡ some d) × BeginsAt (initial_in s) (counter_expiry s) (later_at b clock) d)
+      → (d : Doc) × ((doc_at (served_table config b clock s room) (key_in s) ≡ Some d) × BeginsAt (initial_in s) (counter_expiry s) (later_at b clock) d)
   unfolding rule_of
   anew n y z c a =
       let until = until-later b clock (counter_expiry s) (rw asks at (faultless config b clock s room a)) in
@@ -171,7 +171,7 @@ module _ (config : Config) (b : List ℕ) (clock : ℕ) (s : List ℕ) (room : �
     numbers = plain_numbers (seen config b clock s) (num (extras_in s) 0 4) (absolute (written_expiry s) (clock_at (table_of b) clock));
   }
 
-  writes : does config b clock s ≡ some document
+  writes : does config b clock s ≡ Some document
   unfolding done_of
   writes = rw asks
 

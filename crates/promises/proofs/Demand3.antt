@@ -3,7 +3,7 @@ use Prim.Native.Nat.{ℕ, ◌^◌, ◌≤◌, ◌<◌}
 use mathlib.Core.Path.{◌≡◌, refl, sym, ap, ◌∙◌, subst}
 use mathlib.Core.Bool.{Bool}
 use mathlib.Core.List.{List, [], ◌∷◌, map}
-use mathlib.Core.Option.{none, some}
+use Rattle.std.specs.Prelude.{Some, None}
 use lib.ListN.{length}
 use borrow.Author.Tests.{le-ltb}
 use Rattle.engine.specs.declared.Config.{Config}
@@ -13,8 +13,7 @@ use Rattle.octets.proofs.Choices.{cases}
 use Rattle.numbers.specs.declared.Mode.{Mode}
 use Rattle.document.specs.Documents.{Key, Doc}
 use Rattle.header.specs.Header.{header_of}
-use Rattle.request.specs.declared.Gate.TheVariants.{Whole}
-use Rattle.request.specs.Reading.{gate_of, frame_status, key_span, bytes_in}
+use Rattle.request.specs.Reading.{Whole, gate_of, frame_status, key_span, bytes_in}
 use Rattle.request.proofs.Gated.{whole-frame}
 use Rattle.decision.specs.Decide.{Effect, decide}
 use Rattle.decode.specs.Decode.{request_of}
@@ -128,10 +127,10 @@ module _ (forcing : Bool) where
   clocks-same [] = refl
   clocks-same (c ∷ cs) = rw (clocks-same cs)
 
-found_below : (mark : ℕ) (rows : List Row) (k : Key) (d : Doc) → AllGood mark rows → find_row rows k ≡ some d → d.numbers.cas.0 ≤ mark
+found_below : (mark : ℕ) (rows : List Row) (k : Key) (d : Doc) → AllGood mark rows → find_row rows k ≡ Some d → d.numbers.cas.0 ≤ mark
 found_below mark [] k d g e = none-some d e
-found_below mark (none ∷ rows) k d g e = found_below mark rows k d g e
-found_below mark (some x ∷ rows) k d g e =
+found_below mark (None ∷ rows) k d g e = found_below mark rows k d g e
+found_below mark (Some x ∷ rows) k d g e =
     cases (same x.key k)
     (λ s. let e' = rw s at e in let z : x.doc ≡ d = cc in rw (← z) g.0.cas-most)
     (λ s. found_below mark rows k d g.1 (rw s at e))

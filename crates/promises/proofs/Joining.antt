@@ -4,7 +4,7 @@ use native.Mathlib.Omega.{arith}
 use mathlib.Core.Path.{◌≡◌, refl, sym, ap, ◌∙◌}
 use mathlib.Core.Bool.{Bool, true, false}
 use mathlib.Core.List.{List}
-use mathlib.Core.Option.{some}
+use Rattle.std.specs.Prelude.{Some}
 use lib.Dec.{eqb}
 use borrow.Author.Tests.{eqb-false}
 use Rattle.engine.specs.declared.Config.{Config}
@@ -53,7 +53,7 @@ marked b = refl
 one_more : (n : ℕ) → n < 2 ^ 64 → eqb n 0xffffffffffffffff ≡ false → next n ≡ n + 1
 one_more n l e = let low : n ≡ 0xffffffffffffffff → ⊥ = eqb-false n 0xffffffffffffffff e in omega arith
 
-module _ (config : Config) (b : List ℕ) (clock : ℕ) (s : List ℕ) (room : ℕ) (d : Doc) (y : Bytes b) (there : doc_at b (key_in s) ≡ some d) (a : Answers config b clock s room 0)
+module _ (config : Config) (b : List ℕ) (clock : ℕ) (s : List ℕ) (room : ℕ) (d : Doc) (y : Bytes b) (there : doc_at b (key_in s) ≡ Some d) (a : Answers config b clock s room 0)
     (revises : (rule config b clock s).revises ≡ true) (marks : (rule config b clock s).marks ≡ true) where
   good : GoodBy config (table_of b)
   good = let (len, e) = a in (sound-good-by config b y (was-open config b s room (header_of s) (was-whole config b clock s room 0 _ len e)).undamaged).1
@@ -84,12 +84,12 @@ value-asked forcing s e =
     let all : (value_span (header_of s)).len - 0 ≡ (value_span (header_of s)).len = omega arith in
     rw (no-meta s e) (ap (part s (value_span (header_of s)).at) all)
 
-module _ (config : Config) (b : List ℕ) (clock : ℕ) (s : List ℕ) (room : ℕ) (d : Doc) (y : Bytes b) (there : doc_at b (key_in s) ≡ some d) (a : Answers config b clock s room 0)
+module _ (config : Config) (b : List ℕ) (clock : ℕ) (s : List ℕ) (room : ℕ) (d : Doc) (y : Bytes b) (there : doc_at b (key_in s) ≡ Some d) (a : Answers config b clock s room 0)
     (side : Side) (asks : command config b clock s ≡ Join side) where
   abbrev joint : Doc
   joint = over config b clock s (numbers_of (seen config b clock s).row).expiry (joined side (doc_value (doc_at b (key_in s))) (request_of config.forcing s (header_of s)).value)
 
-  joins-it : does config b clock s ≡ some joint
+  joins-it : does config b clock s ≡ Some joint
   unfolding done_of
   joins-it = rw asks
 
@@ -117,12 +117,12 @@ live_joins config b clock s room d y z small there e a =
     )
 
 -- ---- Touch and Get-and-touch
-module _ (config : Config) (b : List ℕ) (clock : ℕ) (s : List ℕ) (room : ℕ) (d : Doc) (y : Bytes b) (there : doc_at b (key_in s) ≡ some d) (a : Answers config b clock s room 0)
+module _ (config : Config) (b : List ℕ) (clock : ℕ) (s : List ℕ) (room : ℕ) (d : Doc) (y : Bytes b) (there : doc_at b (key_in s) ≡ Some d) (a : Answers config b clock s room 0)
     (shown : Bool) (asks : command config b clock s ≡ Touch (record { expiry = num (extras_in s) 0 4; shown = shown })) where
   abbrev touched : Doc
   touched = over config b clock s (absolute (num (extras_in s) 0 4) (clock_at (table_of b) clock)) (doc_value (doc_at b (key_in s)))
 
-  touches-it : does config b clock s ≡ some touched
+  touches-it : does config b clock s ≡ Some touched
   unfolding done_of
   touches-it = rw asks
 

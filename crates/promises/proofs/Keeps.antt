@@ -3,24 +3,21 @@ use Prim.Native.Nat.{ℕ}
 use native.Mathlib.Omega.{arith}
 use mathlib.Core.Path.{◌≡◌, refl, sym, ap, ◌∙◌}
 use mathlib.Core.List.{List}
-use mathlib.Core.Option.{none}
+use Rattle.std.specs.Prelude.{None}
 use lib.Dec.{ltb}
 use Rattle.engine.specs.declared.Config.{Config}
 use Rattle.octets.specs.Parts.{Bytes}
 use Rattle.octets.proofs.Choices.{cases}
 use Rattle.header.specs.declared.Header.{Header}
-use Rattle.request.specs.declared.Gate.{Gate}
-use Rattle.request.specs.declared.Gate.TheVariants.{Stop, Whole}
-use Rattle.request.specs.Reading.{bytes_in, key_span}
+use Rattle.request.specs.Reading.{Gate, Stop, Whole, bytes_in, key_span}
 use Rattle.decision.specs.Decide.{decide}
 use Rattle.decision.proofs.Stores.{refused-keeps as decided-keeps}
 use Rattle.decode.specs.Decode.{request_of}
 use Rattle.rows.specs.Table.{Table, table_of, table_at, clock_at, table_bytes}
 use Rattle.rows.specs.Find.{find_row, free_rows}
-use Rattle.serving.specs.declared.Served.TheVariants.{Done}
 use Rattle.serving.proofs.Gated.{was-open, refused-keeps as call-keeps}
 use Rattle.serving.proofs.Change.{unchanged}
-use Rattle.serving.specs.Serve.{reaches_decision, decision_on, frame_effect, frame_table, answer_by, table_by, served, served_table, gate_all}
+use Rattle.serving.specs.Serve.{Done, reaches_decision, decision_on, frame_effect, frame_table, answer_by, table_by, served, served_table, gate_all}
 use Rattle.promises.specs.Kept.{clock_raised}
 use Rattle.promises.specs.Table.{RefusedKeeps, StatusKeeps}
 use Rattle.promises.proofs.Kept.{raised-bytes}
@@ -30,7 +27,7 @@ refused-keeps config = call-keeps config
 
 -- ---- another status than 0: nothing is stored, and the head stays
 pub nothing_stored : (config : Config) (t : Table) (clock : ℕ) (s : List ℕ) (h : Header) → ((frame_effect config t clock s h).status ≡ 0 → ⊥)
-    → ((frame_effect config t clock s h).store ≡ none) × ((frame_effect config t clock s h).head ≡ t.head)
+    → ((frame_effect config t clock s h).store ≡ None) × ((frame_effect config t clock s h).head ≡ t.head)
 unfolding frame_effect decision_on decide
 nothing_stored config t clock s h n =
     cases (reaches_decision s h)

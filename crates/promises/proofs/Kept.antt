@@ -15,8 +15,7 @@ use Rattle.engines.specs.Damage.{sound_by}
 use Rattle.engines.specs.Claims.{GoodBy}
 use Rattle.engines.proofs.Tables.{sound-good-by, good-sound-by, clock-put, clock-good-by}
 use Rattle.plain.proofs.TableLaws.{table-length}
-use Rattle.serving.specs.declared.Served.{Served}
-use Rattle.serving.specs.declared.Served.TheVariants.{Refused, Done}
+use Rattle.serving.specs.Serve.{Served, Refused, Done}
 use Rattle.promises.specs.Merge.{doc_at}
 use Rattle.promises.specs.Kept.{kept_at, later_at, clock_raised, kept_by}
 

@@ -4,7 +4,7 @@ use Prim.Native.Nat.{ℕ, suc, ◌+◌, ◌≤◌}
 use mathlib.Core.Path.{◌≡◌, refl, sym, ap, ◌∙◌}
 use mathlib.Core.Bool.{Bool, true, false, cond}
 use mathlib.Core.List.{List, [], ◌∷◌, ◌++◌}
-use mathlib.Core.Option.{some}
+use Rattle.std.specs.Prelude.{Some}
 use lib.ListN.{length, drop, length-append}
 use borrow.Author.Tests.{eq-eqb, ne_eqb}
 use Rattle.engine.specs.declared.Config.{Config}
@@ -31,18 +31,15 @@ use Rattle.commands.specs.Rules.{rule_of, tests_of, first_failure}
 use Rattle.effects.specs.declared.Reply.TheVariants.{Bare, Keys}
 use Rattle.effects.specs.declared.Done.{Done as Doing}
 use Rattle.effects.specs.Done.{nothing, done_of}
-use Rattle.decision.specs.declared.Decision.{Decision}
-use Rattle.decision.specs.Decision.{decision}
+use Rattle.decision.specs.Decision.{Decision, decision}
 use Rattle.decode.specs.Decode.{command_of, request_of}
 use Rattle.rows.specs.Table.{Table, table_of, table_at, clock_at}
 use Rattle.engines.specs.Damage.{sound_by}
 use Rattle.engines.specs.Claims.{GoodBy}
 use Rattle.engines.proofs.EngineLaws.{engines-laws}
 use Rattle.engines.proofs.Tables.{sound-good-by}
-use Rattle.serving.specs.declared.Served.{Served}
-use Rattle.serving.specs.declared.Served.TheVariants.{Done}
 use Rattle.serving.specs.Reply.{reply_shows, reply_header, reply_bytes}
-use Rattle.serving.specs.Serve.{reaches_decision, decision_on, decision_at, frame_effect, frame_reply, answer_by, reply_by, served, served_reply}
+use Rattle.serving.specs.Serve.{Served, Done, reaches_decision, decision_on, decision_at, frame_effect, frame_reply, answer_by, reply_by, served, served_reply}
 use Rattle.serving.proofs.Formed.{no, zero-reaches}
 use Rattle.promises.specs.Merge.{doc_at}
 use Rattle.promises.specs.Kept.{later_at, kept_by}
@@ -176,7 +173,7 @@ module _ (config : Config) (b : List ℕ) (y : Bytes b) (undamaged : sound_by co
   few-docs : length (docs_in b) ≤ 256
   few-docs = omega (arith, (engines-laws config).count (table_of b).rows good.kept, good.good.most)
 
-  short-key : (k : Key) (d : Doc) → find_entry (docs_in b) k ≡ some d → length k ≤ 250
+  short-key : (k : Key) (d : Doc) → find_entry (docs_in b) k ≡ Some d → length k ≤ 250
   short-key k d e = (found-good (table_of b).head.mark.0 (table_of b).rows k d good.good.rows (found k ∙ e)).key-most
 
   -- what is listed by the tests, and by 01's words

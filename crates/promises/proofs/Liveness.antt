@@ -4,7 +4,7 @@ use mathlib.Core.Path.{◌≡◌, refl, sym, ap, ◌∙◌}
 use mathlib.Core.Bool.{Bool, true, false, not, ◌&&◌, ◌||◌}
 use mathlib.Core.List.{List, [], ◌∷◌, ◌++◌}
 use mathlib.Core.Logic.{◌⊎◌, inl, inr}
-use mathlib.Core.Option.{Option, none, some}
+use Rattle.std.specs.Prelude.{Option, Some, None}
 use native.Mathlib.Omega.{arith}
 use lib.ListN.{length, take, drop, take-append-drop}
 use lib.Dec.{eqb}
@@ -17,12 +17,10 @@ use Rattle.document.specs.Documents.{Doc}
 use Rattle.document.specs.Stored.{stored_of, live}
 use Rattle.header.specs.declared.Header.{Header}
 use Rattle.header.specs.Header.{header_of}
-use Rattle.request.specs.declared.Gate.{Gate}
-use Rattle.request.specs.declared.Gate.TheVariants.{Stop, Whole}
+use Rattle.request.specs.Reading.{Gate, Stop, Whole}
 use Rattle.commands.specs.Rules.{Check, first_failure}
 use Rattle.rows.specs.Table.{Table, table_of, table_at, clock_at}
-use Rattle.serving.specs.declared.Served.TheVariants.{Done}
-use Rattle.serving.specs.Serve.{decision_on, frame_effect, answer_by, table_by, frame_table, frame_reply, gate_all, served, served_table}
+use Rattle.serving.specs.Serve.{Done, decision_on, frame_effect, answer_by, table_by, frame_table, frame_reply, gate_all, served, served_table}
 use Rattle.serving.specs.Statuses.{statuses}
 use Rattle.serving.proofs.Formed.{no}
 use Rattle.serving.proofs.Gated.{was-open}
@@ -37,9 +35,9 @@ is-expired expiry clock z l = expired-said expiry clock ∙ rw (ne_eqb expiry 0 
 
 pub dead : (clock : ℕ) (row : Option Doc) → NotLive clock row → live (stored_of row) clock ≡ false
 unfolding live
-dead clock none n = refl
-dead clock (some d) (inl t) = rw t
-dead clock (some d) (inr e) = rw (e.document, is-expired d.numbers.expiry clock e.ends e.past)
+dead clock None n = refl
+dead clock (Some d) (inl t) = rw t
+dead clock (Some d) (inr e) = rw (e.document, is-expired d.numbers.expiry clock e.ends e.past)
 
 pub and-false : (a : Bool) → (a && false) ≡ false
 and-false true = refl
@@ -53,25 +51,25 @@ pub or-false : (a : Bool) → (a || false) ≡ a
 or-false true = refl
 or-false false = refl
 
-alive-by : (clock : ℕ) (d : Doc) → d.tomb ≡ false → (d.numbers.expiry ≡ 0) ⊎ (clock < d.numbers.expiry) → live (stored_of (some d)) clock ≡ true
+alive-by : (clock : ℕ) (d : Doc) → d.tomb ≡ false → (d.numbers.expiry ≡ 0) ⊎ (clock < d.numbers.expiry) → live (stored_of (Some d)) clock ≡ true
 unfolding live
 alive-by clock d e (inl z) = let s = expired-said d.numbers.expiry clock in rw (e, s, z)
 alive-by clock d e (inr l) =
     let s = expired-said d.numbers.expiry clock in
     rw (e, s, lt-leb d.numbers.expiry clock l, and-false (not (eqb d.numbers.expiry 0)))
 
-pub alive : (clock : ℕ) (d : Doc) → Live clock d → live (stored_of (some d)) clock ≡ true
+pub alive : (clock : ℕ) (d : Doc) → Live clock d → live (stored_of (Some d)) clock ≡ true
 alive clock d a = alive-by clock d a.document a.unexpired
 
 -- at the later of the kept clock and a call's
 pub dead-at : (b : List ℕ) (clock : ℕ) (row : Option Doc) → NotLive (later_at b clock) row → live (stored_of row) (clock_at (table_of b) clock) ≡ false
 dead-at b clock row n = dead (clock_at (table_of b) clock) row (at-later (λ (c : ℕ). NotLive c row) b clock n)
 
-pub alive-at : (b : List ℕ) (clock : ℕ) (d : Doc) → Live (later_at b clock) d → live (stored_of (some d)) (clock_at (table_of b) clock) ≡ true
+pub alive-at : (b : List ℕ) (clock : ℕ) (d : Doc) → Live (later_at b clock) d → live (stored_of (Some d)) (clock_at (table_of b) clock) ≡ true
 alive-at b clock d a = alive (clock_at (table_of b) clock) d (at-later (λ (c : ℕ). Live c d) b clock a)
 
 -- and the other way round: what the test takes for live is so by 01's words
-pub live-said : (clock : ℕ) (d : Doc) → live (stored_of (some d)) clock ≡ true → Live clock d
+pub live-said : (clock : ℕ) (d : Doc) → live (stored_of (Some d)) clock ≡ true → Live clock d
 unfolding live
 live-said clock d e =
     let (t, n) = both (not d.tomb) _ e in

@@ -11,8 +11,7 @@ use Rattle.octets.proofs.Choices.{cond-elim}
 use Rattle.octets.proofs.Lists.{part_length, part-most}
 use Rattle.numbers.specs.declared.Mode.{Mode}
 use Rattle.numbers.specs.declared.Mode.TheVariants.{ByRevision, LastWrite}
-use Rattle.shape.specs.declared.Shape.{Shape}
-use Rattle.shape.specs.Shapes.{among, shape_of}
+use Rattle.shape.specs.Shapes.{Shape, among, shape_of}
 use Rattle.header.specs.declared.Header.{Header}
 use Rattle.header.specs.Header.{header_of}
 use Rattle.with_meta.specs.declared.WithMeta.{WithMeta}

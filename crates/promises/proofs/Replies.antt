@@ -14,31 +14,26 @@ use Rattle.octets.specs.BigEndian.{num, bytes_of}
 use Rattle.octets.proofs.Choices.{cases}
 use Rattle.octets.proofs.Lists.{written-fits, length-written}
 use Rattle.octets.proofs.Numbers.{num-back}
-use Rattle.shape.specs.declared.Shape.{Shape}
-use Rattle.shape.specs.Shapes.{commands, unbuilt, shape_by, among, look_up, shape_of}
+use Rattle.shape.specs.Shapes.{Shape, commands, unbuilt, shape_by, among, look_up, shape_of}
 use Rattle.shape.proofs.ShapeLaws.{Each, looked-up, any-shape}
 use Rattle.header.specs.declared.Header.{Header}
 use Rattle.header.specs.Header.{header_of, front_bytes, middle_bytes, back_bytes, header_bytes}
 use Rattle.header.proofs.HeaderLaws.{length-header}
 use Rattle.rules.specs.Rules.{form_ok, field_rules_ok, meta_size, judged, status, forces}
-use Rattle.request.specs.declared.Gate.{Gate}
-use Rattle.request.specs.declared.Gate.TheVariants.{Stop, Whole}
-use Rattle.request.specs.Reading.{frame_status, bytes_in, extras_span, key_span, value_span}
+use Rattle.request.specs.Reading.{Gate, Stop, Whole, frame_status, bytes_in, extras_span, key_span, value_span}
 use Rattle.document.specs.declared.Head.{Head}
 use Rattle.document.specs.Documents.{doc_value}
 use Rattle.commands.specs.declared.Context.{Context}
-use Rattle.decision.specs.declared.Decision.{Decision}
 use Rattle.effects.specs.declared.Reply.TheVariants.{Bare}
 use Rattle.commands.specs.Rules.{rule_of, status_by}
 use Rattle.effects.specs.Done.{nothing}
-use Rattle.decision.specs.Decision.{decision}
+use Rattle.decision.specs.Decision.{Decision, decision}
 use Rattle.decision.specs.Decide.{instruction_of}
 use Rattle.decode.specs.Decode.{plain_of, counter_of, meta_command, touch_of, command_of, request_of}
 use Rattle.rows.specs.Table.{Table, table_of, table_at, clock_at}
 use Rattle.rows.specs.Find.{find_row}
-use Rattle.serving.specs.declared.Served.TheVariants.{Done}
 use Rattle.serving.specs.Reply.{reply_shows, reply_header, reply_bytes}
-use Rattle.serving.specs.Serve.{reaches_decision, context_on, decision_on, frame_effect, frame_reply, answer_by, reply_by, gate_all, served, served_reply}
+use Rattle.serving.specs.Serve.{Done, reaches_decision, context_on, decision_on, frame_effect, frame_reply, answer_by, reply_by, gate_all, served, served_reply}
 use Rattle.serving.proofs.Formed.{by_cond}
 use Rattle.serving.proofs.Gated.{was-open}
 use Rattle.reply.specs.Fitting.{bare_header}

@@ -4,7 +4,7 @@ use mathlib.Core.Path.{◌≡◌, refl, sym, ap, subst, ◌∙◌}
 use mathlib.Core.Bool.{Bool, false, cond, not, ◌&&◌}
 use mathlib.Core.List.{List}
 use mathlib.Core.Logic.{◌⊎◌, inl, inr}
-use mathlib.Core.Option.{Option, none, some}
+use Rattle.std.specs.Prelude.{Option, Some, None}
 use lib.ListN.{length}
 use lib.Dec.{eqb, ltb}
 use borrow.Author.Tests.{eq-eqb}
@@ -18,9 +18,7 @@ use Rattle.document.specs.Stored.{gone_doc}
 use Rattle.shape.specs.Shapes.{among}
 use Rattle.header.specs.declared.Header.{Header}
 use Rattle.header.specs.Header.{header_of}
-use Rattle.request.specs.declared.Gate.{Gate}
-use Rattle.request.specs.declared.Gate.TheVariants.{Stop, Whole}
-use Rattle.request.specs.Reading.{gate_of}
+use Rattle.request.specs.Reading.{Gate, Stop, Whole, gate_of}
 use Rattle.decision.specs.Decide.{Effect}
 use Rattle.engine.specs.Engine.{store_row, after_purge}
 use Rattle.rows.specs.Table.{Table, table_of, table_at, clock_at, table_bytes}
@@ -44,7 +42,7 @@ use Rattle.promises.proofs.Alive.{read-only-keeps}
 
 -- what is left of a key's document: all of it, or nothing
 abbrev pub Left : Option Doc → Option Doc → Type 0
-Left o p = (p ≡ o) ⊎ (p ≡ none)
+Left o p = (p ≡ o) ⊎ (p ≡ None)
 
 -- after a call at a clock that raises the kept clock or doesn't, and writes some keys
 pub record Stepped (config : Config) (t : Table) (after : List ℕ) (raised : Bool) (clock : ℕ) (writes : Key → Bool) : Type 0 where
@@ -106,7 +104,7 @@ module _ (config : Config) (t : Table) (g : GoodBy config t) where
     By gate = Stepped config t (table_by config b clock s gate) (eqb (served_outcome (answer_by config b clock s gate)) 0) clock (writes_by gate)
 
     -- what is stored is for a key that is written
-    apart : (d : Doc) (k : Key) → effect.store ≡ some d → (eqb effect.status 0 && (not (among (opcode s) read_only) && same (key_in s) k)) ≡ false
+    apart : (d : Doc) (k : Key) → effect.store ≡ Some d → (eqb effect.status 0 && (not (among (opcode s) read_only) && same (key_in s) k)) ≡ false
         → same (key_in s) k ≡ false
     apart d k e f =
         cases (eqb effect.status 0)
@@ -153,8 +151,8 @@ module _ (config : Config) (t : Table) (g : GoodBy config t) where
     goes = gone_doc (clock_at t clock) bound
 
     left_by : (o : Option Doc) → Left o (after_purge goes o)
-    left_by none = inl refl
-    left_by (some d) = cases (goes d) (λ p. rw p (inr refl)) (λ p. rw p (inl refl))
+    left_by None = inl refl
+    left_by (Some d) = cases (goes d) (λ p. rw p (inr refl)) (λ p. rw p (inl refl))
 
     pub purged-doc : (k : Key) → find_row ((engine_of config).purge t.rows goes) k ≡ after_purge goes (find_row t.rows k)
     purged-doc k = (engines-laws config).find-purge t.rows goes g.kept k

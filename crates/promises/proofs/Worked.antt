@@ -1,4 +1,5 @@
 -- The worked list meets the premises and gives what specs/Worked.antt says.
+use Rattle.std.specs.Prelude.{is_some}
 use Prim.Native.Nat.{ℕ, ◌^◌}
 use mathlib.Core.Path.{◌≡◌, refl, sym, ap, ◌∙◌}
 use mathlib.Core.Bool.{Bool, true, cond, ◌&&◌, ◌||◌}
@@ -20,16 +21,13 @@ use Rattle.numbers.specs.declared.Mode.{Mode}
 use Rattle.numbers.specs.declared.Numbers.{Numbers}
 use Rattle.numbers.specs.Order.{greater}
 use Rattle.document.specs.Documents.{Key, Doc}
-use Rattle.engine.specs.Engine.{is_some}
 use Rattle.document.specs.Stored.{accepted}
 use Rattle.shape.specs.Shapes.{among, shape_of}
 use Rattle.header.specs.Header.{header_of}
 use Rattle.with_meta.specs.WithMeta.{with_meta}
 use Rattle.with_meta.specs.Section.{section_ok}
 use Rattle.rules.specs.Rules.{status, keeps_rules, forces, is_forced, meta_size}
-use Rattle.request.specs.declared.Gate.{Gate}
-use Rattle.request.specs.declared.Gate.TheVariants.{Whole}
-use Rattle.request.specs.Reading.{gate_of, extras_span, key_span, frame_status, bytes_in}
+use Rattle.request.specs.Reading.{Gate, Whole, gate_of, extras_span, key_span, frame_status, bytes_in}
 use Rattle.commands.specs.Rules.{rule_of, tests_of, first_status, first_failure}
 use Rattle.effects.specs.Done.{done_of}
 use Rattle.decision.specs.Decision.{decision}

@@ -1,8 +1,7 @@
 -- Lists of serving calls, each on the table as the one before left it.
 use Rattle.std.specs.Prelude.{ℕ, List, [], ◌∷◌, map, length}
 use Rattle.engine.specs.declared.Config.{Config}
-use Rattle.serving.specs.declared.Served.{Served}
-use Rattle.serving.specs.Serve.{served_outcome, served_status, served, served_table}
+use Rattle.serving.specs.Serve.{Served, served_outcome, served_status, served, served_table}
 
 -- a clock, received bytes and a reply area as it was before
 pub record Call : Type 0 where

@@ -1,6 +1,5 @@
 -- Order 2, the failure at sea: "A GPS fault set a boat's clock back a day and yesterday's contacts came alive." Over any list of serving calls, purges, reads and calls that make the table active, with any clocks, each on the table as the one before left it. Proved in proofs/Clock.antt.
-use Rattle.std.specs.Prelude.{ℕ, ◌^◌, ◌≤◌, ◌<◌, max, ◌≡◌, Bool, true, false, not, cond, ◌&&◌, List, [], ◌∷◌, ◌++◌, ◌⊎◌, eqb, replicate, pos, ◌-ℤ◌}
-use Rattle.std.proofs.Math.Option.{none, some}
+use Rattle.std.specs.Prelude.{ℕ, ◌^◌, ◌≤◌, ◌<◌, max, ◌≡◌, Bool, true, false, not, cond, ◌&&◌, List, [], ◌∷◌, ◌++◌, ◌⊎◌, eqb, replicate, pos, ◌-ℤ◌, Some, None}
 use Rattle.engine.specs.declared.Config.{Config}
 use Rattle.octets.specs.Parts.{Bytes}
 use Rattle.octets.specs.Compare.{same}
@@ -10,9 +9,7 @@ use Rattle.listing.specs.Listing.{listed_keys}
 use Rattle.listing.specs.Claims.{OneOf}
 use Rattle.shape.specs.Shapes.{among}
 use Rattle.rows.specs.Table.{table_bytes}
-use Rattle.numbers.specs.declared.Left.TheVariants.{Seconds}
-use Rattle.owning.specs.declared.Document.TheVariants.{Missing, Expired as ExpiredBy, Live}
-use Rattle.owning.specs.Owner.{read_of, read_outcome, read_status, purge_of, purge_outcome, purged_bytes, activate_of, activate_outcome, activated_bytes}
+use Rattle.owning.specs.Owner.{Missing, Expired as ExpiredBy, Live, read_of, read_outcome, read_status, purge_of, purge_outcome, purged_bytes, activate_of, activate_outcome, activated_bytes}
 use Rattle.serving.specs.Serve.{served_outcome, served_status}
 use Rattle.promises.specs.Calls.{Call, served_by, table_served}
 use Rattle.promises.specs.Merge.{doc_at}
@@ -101,18 +98,18 @@ Unwritten config b (x ∷ xs) k = (writes_key config b x k ≡ false) × Unwritt
 pub record ExpiredTo (config : Config) (b : List ℕ) (x : TableCall) (k : Key) (d : Doc) : Type 0 where
   pub bytes : Bytes b
   pub raised : raises config b x ≡ true
-  pub there : doc_at b k ≡ some d
+  pub there : doc_at b k ≡ Some d
   pub expired : Expired (later_at b (clock_of x)) d
 
 -- a document that is expired to every call on a table, whatever its clock: "no clock brings it back"
 pub record ExpiredForGood (config : Config) (b : List ℕ) (k : Key) (d : Doc) : Type 0 where
   -- its row is as it was, or a purge freed it
-  pub left : (doc_at b k ≡ some d) ⊎ (doc_at b k ≡ none)
+  pub left : (doc_at b k ≡ Some d) ⊎ (doc_at b k ≡ None)
   pub expired : (clock : ℕ) → Expired (later_at b clock) d
   -- a read doesn't show it; order 5: where its row is left, it tells the seconds, and nothing where that was freed
   pub read : (clock : ℕ) → read_status (read_of config b clock k) ≡ 0x01
-  pub freed : (clock : ℕ) → doc_at b k ≡ none → read_of config b clock k ≡ Missing
-  pub told : (clock : ℕ) → doc_at b k ≡ some d → read_of config b clock k ≡ ExpiredBy (pos d.numbers.expiry -ℤ pos (later_at b clock))
+  pub freed : (clock : ℕ) → doc_at b k ≡ None → read_of config b clock k ≡ Missing
+  pub told : (clock : ℕ) → doc_at b k ≡ Some d → read_of config b clock k ≡ ExpiredBy (pos d.numbers.expiry -ℤ pos (later_at b clock))
   -- a listing doesn't show its key
   pub listed : (clock : ℕ) (start : Key) (count : ℕ) → OneOf k (listed_keys (docs_in b) (later_at b clock) start count) → ⊥
   -- a frame that needs a live document doesn't find it
@@ -120,7 +117,7 @@ pub record ExpiredForGood (config : Config) (b : List ℕ) (k : Key) (d : Doc) :
   -- nor does one that joins a value to it
   pub joined : (clock : ℕ) (s : List ℕ) (room : ℕ) → Reaches config b clock s room → key_in s ≡ k → among (opcode s) joins ≡ true → Answers config b clock s room 0x05
   -- a purge up to its CAS frees it
-  pub purge : (clock bound : ℕ) → clock < 2 ^ 32 → d.numbers.cas.0 ≤ bound → doc_at (purged_bytes config b clock bound) k ≡ none
+  pub purge : (clock bound : ℕ) → clock < 2 ^ 32 → d.numbers.cas.0 ≤ bound → doc_at (purged_bytes config b clock bound) k ≡ None
 
 -- "a document that was expired to a served frame or to a purge is expired to every later call, reads included, until its key is written again"
 abbrev pub StaysExpired : Config → Type 0
@@ -140,7 +137,7 @@ abbrev pub short_lived : List ℕ
 short_lived =
     table_bytes (record {
       head = record { state = 1; mode = 1; vbucket = 0; clock = 0; mark = record { 0 = 1 } };
-      rows = some (record { key = key; doc = record { tomb = false; value = 0x31 ∷ []; numbers = numbers } }) ∷ [];
+      rows = Some (record { key = key; doc = record { tomb = false; value = 0x31 ∷ []; numbers = numbers } }) ∷ [];
     })
 
 -- a Noop frame
@@ -150,7 +147,7 @@ noop = 0x80 ∷ 0x0a ∷ replicate 22 0
 pub record ReadsAlone (config : Config) : Type 0 where
   pub missed : read_of config short_lived 50 key ≡ ExpiredBy (pos 0)
   -- a second earlier it is there again
-  pub shown-again : read_of config (memory_after config short_lived (Read 50 key ∷ [])) 49 key ≡ Live numbers (Seconds (pos 1)) 49 1
+  pub shown-again : read_of config (memory_after config short_lived (Read 50 key ∷ [])) 49 key ≡ Live numbers (Some (pos 1)) 49 1
   -- but not once a frame was served at 50, be it a Noop, or a purge answered, be it one that frees no row
   pub after_frame : read_of config (memory_after config short_lived (Serve (at 50 noop) ∷ [])) 49 key ≡ ExpiredBy (pos 0)
   pub after-purge : read_of config (memory_after config short_lived (Purge 50 0 ∷ [])) 49 key ≡ ExpiredBy (pos 0)
@@ -158,7 +155,7 @@ pub record ReadsAlone (config : Config) : Type 0 where
 -- ---- the plain expiry sum: "A Set of 10 s given clock 50 on a table that kept 110 stores 120."
 -- a table of one free row that keeps a clock
 abbrev keeping : ℕ → List ℕ
-keeping kept = table_bytes (record { head = record { state = 1; mode = 1; vbucket = 0; clock = kept; mark = record { 0 = 0 } }; rows = none ∷ [] })
+keeping kept = table_bytes (record { head = record { state = 1; mode = 1; vbucket = 0; clock = kept; mark = record { 0 = 0 } }; rows = None ∷ [] })
 
 -- a Set of that contact, with an expiry under 256
 abbrev set_for : ℕ → List ℕ
@@ -170,7 +167,7 @@ abbrev stored_until : ℕ → Doc
 stored_until expiry = record { tomb = false; value = 0x31 ∷ []; numbers = record { flags = 0; expiry = expiry; revision = record { 0 = 1 }; cas = record { 0 = 1 } } }
 
 pub record SumsLater (config : Config) : Type 0 where
-  pub stored : doc_at (table_served config (keeping 110) (at 50 (set_for 10))) key ≡ some (stored_until 120)
+  pub stored : doc_at (table_served config (keeping 110) (at 50 (set_for 10))) key ≡ Some (stored_until 120)
   pub kept : kept_at (table_served config (keeping 110) (at 50 (set_for 10))) ≡ 110
   -- a clock of 2^32 - 1 given once stays: a second is 0x04 from then on, "never" isn't
   pub spent : served_status (served_by config (keeping 0xffffffff) (at 50 (set_for 1))) ≡ 0x04

@@ -1,29 +1,22 @@
 -- "Expiry holds in every command", on bytes. When a document is live is said here in 01's words and numbers, and not by the definitions that decide it: a store that decides it otherwise, in one command or in all, doesn't meet these. Order 2: the clock is the later of the kept one and the call's. Proved in proofs/Dead.antt, Counting.antt, Joining.antt, Buried.antt and Alive.antt.
-use Rattle.std.specs.Prelude.{ℕ, ◌+◌, ◌/◌, ◌%◌, ◌^◌, ◌≤◌, ◌<◌, ◌≡◌, Bool, true, false, not, cond, ◌&&◌, ◌||◌, List, [], ◌∷◌, ◌++◌, ◌⊎◌, length, take, eqb, pos, ◌-ℤ◌}
-use Rattle.std.proofs.Math.Option.{Option, none, some}
+use Rattle.std.specs.Prelude.{ℕ, ◌+◌, ◌/◌, ◌%◌, ◌^◌, ◌≤◌, ◌<◌, ◌≡◌, Bool, true, false, not, cond, ◌&&◌, ◌||◌, List, [], ◌∷◌, ◌++◌, ◌⊎◌, length, take, eqb, pos, ◌-ℤ◌, Option, Some, None, ℤ}
 use Rattle.engine.specs.declared.Config.{Config}
 use Rattle.octets.specs.Parts.{Bytes}
 use Rattle.octets.specs.BigEndian.{num}
 use Rattle.octets.specs.Compare.{same}
 use Rattle.digits.specs.Decimal.{digits}
 use Rattle.numbers.specs.Order.{greater}
-use Rattle.numbers.specs.declared.Left.{Left}
-use Rattle.numbers.specs.declared.Left.TheVariants.{Never, Seconds}
 use Rattle.document.specs.Documents.{Key, Doc}
 use Rattle.shape.specs.Shapes.{among}
 use Rattle.header.specs.Header.{header_of}
 use Rattle.with_meta.specs.WithMeta.{with_meta}
-use Rattle.request.specs.declared.Gate.TheVariants.{Whole}
-use Rattle.request.specs.Reading.{gate_of, bytes_in, extras_span, key_span, value_span}
+use Rattle.request.specs.Reading.{Whole, gate_of, bytes_in, extras_span, key_span, value_span}
 use Rattle.commands.specs.Rules.{Check}
 use Rattle.rows.specs.Table.{table_of, table_at, clock_at, table_bytes}
 use Rattle.engines.specs.Engines.{engine_of}
 use Rattle.engines.specs.Damage.{sound_by}
-use Rattle.owning.specs.declared.Document.{Document}
-use Rattle.owning.specs.declared.Document.TheVariants.{Missing, Expired as Past, Live as Shown}
-use Rattle.owning.specs.Owner.{read_of, read_status}
-use Rattle.serving.specs.declared.Served.TheVariants.{Done}
-use Rattle.serving.specs.Serve.{served, served_table, served_reply}
+use Rattle.owning.specs.Owner.{Document, Missing, Expired as Past, Live as Shown, read_of, read_status}
+use Rattle.serving.specs.Serve.{Done, served, served_table, served_reply}
 use Rattle.serving.specs.Statuses.{statuses}
 use Rattle.promises.specs.Merge.{doc_at, mode_at}
 use Rattle.promises.specs.Kept.{later_at, clock_raised, kept_by}
@@ -41,8 +34,8 @@ pub record Live (clock : ℕ) (d : Doc) : Type 0 where
 
 -- no row, a tombstone, or an expired document
 abbrev pub NotLive : ℕ → Option Doc → Type 0
-NotLive clock none = Unit {0}
-NotLive clock (some d) = (d.tomb ≡ true) ⊎ Expired clock d
+NotLive clock None = Unit {0}
+NotLive clock (Some d) = (d.tomb ≡ true) ⊎ Expired clock d
 
 -- ---- frames
 abbrev pub opcode : List ℕ → ℕ
@@ -168,7 +161,7 @@ pub record CountsAnew (config : Config) (b : List ℕ) (clock : ℕ) (s : List �
   pub found : Avoids config b clock s room 0x01
   pub free : Avoids config b clock s room 0x02
   pub number : Avoids config b clock s room 0x06
-  pub stored : Answers config b clock s room 0 → (d : Doc) × ((doc_at (served_table config b clock s room) (key_in s) ≡ some d) × BeginsAt (initial_in s) (counter_expiry s) (later_at b clock) d)
+  pub stored : Answers config b clock s room 0 → (d : Doc) × ((doc_at (served_table config b clock s room) (key_in s) ≡ Some d) × BeginsAt (initial_in s) (counter_expiry s) (later_at b clock) d)
 
 abbrev pub DeadCounts : Config → Type 0
 DeadCounts config =
@@ -184,7 +177,7 @@ abbrev pub WritesUntil : Config → Type 0
 WritesUntil config =
     (b : List ℕ) (clock : ℕ) (s : List ℕ) (room : ℕ) → Bytes b → Bytes s → clock < 2 ^ 32 → among (opcode s) (sets ++ (adds ++ replaces)) ≡ true
     → Answers config b clock s room 0
-    → (d : Doc) × ((doc_at (served_table config b clock s room) (key_in s) ≡ some d) × PlainExpiry (written_expiry s) (later_at b clock) d.numbers.expiry)
+    → (d : Doc) × ((doc_at (served_table config b clock s room) (key_in s) ≡ Some d) × PlainExpiry (written_expiry s) (later_at b clock) d.numbers.expiry)
 
 -- ---- an expired document
 -- the tombstone with its revision and CAS: "A tombstone has no value, flags 0, expiry 0."
@@ -208,13 +201,13 @@ pub record AsBuried (config : Config) (b grave : List ℕ) (clock : ℕ) (s out 
 -- any frame but a with-meta one is answered, and leaves every other row, as on the undamaged table with the tombstone
 abbrev pub ExpiredIsDead : Config → Type 0
 ExpiredIsDead config =
-    (b : List ℕ) (clock : ℕ) (s out : List ℕ) (d : Doc) → Bytes b → Bytes s → clock < 2 ^ 32 → sound_by config b ≡ true → doc_at b (key_in s) ≡ some d → Expired (later_at b clock) d
+    (b : List ℕ) (clock : ℕ) (s out : List ℕ) (d : Doc) → Bytes b → Bytes s → clock < 2 ^ 32 → sound_by config b ≡ true → doc_at b (key_in s) ≡ Some d → Expired (later_at b clock) d
     → among (opcode s) with_metas ≡ false → AsBuried config b (buried config b (key_in s) d) clock s out
 
 -- with-meta writes without options 0x01 and 0x08 compare the row's own numbers: "a key with any row, expired or tombstone included, is compared; the write must be greater, else 0x02."
 abbrev pub DeadIsCompared : Config → Type 0
 DeadIsCompared config =
-    (b : List ℕ) (clock : ℕ) (s : List ℕ) (room : ℕ) (d : Doc) → Reaches config b clock s room → doc_at b (key_in s) ≡ some d → NotLive (later_at b clock) (some d)
+    (b : List ℕ) (clock : ℕ) (s : List ℕ) (room : ℕ) (d : Doc) → Reaches config b clock s room → doc_at b (key_in s) ≡ Some d → NotLive (later_at b clock) (Some d)
     → among (opcode s) with_metas ≡ true → header_cas s ≡ 0 → eqb ((with_meta (extras_in s)).options % 2) 1 ≡ false
     → eqb ((with_meta (extras_in s)).options / 8 % 2) 1 ≡ false
     → (greater (mode_at b) (with_meta (extras_in s)).numbers d.numbers ≡ false → Answers config b clock s room 0x02)
@@ -242,26 +235,26 @@ OneLiveness config =
 -- and a live document is found: no such frame is answered 0x01 or 0x05, the owner's read shows its numbers
 abbrev pub LiveIsFound : Config → Type 0
 LiveIsFound config =
-    (b : List ℕ) (clock : ℕ) (s : List ℕ) (room : ℕ) (d : Doc) → Reaches config b clock s room → doc_at b (key_in s) ≡ some d → Live (later_at b clock) d
+    (b : List ℕ) (clock : ℕ) (s : List ℕ) (room : ℕ) (d : Doc) → Reaches config b clock s room → doc_at b (key_in s) ≡ Some d → Live (later_at b clock) d
     → tells s ≡ true → (Avoids config b clock s room 0x01 × Avoids config b clock s room 0x05) × (read_live (read_of config b clock (key_in s)) ≡ true)
 
 -- a counter goes on counting: "flags and expiry stay"
 abbrev pub LiveCounts : Config → Type 0
 LiveCounts config =
-    (b : List ℕ) (clock : ℕ) (s : List ℕ) (room : ℕ) (d : Doc) → Bytes b → Bytes s → clock < 2 ^ 32 → doc_at b (key_in s) ≡ some d → Live (later_at b clock) d
+    (b : List ℕ) (clock : ℕ) (s : List ℕ) (room : ℕ) (d : Doc) → Bytes b → Bytes s → clock < 2 ^ 32 → doc_at b (key_in s) ≡ Some d → Live (later_at b clock) d
     → among (opcode s) counters ≡ true → Answers config b clock s room 0
-    → (e : Doc) × ((doc_at (served_table config b clock s room) (key_in s) ≡ some e)
+    → (e : Doc) × ((doc_at (served_table config b clock s room) (key_in s) ≡ Some e)
     × ((e.numbers.flags ≡ d.numbers.flags) × (e.numbers.expiry ≡ d.numbers.expiry)))
 
 -- ---- order 5: what the owner's read tells of the time left, in the expiry and the clock alone
 -- the read shows the document, with this time left to it
-abbrev pub ShowsLeft : Config → List ℕ → ℕ → Key → Doc → Left → Type 0
+abbrev pub ShowsLeft : Config → List ℕ → ℕ → Key → Doc → Option ℤ → Type 0
 ShowsLeft config b clock k d left = (at len : ℕ) × (read_of config b clock k ≡ Shown d.numbers left at len)
 
 -- "negative once the contact is past, zero exactly at the expiry, and a separate answer for a document that never expires": of a key with a row
 pub record TellsLeft (config : Config) (b : List ℕ) (clock : ℕ) (k : Key) (d : Doc) : Type 0 where
-  pub never : Live (later_at b clock) d → d.numbers.expiry ≡ 0 → ShowsLeft config b clock k d Never
-  pub left : Live (later_at b clock) d → (d.numbers.expiry ≡ 0 → ⊥) → ShowsLeft config b clock k d (Seconds (pos d.numbers.expiry -ℤ pos (later_at b clock)))
+  pub never : Live (later_at b clock) d → d.numbers.expiry ≡ 0 → ShowsLeft config b clock k d None
+  pub left : Live (later_at b clock) d → (d.numbers.expiry ≡ 0 → ⊥) → ShowsLeft config b clock k d (Some (pos d.numbers.expiry -ℤ pos (later_at b clock)))
   -- "beside 0x01 for an expired document too"
   pub past : Expired (later_at b clock) d → read_of config b clock k ≡ Past (pos d.numbers.expiry -ℤ pos (later_at b clock))
   pub tombstone : d.tomb ≡ true → read_of config b clock k ≡ Missing
@@ -269,7 +262,7 @@ pub record TellsLeft (config : Config) (b : List ℕ) (clock : ℕ) (k : Key) (d
 abbrev pub ReadTells : Config → Type 0
 ReadTells config =
     (b : List ℕ) (clock : ℕ) (k : Key) → sound_by config b ≡ true
-    → (doc_at b k ≡ none → read_of config b clock k ≡ Missing) × ((d : Doc) → doc_at b k ≡ some d → TellsLeft config b clock k d)
+    → (doc_at b k ≡ None → read_of config b clock k ≡ Missing) × ((d : Doc) → doc_at b k ≡ Some d → TellsLeft config b clock k d)
 
 -- ---- order 4, on a live document
 -- what follows a frame's key
@@ -294,9 +287,9 @@ mark_in b = num b 8 8
 
 abbrev pub LiveJoins : Config → Type 0
 LiveJoins config =
-    (b : List ℕ) (clock : ℕ) (s : List ℕ) (room : ℕ) (d : Doc) → Bytes b → Bytes s → clock < 2 ^ 32 → doc_at b (key_in s) ≡ some d
+    (b : List ℕ) (clock : ℕ) (s : List ℕ) (room : ℕ) (d : Doc) → Bytes b → Bytes s → clock < 2 ^ 32 → doc_at b (key_in s) ≡ Some d
     → among (opcode s) joins ≡ true → Answers config b clock s room 0
-    → (e : Doc) × ((doc_at (served_table config b clock s room) (key_in s) ≡ some e)
+    → (e : Doc) × ((doc_at (served_table config b clock s room) (key_in s) ≡ Some e)
     × ((among (opcode s) appends ≡ true → Joins (mark_in b) (d.value ++ value_in s) d e)
     × (among (opcode s) prepends ≡ true → Joins (mark_in b) (value_in s ++ d.value) d e)))
 
@@ -308,9 +301,9 @@ pub record Touches (mark given clock : ℕ) (d e : Doc) : Type 0 where
 
 abbrev pub LiveTouches : Config → Type 0
 LiveTouches config =
-    (b : List ℕ) (clock : ℕ) (s : List ℕ) (room : ℕ) (d : Doc) → Bytes b → Bytes s → clock < 2 ^ 32 → doc_at b (key_in s) ≡ some d
+    (b : List ℕ) (clock : ℕ) (s : List ℕ) (room : ℕ) (d : Doc) → Bytes b → Bytes s → clock < 2 ^ 32 → doc_at b (key_in s) ≡ Some d
     → among (opcode s) touches ≡ true → Answers config b clock s room 0
-    → (e : Doc) × ((doc_at (served_table config b clock s room) (key_in s) ≡ some e) × Touches (mark_in b) (num (extras_in s) 0 4) (later_at b clock) d e)
+    → (e : Doc) × ((doc_at (served_table config b clock s room) (key_in s) ≡ Some e) × Touches (mark_in b) (num (extras_in s) 0 4) (later_at b clock) d e)
 
 -- a Get of any form, hit or miss, changes no table byte but the kept clock's, and not that where it is refused, whatever the memory
 abbrev pub GetKeeps : Config → Type 0

@@ -1,6 +1,5 @@
 -- The judged examples m1 to m10 of document 01, on bytes: frames served one after the other on a fresh active table of one row, with all that comes of it. Proved in proofs/Judged.antt as one statement over the list.
-use Rattle.std.specs.Prelude.{ℕ, ◌≡◌, false, List, [], ◌∷◌, ◌++◌, map, length, take, replicate}
-use Rattle.std.proofs.Math.Option.{Option, none, some}
+use Rattle.std.specs.Prelude.{ℕ, ◌≡◌, false, List, [], ◌∷◌, ◌++◌, map, length, take, replicate, Option, Some, None}
 use Rattle.engine.specs.declared.Config.{Config}
 use Rattle.document.specs.Documents.{Key, Doc}
 use Rattle.rows.specs.Table.{table_bytes, fresh}
@@ -97,7 +96,7 @@ counted op n = reply op 0 2 0 (0 ∷ 0 ∷ 0 ∷ 0 ∷ 0 ∷ 0 ∷ 0 ∷ n ∷ [
 -- a document with value, flags, expiry, revision and CAS
 abbrev doc : List ℕ → ℕ → ℕ → ℕ → ℕ → Option Doc
 doc value flags expiry revision cas =
-    some (record { tomb = false; value = value; numbers = record { flags = flags; expiry = expiry; revision = record { 0 = revision }; cas = record { 0 = cas } } })
+    Some (record { tomb = false; value = value; numbers = record { flags = flags; expiry = expiry; revision = record { 0 = revision }; cas = record { 0 = cas } } })
 
 abbrev mydoc : ℕ → Option Doc
 mydoc flags = doc myvalue flags 10 20 30
@@ -128,7 +127,7 @@ examples config =
     -- "m1: 001's Set [..], vbucket 3, fresh last-write-wins table for 3: stores flags 7, expiry 10, revision 20, CAS 30. Whole reply: [..] 1e"; at a clock past its expiry
     mine config 2 (at 1000000 (m1 7) ∷ []) (0 ∷ []) (m1_reply ∷ []) (mydoc 7)
     -- "m2: m1 in revision mode: 0x04."
-    ∷ mine config 1 (at 1000000 (m1 7) ∷ []) (0x04 ∷ []) (declined 0xa2 0x04 ∷ []) none
+    ∷ mine config 1 (at 1000000 (m1 7) ∷ []) (0x04 ∷ []) (declined 0xa2 0x04 ∷ []) None
     -- "m3: m1 sent again: 0x02."
     ∷ mine config 2 (at 1000000 (m1 7) ∷ at 1000000 (m1 7) ∷ []) (0 ∷ 0x02 ∷ []) (m1_reply ∷ declined 0xa2 0x02 ∷ []) (mydoc 7)
     -- "m4: again with flags 6: stored;"
@@ -147,7 +146,7 @@ examples config =
     -- "m8: at 4,294,967,290, 5 stores 4,294,967,295;"
     ∷ hellos config (at 4294967290 (set (0 ∷ 0 ∷ 0 ∷ 5 ∷ []) world) ∷ []) (0 ∷ []) (stored 1 1 ∷ []) (until 4294967295)
     -- "6 is 0x04."
-    ∷ hellos config (at 4294967290 (set (0 ∷ 0 ∷ 0 ∷ 6 ∷ []) world) ∷ []) (0x04 ∷ []) (declined 1 0x04 ∷ []) none
+    ∷ hellos config (at 4294967290 (set (0 ∷ 0 ∷ 0 ∷ 6 ∷ []) world) ∷ []) (0x04 ∷ []) (declined 1 0x04 ∷ []) None
     -- "m9: `18446744073709551615` plus 2 is `1`."
     ∷ counts config (49 ∷ 56 ∷ 52 ∷ 52 ∷ 54 ∷ 55 ∷ 52 ∷ 52 ∷ 48 ∷ 55 ∷ 51 ∷ 55 ∷ 48 ∷ 57 ∷ 53 ∷ 53 ∷ 49 ∷ 54 ∷ 49 ∷ 53 ∷ []) 5 2 1 (49 ∷ [])
     -- "m10: `3` minus 5 is `0`;"

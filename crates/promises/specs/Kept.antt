@@ -1,8 +1,7 @@
 -- Order 2 on bytes: the clock that a table keeps, in the four bytes from offset 4 on, and what a call that stores nothing leaves.
 use Rattle.std.specs.Prelude.{ℕ, max, List, ◌++◌, take, drop}
 use Rattle.octets.specs.BigEndian.{num, bytes_of}
-use Rattle.serving.specs.declared.Served.{Served}
-use Rattle.serving.specs.declared.Served.TheVariants.{Refused, Done}
+use Rattle.serving.specs.Serve.{Served, Refused, Done}
 
 abbrev pub kept_at : List ℕ → ℕ
 kept_at b = num b 4 4

@@ -1,6 +1,5 @@
 -- Order 1, key listing, on bytes: what a Get Keys frame is answered, and that the keys listed are exactly the live ones, said in 01's words and numbers. Proved in proofs/Listing.antt.
-use Rattle.std.specs.Prelude.{ℕ, suc, ◌+◌, ◌≤◌, ◌≡◌, true, false, List, [], ◌∷◌, ◌++◌, length, drop}
-use Rattle.std.proofs.Math.Option.{some}
+use Rattle.std.specs.Prelude.{ℕ, suc, ◌+◌, ◌≤◌, ◌≡◌, true, false, List, [], ◌∷◌, ◌++◌, length, drop, Some}
 use Rattle.engine.specs.declared.Config.{Config}
 use Rattle.octets.specs.Parts.{Bytes}
 use Rattle.octets.specs.BigEndian.{num}
@@ -13,8 +12,7 @@ use Rattle.header.specs.Header.{header_of, header_bytes}
 use Rattle.rows.specs.Table.{table_of}
 use Rattle.plain.specs.Plain.{used_rows}
 use Rattle.engines.specs.Damage.{sound_by}
-use Rattle.serving.specs.declared.Served.TheVariants.{Done}
-use Rattle.serving.specs.Serve.{served, served_table, served_reply}
+use Rattle.serving.specs.Serve.{Done, served, served_table, served_reply}
 use Rattle.promises.specs.Merge.{doc_at}
 use Rattle.promises.specs.Kept.{later_at, clock_raised, kept_by}
 use Rattle.promises.specs.Expiry.{Live, opcode, extras_in, key_in, Reaches}
@@ -72,7 +70,7 @@ ListingKeeps config =
 -- a key with a live document, at or after a start key
 pub record LiveFrom (b : List ℕ) (clock : ℕ) (start k : Key) : Type 0 where
   pub doc : Doc
-  pub there : doc_at b k ≡ some doc
+  pub there : doc_at b k ≡ Some doc
   pub live : Live clock doc
   pub after : key_below k start ≡ false
 

@@ -1,19 +1,16 @@
 -- Demand 3 on bytes: a whole list of serving calls with opcodes a2, a3, a8 and a9, from any undamaged active table.
-use Rattle.std.specs.Prelude.{ℕ, ◌^◌, ◌≤◌, ◌<◌, ◌≡◌, true, false, List, [], ◌∷◌, ◌++◌, map, length}
-use Rattle.std.proofs.Math.Option.{Option, some}
+use Rattle.std.specs.Prelude.{is_some, ℕ, ◌^◌, ◌≤◌, ◌<◌, ◌≡◌, true, false, List, [], ◌∷◌, ◌++◌, map, length, Option, Some}
 use Rattle.engine.specs.declared.Config.{Config}
 use Rattle.octets.specs.Parts.{Bytes}
 use Rattle.numbers.specs.declared.Mode.{Mode}
 use Rattle.numbers.specs.declared.Mode.TheVariants.{ByRevision, LastWrite}
 use Rattle.numbers.specs.Order.{mode_of}
 use Rattle.document.specs.Documents.{Key, Doc, Entry}
-use Rattle.engine.specs.Engine.{is_some}
 use Rattle.document.specs.Head.{marked, clocked}
 use Rattle.shape.specs.Shapes.{among, shape_of}
 use Rattle.header.specs.Header.{header_of}
 use Rattle.with_meta.specs.WithMeta.{with_meta}
-use Rattle.request.specs.declared.Gate.TheVariants.{Whole}
-use Rattle.request.specs.Reading.{gate_of, frame_status, extras_span, key_span, bytes_in}
+use Rattle.request.specs.Reading.{Whole, gate_of, frame_status, extras_span, key_span, bytes_in}
 use Rattle.decision.specs.Merging.{carried, meta_in}
 use Rattle.decode.specs.Decode.{command_of, bare_value}
 use Rattle.rows.specs.Table.{table_of}
@@ -78,7 +75,7 @@ pub record Premises (config : Config) (b : List ℕ) (cs : List Call) : Type 0 w
 pub record Merged (config : Config) (b : List ℕ) (cs : List Call) : Type 0 where
   -- "each written key ends with the greatest, in the published order, of the documents that its writes carry and the one stored at the start"
   pub winner : (k : Key) → is_written k (writes cs) ≡ true
-      → (d : Doc) × (doc_at (bytes_after config b cs) k ≡ some d) × Greatest (mode_at b) d (candidates b cs k)
+      → (d : Doc) × (doc_at (bytes_after config b cs) k ≡ Some d) × Greatest (mode_at b) d (candidates b cs k)
   -- "Every other document is as before, and no other key gains one."
   pub others : (k : Key) → is_written k (writes cs) ≡ false → doc_at (bytes_after config b cs) k ≡ doc_at b k
   -- "each with outcome 0"

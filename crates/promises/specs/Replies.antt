@@ -1,14 +1,12 @@
 -- The reply area under serving, whatever the table, the clock and the received bytes: a reply fits the room that serving asks for, the reply to another status than 0 is a bare header, and a touch and a join are answered what order 4 says. Proved in proofs/Replies.antt and Answered.antt.
-use Rattle.std.specs.Prelude.{ℕ, ◌+◌, ◌^◌, ◌≤◌, ◌<◌, ◌≡◌, Bool, true, cond, ◌&&◌, List, [], ◌∷◌, ◌++◌, length, drop, replicate, eqb}
-use Rattle.std.proofs.Math.Option.{some}
+use Rattle.std.specs.Prelude.{ℕ, ◌+◌, ◌^◌, ◌≤◌, ◌<◌, ◌≡◌, Bool, true, cond, ◌&&◌, List, [], ◌∷◌, ◌++◌, length, drop, replicate, eqb, Some}
 use Rattle.engine.specs.declared.Config.{Config}
 use Rattle.octets.specs.Parts.{Bytes, part}
 use Rattle.octets.specs.BigEndian.{num, bytes_of}
 use Rattle.document.specs.Documents.{Doc}
 use Rattle.shape.specs.Shapes.{among}
 use Rattle.header.specs.Header.{header_of}
-use Rattle.serving.specs.declared.Served.TheVariants.{Done}
-use Rattle.serving.specs.Serve.{served, served_table, served_reply}
+use Rattle.serving.specs.Serve.{Done, served, served_table, served_reply}
 use Rattle.promises.specs.Merge.{doc_at}
 use Rattle.promises.specs.Expiry.{opcode, key_in, gets, sets, adds, replaces, deletes, counters, with_metas, touches, joins}
 
@@ -69,9 +67,9 @@ touch_reply s shown flags value cas = good_reply s (cond shown (bytes_of 4 flags
 -- "Its reply carries the new CAS.": that of the document which the key has then, with the flags and the value that it had. It rules out a Get-and-touch whose reply has the CAS from before it, and one that shows nothing
 abbrev pub TouchReplies : Config → Type 0
 TouchReplies config =
-    (b : List ℕ) (clock : ℕ) (s out : List ℕ) (d : Doc) (len : ℕ) → Bytes b → Bytes s → clock < 2 ^ 32 → doc_at b (key_in s) ≡ some d
+    (b : List ℕ) (clock : ℕ) (s out : List ℕ) (d : Doc) (len : ℕ) → Bytes b → Bytes s → clock < 2 ^ 32 → doc_at b (key_in s) ≡ Some d
     → among (opcode s) touches ≡ true → served config b clock s (length out) ≡ Done 0 (24 + (header_of s).body) len
-    → (e : Doc) × ((doc_at (served_table config b clock s (length out)) (key_in s) ≡ some e)
+    → (e : Doc) × ((doc_at (served_table config b clock s (length out)) (key_in s) ≡ Some e)
     × ((len ≡ length (touch_reply s (eqb (opcode s) 0x1d) d.numbers.flags d.value e.numbers.cas.0))
     × (served_reply config b clock s out ≡ touch_reply s (eqb (opcode s) 0x1d) d.numbers.flags d.value e.numbers.cas.0 ++ drop len out)))
 
@@ -81,9 +79,9 @@ join_reply s cas = cond (among (opcode s) (0x19 ∷ 0x1a ∷ [])) [] (good_reply
 
 abbrev pub JoinReplies : Config → Type 0
 JoinReplies config =
-    (b : List ℕ) (clock : ℕ) (s out : List ℕ) (d : Doc) (len : ℕ) → Bytes b → Bytes s → clock < 2 ^ 32 → doc_at b (key_in s) ≡ some d
+    (b : List ℕ) (clock : ℕ) (s out : List ℕ) (d : Doc) (len : ℕ) → Bytes b → Bytes s → clock < 2 ^ 32 → doc_at b (key_in s) ≡ Some d
     → among (opcode s) joins ≡ true → served config b clock s (length out) ≡ Done 0 (24 + (header_of s).body) len
-    → (e : Doc) × ((doc_at (served_table config b clock s (length out)) (key_in s) ≡ some e)
+    → (e : Doc) × ((doc_at (served_table config b clock s (length out)) (key_in s) ≡ Some e)
     × ((len ≡ length (join_reply s e.numbers.cas.0)) × (served_reply config b clock s out ≡ join_reply s e.numbers.cas.0 ++ drop len out)))
 
 -- ---- every write
@@ -97,7 +95,7 @@ abbrev pub WriteReplies : Config → Type 0
 WriteReplies config =
     (b : List ℕ) (clock : ℕ) (s out : List ℕ) (len : ℕ) → Bytes b → Bytes s → clock < 2 ^ 32 → among (opcode s) writers ≡ true
     → served config b clock s (length out) ≡ Done 0 (24 + (header_of s).body) len → (len ≡ 0 → ⊥)
-    → (e : Doc) × ((doc_at (served_table config b clock s (length out)) (key_in s) ≡ some e) × (part (served_reply config b clock s out) 16 8 ≡ bytes_of 8 e.numbers.cas.0))
+    → (e : Doc) × ((doc_at (served_table config b clock s (length out)) (key_in s) ≡ Some e) × (part (served_reply config b clock s out) 16 8 ≡ bytes_of 8 e.numbers.cas.0))
 
 -- Get: "Reply: flags as 4 extras bytes, key for 0c/0d, value, CAS."
 abbrev pub get_reply : List ℕ → Doc → List ℕ
@@ -106,6 +104,6 @@ get_reply s d = good_reply s (bytes_of 4 d.numbers.flags) (cond (among (opcode s
 -- it rules out a Get that shows another row's value or CAS, and a GetK without the key
 abbrev pub GetReplies : Config → Type 0
 GetReplies config =
-    (b : List ℕ) (clock : ℕ) (s out : List ℕ) (d : Doc) (len : ℕ) → Bytes b → Bytes s → doc_at b (key_in s) ≡ some d
+    (b : List ℕ) (clock : ℕ) (s out : List ℕ) (d : Doc) (len : ℕ) → Bytes b → Bytes s → doc_at b (key_in s) ≡ Some d
     → among (opcode s) gets ≡ true → served config b clock s (length out) ≡ Done 0 (24 + (header_of s).body) len
     → (len ≡ length (get_reply s d)) × (served_reply config b clock s out ≡ get_reply s d ++ drop len out)

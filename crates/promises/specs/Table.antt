@@ -3,8 +3,7 @@ use Rattle.std.specs.Prelude.{ℕ, ◌^◌, ◌<◌, ◌≡◌, true, List, leng
 use Rattle.engine.specs.declared.Config.{Config}
 use Rattle.octets.specs.Parts.{Bytes}
 use Rattle.engines.specs.Damage.{sound_by}
-use Rattle.serving.specs.declared.Served.TheVariants.{Refused, Done}
-use Rattle.serving.specs.Serve.{served, served_table, served_reply}
+use Rattle.serving.specs.Serve.{Refused, Done, served, served_table, served_reply}
 use Rattle.promises.specs.Kept.{clock_raised}
 
 -- whatever the bytes, the clock of 32 bits and the room

@@ -1,6 +1,5 @@
 -- A worked list that meets the premises of demand 3 on bytes, on a table of two rows, in both modes and both layouts of the extras. Proved in proofs/Worked.antt.
-use Rattle.std.specs.Prelude.{ℕ, ◌+◌, ◌≡◌, true, false, cond, List, [], ◌∷◌, ◌++◌, length, eqb}
-use Rattle.std.proofs.Math.Option.{none, some}
+use Rattle.std.specs.Prelude.{ℕ, ◌+◌, ◌≡◌, true, false, cond, List, [], ◌∷◌, ◌++◌, length, eqb, Some, None}
 use Rattle.engine.specs.declared.Config.{Config}
 use Rattle.numbers.specs.declared.Numbers.{Numbers}
 use Rattle.document.specs.declared.Head.{Head}
@@ -22,14 +21,14 @@ abbrev pub tombstone : ℕ → ℕ → Doc
 tombstone revision cas = record { tomb = true; value = []; numbers = numbers 0 revision cas }
 
 abbrev pub row : Key → Doc → Row
-row k d = some (record { key = k; doc = d })
+row k d = Some (record { key = k; doc = d })
 
 abbrev pub head : ℕ → ℕ → ℕ → Head
 head mode clock mark = record { state = 1; mode = mode; vbucket = 0; clock = clock; mark = record { 0 = mark } }
 
 -- at the start: `Hello` is stored and long expired, and one row is free
 abbrev pub table : ℕ → List ℕ
-table mode = table_bytes (record { head = head mode 0 50; rows = row hello (doc 5 4 40) ∷ none ∷ [] })
+table mode = table_bytes (record { head = head mode 0 50; rows = row hello (doc 5 4 40) ∷ None ∷ [] })
 
 -- at the end: `Hello` is as given, `mykey` is a tombstone, and the latest clock is kept
 abbrev end : ℕ → Doc → List ℕ
@@ -89,8 +88,8 @@ pub record Gives (config : Config) (mode : ℕ) (wanted : List ℕ) (winner : Do
   pub statuses : call_statuses config (table mode) (calls mode) ≡ wanted
   -- every byte of the table
   pub after : bytes_after config (table mode) (calls mode) ≡ end mode winner
-  pub hello-ends : doc_at (bytes_after config (table mode) (calls mode)) hello ≡ some winner
-  pub mykey-ends : doc_at (bytes_after config (table mode) (calls mode)) mykey ≡ some (tombstone 11 61)
+  pub hello-ends : doc_at (bytes_after config (table mode) (calls mode)) hello ≡ Some winner
+  pub mykey-ends : doc_at (bytes_after config (table mode) (calls mode)) mykey ≡ Some (tombstone 11 61)
 
 pub record Worked (config : Config) : Type 0 where
   pub by-revision : Gives config 1 (0 ∷ 2 ∷ 2 ∷ 0 ∷ 2 ∷ 0 ∷ 0 ∷ []) (doc 0 6 38)

@@ -15,24 +15,21 @@ use Rattle.engines.specs.Damage.{sound_by}
 use Rattle.engines.proofs.Tables.{sound-plain}
 use Rattle.header.specs.declared.Header.{Header}
 use Rattle.header.specs.Header.{header_of}
-use Rattle.request.specs.declared.Gate.{Gate}
-use Rattle.request.specs.declared.Gate.TheVariants.{Stop, Whole}
-use Rattle.serving.specs.declared.Served.{Served}
-use Rattle.serving.specs.declared.Served.TheVariants.{Refused, Done}
-use Rattle.serving.specs.Serve.{gate_all, frame_reply, answer_by, reply_by, served, served_table, served_reply}
+use Rattle.request.specs.Reading.{Gate, Stop, Whole}
+use Rattle.serving.specs.Serve.{Served, Refused, Done, gate_all, frame_reply, answer_by, reply_by, served, served_table, served_reply}
 use Rattle.serving.specs.Serves.{Serves}
 use Rattle.serving.proofs.Gated.{was-open, refused-keeps}
 use Rattle.serving.proofs.Sound.{stays-sound}
 use Rattle.reply.proofs.Frames.{reply-most}
 use Rattle.tally.specs.declared.Tally.{Tally}
-use Rattle.run.specs.Run.{begun}
+use Rattle.run.specs.Run.{Ran, begun}
 use Rattle.run.specs.Frames.{frames_from, serve_at, Leaves}
-use Rattle.run.specs.declared.Ran.{Ran}
 use Rattle.run.proofs.Framing.{one_left}
-use Rattle.replay.specs.declared.Ending.TheVariants.{Stopped}
 use Rattle.replay.specs.declared.Progress.{Progress}
-use Rattle.replay.specs.declared.Step.TheVariants.{Goes, Ends}
-use Rattle.replay.specs.Replay.{Turn, On, End, is_one_frame, reply_for, sent_reply, with_frame}
+use Rattle.std.specs.declared.result.Result.TheVariants.{Ok, Err}
+use Rattle.replay.specs.declared.ReplayError.{ReplayError}
+use Rattle.replay.specs.declared.ReplayError.TheVariants.{Differs as DiffersAt, Stopped as StoppedAt}
+use Rattle.replay.specs.Replay.{Stopped, Turn, On, End, is_one_frame, reply_for, sent_reply, with_frame}
 use Rattle.replay.specs.Turns.{voyage_of, FrameTurns}
 
 -- ---- what stands at the start of an area where it was written
@@ -79,7 +76,7 @@ module _ (config : Config) (b : List ℕ) (frame out : List ℕ) (p : Progress) 
       → ◌≡◌ {A = Turn} (cond (is_one_frame asked (length frame)) (On (with_frame config frame (voyage_of b out p))) (End (Stopped p.at))) (On (with_frame config frame (voyage_of b out p)))
   chosen e = rw e refl
 
-  stays : is_one_frame asked (length frame) ≡ false → FrameTurns config b frame out p (Ends (Stopped p.at)) b out
+  stays : is_one_frame asked (length frame) ≡ false → FrameTurns config b frame out p (Err (StoppedAt p.at)) b out
   stays e = record { turn = rw e refl; leads = refl; sound = sb }
 
   not-one : (r : Served) → asked ≡ r → eqb (24 + (header_of frame).body) (length frame) ≡ false → is_one_frame r (length frame) ≡ false
@@ -87,7 +84,7 @@ module _ (config : Config) (b : List ℕ) (frame out : List ℕ) (p : Progress) 
   not-one (Done st used len) e f = rw (was-sent config b p.clock frame out st used len n y (at_size ∙ e)).consumed f
 
   -- more bytes than one frame's, or fewer
-  pub frame-cut : eqb (24 + (header_of frame).body) (length frame) ≡ false → FrameTurns config b frame out p (Ends (Stopped p.at)) b out
+  pub frame-cut : eqb (24 + (header_of frame).body) (length frame) ≡ false → FrameTurns config b frame out p (Err (StoppedAt p.at)) b out
   frame-cut f = stays (not-one asked refl f)
 
   -- a frame by itself, on the table
@@ -99,7 +96,7 @@ module _ (config : Config) (b : List ℕ) (frame out : List ℕ) (p : Progress) 
     still-sound : sound_by config b' ≡ true
     still-sound = ap (sound_by config) call.table ∙ stays-sound config b p.clock frame y z small sb (length out)
 
-    pub frame_refused : (k need : ℕ) → r.stop ≡ Refused k need → FrameTurns config b frame out p (Ends (Stopped p.at)) b' out'
+    pub frame_refused : (k need : ℕ) → r.stop ≡ Refused k need → FrameTurns config b frame out p (Err (StoppedAt p.at)) b' out'
     frame_refused k need e =
         let a : asked ≡ Refused k need = sym at_size ∙ (sym call.answer ∙ e) in
         record {
@@ -113,7 +110,7 @@ module _ (config : Config) (b : List ℕ) (frame out : List ℕ) (p : Progress) 
         (was-sent config b p.clock frame out st used len n y (sym call.answer ∙ e)).consumed ∙ eqb-true (24 + (header_of frame).body) (length frame) f
 
     pub frame-served : (st used len : ℕ) → eqb (24 + (header_of frame).body) (length frame) ≡ true → r.stop ≡ Done st used len
-        → FrameTurns config b frame out p (Goes (record { at = p.at + 3 + used; clock = p.clock; frames = p.frames + 1; filled = len })) b' out'
+        → FrameTurns config b frame out p (Ok (record { at = p.at + 3 + used; clock = p.clock; frames = p.frames + 1; filled = len })) b' out'
     frame-served st used len f e =
         let a : asked ≡ Done st used len = sym at_size ∙ (sym call.answer ∙ e) in
         let w = was-sent config b p.clock frame out st used len n y (at_size ∙ a) in

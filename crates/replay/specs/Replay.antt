@@ -1,21 +1,36 @@
 -- Order 6: what replaying a trace answers, and what it leaves of the memory lent for the table; order 9: under which rule of force.
-use Rattle.std.specs.Prelude.{ℕ, ◌+◌, List, [], ◌∷◌, Bool, false, cond, length, eqb}
+use Rattle.std.specs.Prelude.{ℕ, ◌+◌, List, [], ◌∷◌, Bool, false, cond, length, eqb, Option, Some, None}
+use Rattle.std.specs.declared.result.Result.{Result}
+use Rattle.std.specs.declared.result.Result.TheVariants.{Ok, Err}
+use Rattle.replay.specs.declared.ReplayError.{ReplayError}
+use Rattle.replay.specs.declared.ReplayError.TheVariants.{Damaged as NotReplayed, Differs as DiffersAt, Stopped as StoppedAt}
 use Rattle.engine.specs.declared.Config.{Config}
 use Rattle.octets.specs.Compare.{same}
-use Rattle.request.specs.declared.Gate.{Gate}
-use Rattle.request.specs.declared.Gate.TheVariants.{Stop, Whole}
+use Rattle.request.specs.Reading.{Gate, Stop, Whole}
 use Rattle.rows.specs.Table.{table_bytes, fresh}
 use Rattle.owning.specs.Owner.{purged_bytes}
-use Rattle.serving.specs.declared.Served.{Served}
-use Rattle.serving.specs.declared.Served.TheVariants.{Refused, Done}
-use Rattle.serving.specs.Serve.{gate_all, frame_reply, served, served_table}
+use Rattle.serving.specs.Serve.{Served, Refused, Done, gate_all, frame_reply, served, served_table}
 use Rattle.trace.specs.declared.Opening.{Opening}
-use Rattle.trace.specs.declared.Opening.TheVariants.{Broken as NotOpened, Opened}
 use Rattle.trace.specs.declared.Field.{Field}
-use Rattle.trace.specs.declared.Field.TheVariants.{Clock, Frame, Reply, Purge, Rule, Broken}
+use Rattle.trace.specs.declared.Field.TheVariants.{Clock, Frame, Reply, Purge, Rule}
 use Rattle.trace.specs.Trace.{Placed, opening_of, forcing_in, fields_in}
-use Rattle.replay.specs.declared.Ending.{Ending}
-use Rattle.replay.specs.declared.Ending.TheVariants.{Damaged, Differs, Stopped, Replayed}
+
+-- what a replay answers: outcome 5, where the lent memory is of another size; else where it ended: at the place of an expected reply that was not sent, at the place of what stopped it, or after so many frames
+pub data Ending : Type 0 where
+  Damaged : Ending
+  Differs : ℕ → Ending
+  Stopped : ℕ → Ending
+  Replayed : ℕ → Ending
+
+-- what the code answers
+abbrev pub error_told : ReplayError → Ending
+error_told NotReplayed = Damaged
+error_told (DiffersAt at) = Differs at
+error_told (StoppedAt at) = Stopped at
+
+abbrev pub ending_told : Result ℕ ReplayError → Ending
+ending_told (Ok frames) = Replayed frames
+ending_told (Err e) = error_told e
 
 -- what stands between two fields: the table's memory, the clock, the frames served so far and the last one's reply
 pub record Voyage : Type 0 where
@@ -59,17 +74,17 @@ pub data Turn : Type 0 where
   End : Ending → Turn
 
 -- by the field at a place and the bytes that it holds
-abbrev pub on_field : Config → ℕ → Voyage → Field → List ℕ → Turn
-on_field config at v (Clock clock) bytes = On (with_clock clock v)
+abbrev pub on_field : Config → ℕ → Voyage → Option Field → List ℕ → Turn
+on_field config at v (Some (Clock clock)) bytes = On (with_clock clock v)
 -- "a tag 2 field that isn't exactly one frame with outcome 0 [..] stops the replay with its place"
-on_field config at v (Frame len) bytes = cond (is_one_frame (served config v.table v.clock bytes 1302) len) (On (with_frame config bytes v)) (End (Stopped at))
+on_field config at v (Some (Frame len)) bytes = cond (is_one_frame (served config v.table v.clock bytes 1302) len) (On (with_frame config bytes v)) (End (Stopped at))
 -- "a tag 3 before any frame [..] stops the replay with its place"; "`differs` and the place of the first tag 3 that isn't the last frame's reply"
-on_field config at v (Reply len) bytes = cond (eqb v.frames 0) (End (Stopped at)) (cond (same bytes v.reply) (On v) (End (Differs at)))
-on_field config at v (Purge bound) bytes = On (with_purge config bound.0 v)
+on_field config at v (Some (Reply len)) bytes = cond (eqb v.frames 0) (End (Stopped at)) (cond (same bytes v.reply) (On v) (End (Differs at)))
+on_field config at v (Some (Purge bound)) bytes = On (with_purge config bound.0 v)
 -- the rule of the whole trace, as `ruled_by` has it
-on_field config at v (Rule forcing) bytes = On v
+on_field config at v (Some (Rule forcing)) bytes = On v
 -- "An unknown tag [..], wrong length, [..] or a cut field stops the replay with its place"
-on_field config at v Broken bytes = End (Stopped at)
+on_field config at v None bytes = End (Stopped at)
 
 -- ---- a voyage
 -- what a replay answers, and the memory that it leaves
@@ -95,9 +110,9 @@ abbrev pub ruled_by : Config → List ℕ → Config
 ruled_by config trace = record { engine = config.engine; forcing = forcing_in trace }
 
 -- "A place is [..] 0 for a bad opening or a trace over 65,536 bytes."
-abbrev pub on_opening : Config → List ℕ → List ℕ → Opening → After
-on_opening config b trace NotOpened = record { answer = Stopped 0; table = b }
-on_opening config b trace (Opened mode vbucket) = walked (ruled_by config trace) (set_out mode vbucket) (fields_in trace)
+abbrev pub on_opening : Config → List ℕ → List ℕ → Option Opening → After
+on_opening config b trace None = record { answer = Stopped 0; table = b }
+on_opening config b trace (Some o) = walked (ruled_by config trace) (set_out o.mode o.vbucket) (fields_in trace)
 
 -- a table of 32 rows takes 42,000 bytes; lent memory of another size is refused as in making a table, unchanged
 unfoldable pub replayed : Config → List ℕ → List ℕ → After

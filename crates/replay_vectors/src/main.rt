@@ -12,12 +12,14 @@
 #![tactic(auto)]
 
 mod alike;
-mod text;
+mod traces;
 
 ghost use Rattle.std.specs.Prelude.{◌≡◌, ◌≤◌, length};
 
 use engine::Config;
-use replay::Ending;
+use replay::ReplayError;
+use vector_text::parts::lines;
+use vector_text::show::{decimal, text};
 
 const FILL: u8 = 0xee;
 
@@ -42,82 +44,47 @@ fn memory() -> [u8; 42001]
     [FILL; 42001]
 }
 
-fn say(s: &[u8]) {
-    io::write_all(1, s);
-}
-
-fn say_end(word: &[u8], n: usize) {
-    say(word);
-    io::print_decimal(1, n as u64);
-}
-
-fn say_answer(r: Ending) {
-    match r {
-        Ending::Damaged => say(b"damaged"),
-        Ending::Differs(at) => say_end(b"differs ", at),
-        Ending::Stopped(at) => say_end(b"stopped ", at),
-        Ending::Replayed(n) => say_end(b"replayed ", n),
+fn show_ending(ending: Result<usize, ReplayError>) {
+    match ending {
+        Ok(frames) => decimal(b"replayed ", frames as u64),
+        Err(ReplayError::Damaged) => text(b"damaged"),
+        Err(ReplayError::Differs(at)) => decimal(b"differs ", at as u64),
+        Err(ReplayError::Stopped(at)) => decimal(b"stopped ", at as u64),
     }
-}
-
-// Whether nothing was replayed.
-fn is_refused(r: Ending) -> bool {
-    match r {
-        Ending::Damaged => true,
-        Ending::Differs(_) => false,
-        Ending::Stopped(at) => at == 0,
-        Ending::Replayed(_) => false,
-    }
-}
-
-// Which ending it is, and its number.
-fn kind_of(r: Ending) -> u8 {
-    match r {
-        Ending::Damaged => 0,
-        Ending::Differs(_) => 1,
-        Ending::Stopped(_) => 2,
-        Ending::Replayed(_) => 3,
-    }
-}
-
-fn number_of(r: Ending) -> usize {
-    match r {
-        Ending::Damaged => 0,
-        Ending::Differs(at) => at,
-        Ending::Stopped(at) => at,
-        Ending::Replayed(n) => n,
-    }
-}
-
-fn is_same(r: Ending, s: Ending) -> bool {
-    (kind_of(r) == kind_of(s)) & (number_of(r) == number_of(s))
 }
 
 // Replays a trace in the first n bytes of memory.
-fn replay_in(config: Config, memory: &mut [u8], n: usize, trace: &[u8]) -> Ending
+fn replay_in(
+    config: Config,
+    memory: &mut [u8],
+    n: usize,
+    trace: &[u8],
+) -> Result<usize, ReplayError>
     requires { n ≤ length memory.old }
 {
     replay::replay(config, &mut memory[..n], trace)
 }
 
-fn answer_in(after: &mut [u8], before: &[u8], trace: &[u8]) -> Ending
+fn answer_in(after: &mut [u8], before: &[u8], trace: &[u8]) -> Result<usize, ReplayError>
     requires { 42001 ≤ length after.old }
 {
-    let r = replay_in(engine::config_for(false), after, replay::SIZE, trace);
-    say_answer(r);
-    if is_refused(r) & !compare::same(after, before) {
-        say(b" CHANGED");
+    let ending = replay_in(engine::config_for(false), after, replay::SIZE, trace);
+    show_ending(ending);
+    if matches!(ending, Err(ReplayError::Damaged | ReplayError::Stopped(0)))
+        && !compare::same(after, before)
+    {
+        text(b" CHANGED");
     }
-    r
+    ending
 }
 
 // Replays the trace on the plain engine too, and says whether that comes out otherwise.
-fn compare_in(other: &mut [u8], after: &[u8], r: Ending, trace: &[u8])
+fn compare_in(other: &mut [u8], after: &[u8], ending: Result<usize, ReplayError>, trace: &[u8])
     requires { 42001 ≤ length other.old }
 {
     let plain = replay_in(engine::config_for(true), other, replay::SIZE, trace);
-    if !(is_same(r, plain) & alike::are_alike(after, other)) {
-        say(b" ENGINES DIFFER");
+    if !(ending == plain && alike::are_alike(after, other)) {
+        text(b" ENGINES DIFFER");
     }
 }
 
@@ -125,15 +92,15 @@ fn answer_trace(trace: &[u8]) {
     let before = memory();
     let mut after = memory();
     let mut other = memory();
-    let r = answer_in(&mut after, &before, trace);
-    compare_in(&mut other, &after, r, trace);
+    let ending = answer_in(&mut after, &before, trace);
+    compare_in(&mut other, &after, ending, trace);
 }
 
 fn is_left_in(after: &mut [u8], before: &[u8], n: usize) -> bool
     requires { n ≤ length after.old }
 {
-    let r = replay_in(engine::config_for(false), after, n, b"\x01\0\x07");
-    (kind_of(r) == 0) & compare::same(after, before)
+    let ending = replay_in(engine::config_for(false), after, n, b"\x01\0\x07");
+    matches!(ending, Err(ReplayError::Damaged)) && compare::same(after, before)
 }
 
 // Whether memory of so many bytes is refused and stays as it was.
@@ -147,37 +114,29 @@ fn is_left(n: usize) -> bool
 
 // The space is for the bytes that a line spells.
 fn answer_line(line: &[u8], space: &mut [u8]) {
-    if (line.len() == 0) | (octets::byte(line, 0) == b'#') {
-        say(line);
+    if line.is_empty() || line.starts_with(b"#") {
+        text(line);
         return;
     }
-    let end = text::put_trace(space, line);
-    if space.len() <= end {
-        say(b"what?");
-        return;
+    match traces::spelled(space, line) {
+        Some(trace) => answer_trace(trace),
+        None => text(b"what?"),
     }
-    answer_trace(octets::part(space, 0, end));
 }
 
 fn answer_lines(input: &[u8], space: &mut [u8]) {
-    let mut at: usize = 0;
-    while at < input.len() {
-        let line = text::before(octets::rest(input, at), b'\n');
+    for line in lines(input) {
         answer_line(line, space);
-        say(b"\n");
-        if input.len() - at <= line.len() {
-            return;
-        }
-        at += line.len() + 1;
+        text(b"\n");
     }
 }
 
 fn main() {
     let mut input = input_room();
     let mut space = trace_room();
-    if !(is_left(replay::SIZE - 1) & is_left(replay::SIZE + 1)) {
-        say(b"WRONG SIZE TAKEN\n");
+    if !(is_left(replay::SIZE - 1) && is_left(replay::SIZE + 1)) {
+        text(b"WRONG SIZE TAKEN\n");
     }
     let n = io::read_full(0, &mut input);
-    answer_lines(octets::part(&input, 0, n), &mut space);
+    answer_lines(&input[..n], &mut space);
 }

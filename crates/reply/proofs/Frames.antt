@@ -15,7 +15,7 @@ use Rattle.rules.proofs.RuleLaws.{key-most}
 use Rattle.request.specs.Reading.{frame_status, bytes_in, extras_span, key_span, value_span}
 use Rattle.document.specs.declared.Head.{Head}
 use Rattle.document.specs.Head.{at_clock}
-use Rattle.decision.specs.declared.Decision.{Decision}
+use Rattle.decision.specs.Decision.{Decision}
 use Rattle.rows.specs.Table.{head_of, table_of, clock_at}
 use Rattle.plain.specs.Damage.{sound}
 use Rattle.plain.proofs.TableLaws.{sound-good}

@@ -3,7 +3,7 @@ use native.Mathlib.Omega.{arith}
 use mathlib.Core.Path.{◌≡◌, refl, sym, ap, ◌∙◌}
 use mathlib.Core.Bool.{Bool, true, false, cond, ◌||◌}
 use mathlib.Core.List.{List, [], ◌∷◌, ◌++◌}
-use mathlib.Core.Option.{none, some}
+use Rattle.std.specs.Prelude.{Some, None}
 use Prim.Native.Nat.{ℕ, ◌+◌, ◌≤◌}
 use lib.ListN.{length, length-append}
 use lib.Dec.{ltb}
@@ -18,7 +18,7 @@ use Rattle.header.specs.Header.{header_bytes}
 use Rattle.header.proofs.HeaderLaws.{length-header}
 use Rattle.effects.specs.declared.Reply.{Reply}
 use Rattle.effects.specs.declared.Reply.TheVariants.{Bare, Found, Counted, Version as VersionReply, Keys}
-use Rattle.decision.specs.declared.Decision.{Decision}
+use Rattle.decision.specs.Decision.{Decision}
 use Rattle.decision.specs.Decide.{reply_key}
 use Rattle.document.specs.Documents.{Key, doc_value}
 use Rattle.listing.proofs.Taken.{listing-short}
@@ -49,8 +49,8 @@ found-size flags shown old = simp length-append (omega arith)
 
 pub value-short : (mark : ℕ) (ws : List Row) (k : Key) → AllGood mark ws → length (doc_value (find_row ws k)) ≤ 1024
 value-short mark [] k g = omega arith
-value-short mark (none ∷ ws) k g = value-short mark ws k g
-value-short mark (some x ∷ ws) k g = cases (same x.key k) (λ e. rw e g.0.value-most) (λ e. rw e (value-short mark ws k g.1))
+value-short mark (None ∷ ws) k g = value-short mark ws k g
+value-short mark (Some x ∷ ws) k g = cases (same x.key k) (λ e. rw e g.0.value-most) (λ e. rw e (value-short mark ws k g.1))
 
 pub body-most : (r : Reply) (key old : List ℕ) → length key ≤ 250 → length old ≤ 1024 → length (body_of r key old) ≤ 1278
 unfolding bytes_of

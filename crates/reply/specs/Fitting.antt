@@ -2,7 +2,7 @@
 -- it is the reply of serving/specs/Reply.antt (proofs/Replies.antt).
 use Rattle.std.specs.Prelude.{ℕ, Bool, cond, ◌||◌, List, [], length, ltb}
 use Rattle.header.specs.declared.Header.{Header}
-use Rattle.decision.specs.declared.Decision.{Decision}
+use Rattle.decision.specs.Decision.{Decision}
 use Rattle.serving.specs.Reply.{header_with, reply_bytes}
 
 -- a room under 1,302 bytes, a key over 250 or a value over 1,024

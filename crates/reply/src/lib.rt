@@ -5,6 +5,7 @@ ghost use Rattle.std.specs.Prelude.{◌≡◌, cond, [], ◌++◌, ◌+◌, ◌�
 ghost use Rattle.octets.specs.Parts.{written};
 ghost use Rattle.octets.specs.BigEndian.{bytes_of};
 ghost use Rattle.decision.specs.Decide.{reply_extras, reply_key};
+ghost use Rattle.decision.specs.Decision.{decision_told};
 ghost use Rattle.header.specs.Header.{header_bytes};
 ghost use Rattle.serving.specs.Reply.{body_of, header_with, reply_header, reply_bytes};
 ghost use Rattle.reply.specs.Fitting.{fitting_reply, bare_header};
@@ -18,10 +19,7 @@ use serving::ROOM;
 fn shown_key(keyed: bool, key: &[u8]) -> &[u8]
     ensures { result.now ≡ cond keyed key.now [] }
 {
-    if keyed {
-        return key;
-    }
-    octets::part(key, 0, 0)
+    if keyed { key } else { &key[..0] }
 }
 
 // Flags, key and value from byte 24 on, and their length.
@@ -65,11 +63,8 @@ fn extras_size(r: Reply) -> u8
     ensures { result ≡ length (reply_extras r) }
 {
     match r {
-        Reply::Bare => 0,
         Reply::Found(_, _) => 4,
-        Reply::Counted(_) => 0,
-        Reply::Version => 0,
-        Reply::Keys(_) => 0,
+        _ => 0,
     }
 }
 
@@ -77,11 +72,8 @@ fn key_size(r: Reply, key: &[u8]) -> usize
     ensures { result ≡ length (reply_key r key.now) }
 {
     match r {
-        Reply::Bare => 0,
-        Reply::Found(_, keyed) => shown_key(keyed, key).len(),
-        Reply::Counted(_) => 0,
-        Reply::Version => 0,
-        Reply::Keys(_) => 0,
+        Reply::Found(_, true) => key.len(),
+        _ => 0,
     }
 }
 
@@ -112,26 +104,23 @@ fn header_with(
 
 fn reply_header(op: u8, opaque: u32, d: Decision, key: &[u8], old: &[u8], body: usize) -> Header
     requires { (length key.now ≤ 250) × ((length old.now ≤ 1024) × (body ≡ length (body_of d.done.reply key.now old.now))) }
-    ensures { result ≡ reply_header op opaque d key.now old.now }
+    ensures { result ≡ reply_header op opaque (decision_told d) key.now old.now }
 {
-    let done = d.done;
-    let reply = done.reply;
-    let k = key_size(reply, key) as u16;
-    let e = extras_size(reply);
-    header_with(op, opaque, d.status, k, e, body as u32, done.cas)
+    let status = outcome::status_of(d.status);
+    let k = key_size(d.done.reply, key) as u16;
+    let e = extras_size(d.done.reply);
+    header_with(op, opaque, status, k, e, body as u32, d.done.cas)
 }
 
 fn put_fitting(out: &mut [u8], op: u8, opaque: u32, d: Decision, key: &[u8], old: &[u8]) -> usize
     requires { (1302 ≤ length out.old) × ((length key.now ≤ 250) × (length old.now ≤ 1024)) }
-    ensures { (result ≡ length (reply_bytes op opaque d key.now old.now))
-        × (out.new ≡ written out.old 0 (reply_bytes op opaque d key.now old.now)) }
+    ensures { (result ≡ length (reply_bytes op opaque (decision_told d) key.now old.now))
+        × (out.new ≡ written out.old 0 (reply_bytes op opaque (decision_told d) key.now old.now)) }
 {
     if d.silent {
         return 0;
     }
-    let done = d.done;
-    let reply = done.reply;
-    let n = put_body(out, reply, key, old);
+    let n = put_body(out, d.done.reply, key, old);
     header::put(out, reply_header(op, opaque, d, key, old, n));
     24 + n
 }
@@ -139,8 +128,8 @@ fn put_fitting(out: &mut [u8], op: u8, opaque: u32, d: Decision, key: &[u8], old
 // Writes a decision's reply and answers its length, 0 where the frame is silent. old: the stored value. Nothing where the
 // key is over 250 bytes, the value over 1,024 or the room under 1,302.
 pub fn put_reply(out: &mut [u8], op: u8, opaque: u32, d: Decision, key: &[u8], old: &[u8]) -> usize
-    ensures { (result ≡ length (fitting_reply (length out.old) op opaque d key.now old.now))
-        × (out.new ≡ written out.old 0 (fitting_reply (length out.old) op opaque d key.now old.now)) }
+    ensures { (result ≡ length (fitting_reply (length out.old) op opaque (decision_told d) key.now old.now))
+        × (out.new ≡ written out.old 0 (fitting_reply (length out.old) op opaque (decision_told d) key.now old.now)) }
 {
     if (out.len() < ROOM) | (key.len() > 250) | (old.len() > 1024) {
         return 0;
@@ -148,14 +137,14 @@ pub fn put_reply(out: &mut [u8], op: u8, opaque: u32, d: Decision, key: &[u8], o
     put_fitting(out, op, opaque, d, key, old)
 }
 
-// Writes a bare header with a status, 24 bytes, where they fit.
+// Writes a bare header with a status, 24 bytes, where they fit. The status is the number that stands in the header: this took any, and takes any.
 pub fn put_bare(out: &mut [u8], op: u8, opaque: u32, status: u8)
     ensures { out.new ≡ written out.old 0 (header_bytes (bare_header op opaque status)) }
 {
     header::put(out, header_with(op, opaque, status, 0, 0, 0, Cas(0)));
 }
 
-// Writes the header of a reply whose value of so many bytes stands after it already.
+// Writes the header of a reply whose value of so many bytes stands after it already. The status is a number, as above.
 pub fn put_value_header(out: &mut [u8], op: u8, opaque: u32, status: u8, size: u32, cas: Cas)
     ensures { out.new ≡ written out.old 0 (header_bytes (header_with op opaque status 0 0 size cas)) }
 {

@@ -10,8 +10,7 @@ use borrow.Author.Tests.{ltb-false, eqb-true, not-false}
 use Rattle.octets.proofs.Choices.{cond-elim}
 use Rattle.header.specs.declared.Header.{Header}
 use Rattle.header.specs.Header.{header_of}
-use Rattle.request.specs.declared.Gate.TheVariants.{Stop, Whole}
-use Rattle.request.specs.Reading.{gate_of}
+use Rattle.request.specs.Reading.{Stop, Whole, gate_of}
 
 pub record WholeFrame (s : List ℕ) (h : Header) : Type 0 where
   pub header : header_of s ≡ h

@@ -4,9 +4,7 @@ use mathlib.Core.Path.{◌≡◌, refl}
 use mathlib.Core.List.{List}
 use lib.Dec.{eqb}
 use Rattle.octets.proofs.Choices.{cases}
-use Rattle.request.specs.declared.Gate.{Gate}
-use Rattle.request.specs.declared.Gate.TheVariants.{Stop, Whole}
-use Rattle.request.specs.Reading.{gate_outcome, reading_outcome, gate_of, gated, frame_status, whole_reading, reading}
+use Rattle.request.specs.Reading.{Gate, Stop, Whole, gate_outcome, reading_outcome, gate_of, gated, frame_status, whole_reading, reading}
 use Rattle.request.specs.Claims.{GateDecides}
 
 gated-outcome : (s : List ℕ) (w : Gate) → reading_outcome (gated s w) ≡ gate_outcome w

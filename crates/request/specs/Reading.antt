@@ -1,6 +1,10 @@
 -- Reading a request: outcomes 1, 2, 3 of document 01, then statuses 1 to 3 save the rules that need mode or clock, else the fields.
 use Rattle.std.specs.Prelude.{ℕ, ◌+◌, ◌-◌, List, not, cond, length, ltb, eqb}
+use Rattle.std.specs.declared.result.Result.{Result}
+use Rattle.std.specs.declared.result.Result.TheVariants.{Ok, Err}
 use Rattle.octets.specs.Parts.{part}
+use Rattle.outcome.specs.declared.Refusal.{Refusal}
+use Rattle.outcome.specs.Outcome.{status_number, refusal_number, refusal_needed}
 use Rattle.shape.specs.Shapes.{shape_of}
 use Rattle.header.specs.Header.{header_of}
 use Rattle.header.specs.Layout.{layout_of}
@@ -9,10 +13,32 @@ use Rattle.rules.specs.Rules.{status, meta_size}
 use Rattle.request.specs.declared.Fields.{Fields}
 use Rattle.request.specs.declared.Span.{Span}
 use Rattle.request.specs.declared.Frame.{Frame}
-use Rattle.request.specs.declared.Gate.{Gate}
-use Rattle.request.specs.declared.Gate.TheVariants.{Stop, Whole}
-use Rattle.request.specs.declared.Reading.{Reading}
-use Rattle.request.specs.declared.Reading.TheVariants.{Outcome, Status, Accepted}
+use Rattle.request.specs.declared.Unread.{Unread}
+use Rattle.request.specs.declared.Unread.TheVariants.{Refused, Status as Answered}
+
+-- 01's outcome with the bytes that it says are needed from the frame's start, 0 where 01 has it say none, or the header of a whole frame
+pub data Gate : Type 0 where
+  Stop : ℕ → ℕ → Gate
+  Whole : Header → Gate
+
+-- 01's outcome, 01's status, or what reading shows
+pub data Reading : Type 0 where
+  Outcome : ℕ → Reading
+  Status : ℕ → Reading
+  Accepted : Frame → Reading
+
+-- the gate and the reading of what the code answers
+abbrev pub gate_told : Result Header Refusal → Gate
+gate_told (Ok h) = Whole h
+gate_told (Err refusal) = Stop (refusal_number refusal) (refusal_needed refusal)
+
+abbrev pub unread_told : Unread → Reading
+unread_told (Refused refusal) = Outcome (refusal_number refusal)
+unread_told (Answered status) = Status (status_number status)
+
+abbrev pub reading_told : Result Frame Unread → Reading
+reading_told (Ok frame) = Accepted frame
+reading_told (Err unread) = unread_told unread
 
 -- 01's numbers for the gate: its outcome, 0 where a whole frame stands there, and the bytes that it says are needed from the frame's start, 0 where 01 has it say none
 abbrev pub gate_outcome : Gate → ℕ

@@ -3,10 +3,13 @@
 #![tactic(auto)]
 
 ghost use Rattle.std.specs.Prelude.{◌≡◌};
-ghost use Rattle.request.specs.Reading.{gate_of, extras_span, key_span, value_span, bytes_in, fields_of, frame_of, frame_status, whole_reading, reading};
+ghost use Rattle.outcome.specs.Outcome.{status_of};
+ghost use Rattle.request.specs.declared.Unread.TheVariants.{Refused, Status as Answered};
+ghost use Rattle.request.specs.Reading.{gate_told, reading_told, gate_of, extras_span, key_span, value_span, bytes_in, fields_of, frame_of, frame_status, reading};
 
 use header::Header;
 use numbers::Cas;
+use outcome::{Refusal, Status};
 
 pub mod view;
 
@@ -37,70 +40,82 @@ pub struct Frame {
     pub meta: usize,
 }
 
-// An outcome with the bytes needed from the frame's start, or the header of a frame that is there whole.
-#[derive(Clone, Copy)]
-pub enum Gate {
-    Stop(u8, usize),
-    Whole(Header),
+// The longest body that is taken.
+pub const LONGEST_BODY: u32 = 1400;
+
+// Why there is no request to show.
+#[derive(Clone, Copy, Debug, PartialEq, Eq)]
+pub enum Unread {
+    Refused(Refusal),
+    Status(Status),
 }
 
-// 01's outcome, 01's status, or the fields.
-#[derive(Clone, Copy)]
-pub enum Reading {
-    Outcome(u8),
-    Status(u8),
-    Accepted(Frame),
+impl From<Refusal> for Unread {
+    ghost from_gives = { λ refusal unread. unread ≡ Refused refusal };
+
+    fn from(refusal: Refusal) -> Unread {
+        Unread::Refused(refusal)
+    }
 }
 
-// Outcomes 1, 2, 3 in the order tested.
-pub fn gate_of(received: &[u8]) -> Gate
-    ensures { result ≡ gate_of received.now }
+impl From<Status> for Unread {
+    ghost from_gives = { λ status unread. unread ≡ Answered status };
+
+    fn from(status: Status) -> Unread {
+        Unread::Status(status)
+    }
+}
+
+// The header of the frame at the start of the received bytes, where it is there whole: outcomes 1, 2, 3 in the order tested.
+#[tactic(auto, unfolding(crate::specs::Reading::gate_of))]
+pub fn gate_of(received: &[u8]) -> Result<Header, Refusal>
+    ensures { gate_told result ≡ gate_of received.now }
 {
-    if received.len() < 24 {
-        return Gate::Stop(1, 24);
+    if received.len() < header::SIZE {
+        return Err(Refusal::Incomplete(header::SIZE));
     }
     let h = header::read(received);
-    if h.magic != 0x80 {
-        return Gate::Stop(2, 0);
+    if h.magic != header::REQUEST_MAGIC {
+        return Err(Refusal::BadMagic);
     }
-    if 1400 < h.body {
-        return Gate::Stop(3, 0);
+    if LONGEST_BODY < h.body {
+        return Err(Refusal::TooLong);
     }
-    let l = header::layout_of(h);
-    let end = l.end;
+    let end = header::layout_of(h).end;
     if received.len() < end {
-        return Gate::Stop(1, end);
+        return Err(Refusal::Incomplete(end));
     }
-    Gate::Whole(h)
+    Ok(h)
 }
 
+#[tactic(auto, unfolding(crate::specs::Reading::extras_span))]
 pub fn extras_span(h: Header) -> Span
     ensures { result ≡ extras_span h }
 {
-    let l = header::layout_of(h);
     Span {
-        at: l.extras,
-        len: h.extlen as usize,
+        at: header::layout_of(h).extras,
+        len: usize::from(h.extlen),
     }
 }
 
+#[tactic(auto, unfolding(crate::specs::Reading::key_span))]
 pub fn key_span(h: Header) -> Span
     ensures { result ≡ key_span h }
 {
-    let l = header::layout_of(h);
     Span {
-        at: l.key,
-        len: h.keylen as usize,
+        at: header::layout_of(h).key,
+        len: usize::from(h.keylen),
     }
 }
 
+#[tactic(auto, unfolding(crate::specs::Reading::value_span))]
 pub fn value_span(h: Header) -> Span
     ensures { result ≡ value_span h }
 {
     let l = header::layout_of(h);
     Span {
         at: l.value,
-        len: octets::minus(l.end, l.value),
+        len: l.end.saturating_sub(l.value),
     }
 }
 
@@ -111,57 +126,48 @@ pub fn bytes_in(s: &[u8], p: Span) -> &[u8]
     octets::part(s, p.at, p.len)
 }
 
+#[tactic(auto, unfolding(crate::specs::Reading::fields_of))]
 fn fields_of(h: Header) -> Fields
     ensures { result ≡ fields_of h }
 {
-    let cas = h.cas;
     Fields {
         opcode: h.opcode,
         datatype: h.datatype,
         vbucket: h.vbucket,
         opaque: h.opaque,
-        cas,
+        cas: h.cas,
     }
 }
 
 // What reading shows of a frame with this header.
+#[tactic(auto, unfolding(crate::specs::Reading::frame_of))]
 pub fn frame_of(s: &[u8], h: Header) -> Frame
     ensures { result ≡ frame_of s.now h }
 {
     let extras = extras_span(h);
-    let meta = rules::meta_size(shape::shape_of(h.opcode), bytes_in(s, extras));
     Frame {
         fields: fields_of(h),
         extras,
         key: key_span(h),
         value: value_span(h),
-        meta,
+        meta: rules::meta_size(shape::shape_of(h.opcode), bytes_in(s, extras)),
     }
 }
 
-// Statuses 1 to 3 of a frame with this header, or 0. Serving puts the rules that need mode or clock before a 0x03.
-pub fn frame_status(s: &[u8], h: Header) -> u8
-    ensures { result ≡ frame_status s.now h }
+// Statuses 1 to 3 of a frame with this header. Serving puts the rules that need mode or clock before a 0x03.
+#[tactic(auto, unfolding(crate::specs::Reading::frame_status))]
+pub fn frame_status(s: &[u8], h: Header) -> Result<(), Status>
+    ensures { status_of result ≡ frame_status s.now h }
 {
     rules::status(h, bytes_in(s, extras_span(h)), bytes_in(s, value_span(h)))
 }
 
-fn read_whole(s: &[u8], h: Header) -> Reading
-    ensures { result ≡ whole_reading s.now h }
-{
-    let status = frame_status(s, h);
-    if status == 0 {
-        return Reading::Accepted(frame_of(s, h));
-    }
-    Reading::Status(status)
-}
-
 // Reads the request at the start of the received bytes.
-pub fn read(received: &[u8]) -> Reading
-    ensures { result ≡ reading received.now }
+#[tactic(auto, unfolding(crate::specs::Reading::reading, crate::specs::Reading::whole_reading))]
+pub fn read(received: &[u8]) -> Result<Frame, Unread>
+    ensures { reading_told result ≡ reading received.now }
 {
-    match gate_of(received) {
-        Gate::Stop(outcome, _) => Reading::Outcome(outcome),
-        Gate::Whole(h) => read_whole(received, h),
-    }
+    let h = gate_of(received)?;
+    frame_status(received, h)?;
+    Ok(frame_of(received, h))
 }

@@ -12,37 +12,26 @@
 mod parts;
 mod reading;
 mod show;
-mod text;
 mod writing;
+
+use vector_text::parts::{cut, lines};
+use vector_text::show::text;
 
 // The space is for the bytes that a line spells.
 fn answer_line(line: &[u8], space: &mut [u8]) {
-    let word = text::before(line, b' ');
-    if compare::same(word, b"read") {
-        reading::answer(text::after(line, b' '), space);
-        return;
+    let (word, rest) = cut(line, b' ');
+    match word {
+        b"read" => reading::answer(rest, space),
+        b"write" => writing::answer(rest, space),
+        _ if line.is_empty() || line.starts_with(b"#") => text(line),
+        _ => text(b"what?"),
     }
-    if compare::same(word, b"write") {
-        writing::answer(text::after(line, b' '), space);
-        return;
-    }
-    if (line.len() == 0) | (octets::byte(line, 0) == b'#') {
-        show::text(line);
-        return;
-    }
-    show::text(b"what?");
 }
 
 fn answer_lines(input: &[u8], space: &mut [u8]) {
-    let mut at: usize = 0;
-    while at < input.len() {
-        let line = text::before(octets::rest(input, at), b'\n');
+    for line in lines(input) {
         answer_line(line, space);
-        show::text(b"\n");
-        if input.len() - at <= line.len() {
-            return;
-        }
-        at += line.len() + 1;
+        text(b"\n");
     }
 }
 

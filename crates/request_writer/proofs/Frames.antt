@@ -15,9 +15,7 @@ use Rattle.header.specs.Header.{header_of, header_bytes, HeaderFits as HeaderFit
 use Rattle.header.proofs.HeaderLaws.{length-header, after-header, header-back}
 use Rattle.rules.specs.Rules.{status}
 use Rattle.request.specs.declared.Fields.{Fields}
-use Rattle.request.specs.declared.Gate.TheVariants.{Stop, Whole}
-use Rattle.request.specs.declared.Reading.TheVariants.{Outcome, Status, Accepted}
-use Rattle.request.specs.Reading.{gate_of, extras_span, key_span, value_span, bytes_in, frame_of, frame_status, whole_reading, reading}
+use Rattle.request.specs.Reading.{Stop, Whole, Outcome, Status, Accepted, gate_of, extras_span, key_span, value_span, bytes_in, frame_of, frame_status, whole_reading, reading}
 use Rattle.request_writer.specs.Writing.{header_for, frame_bytes, lengths_held, FieldsFit}
 
 -- a header that holds these lengths holds the whole request

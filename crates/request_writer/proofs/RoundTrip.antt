@@ -18,12 +18,8 @@ use Rattle.rules.specs.Rules.{status}
 use Rattle.rules.proofs.RuleLaws.{parts-inside}
 use Rattle.request.specs.declared.Fields.{Fields}
 use Rattle.request.specs.declared.Frame.{Frame}
-use Rattle.request.specs.declared.Gate.{Gate}
-use Rattle.request.specs.declared.Gate.TheVariants.{Stop, Whole}
-use Rattle.request.specs.declared.Reading.TheVariants.{Accepted}
-use Rattle.request_writer.specs.declared.Written.TheVariants.{Refused, Wrote}
-use Rattle.request.specs.Reading.{gate_of, gated, extras_span, key_span, value_span, bytes_in, fields_of, frame_of, frame_status, whole_reading, reading}
-use Rattle.request_writer.specs.Writing.{header_for, frame_bytes, lengths_held, refuses, writing, FieldsFit}
+use Rattle.request.specs.Reading.{Gate, Stop, Whole, Accepted, gate_of, gated, extras_span, key_span, value_span, bytes_in, fields_of, frame_of, frame_status, whole_reading, reading}
+use Rattle.request_writer.specs.Writing.{Refused, Wrote, header_for, frame_bytes, lengths_held, refuses, writing, FieldsFit}
 use Rattle.request_writer.specs.Claims.{Reads, WrittenReads, Writes, ReadWrites, RefusedReads, HeaderHolds}
 use Rattle.request.proofs.Gated.{WholeFrame, whole-frame}
 use Rattle.request_writer.proofs.Frames.{h, frame, body, extras-back, key_back, value-back, reading-long, reading-frame}

@@ -2,18 +2,19 @@
 use Prim.Native.Nat.{ℕ, ◌+◌, ◌^◌, ◌≤◌, ◌<◌}
 use mathlib.Core.Path.{◌≡◌, sym, ap, ◌∙◌}
 use mathlib.Core.List.{List, [], append-nil}
-use mathlib.Core.Bool.{true, false, cond}
+use mathlib.Core.Bool.{true, false, ◌&&◌, cond}
 use native.Mathlib.Omega.{arith}
 use lib.ListN.{length}
 use lib.Dec.{ltb, leb, eqb}
 use borrow.Author.Tests.{le-ltb, lt-ltb, eq-eqb, ne_eqb, leb-true, leb-false}
-use Rattle.octets.proofs.Choices.{cases}
+use Rattle.octets.proofs.Choices.{cases, cond-elim, both}
+use Rattle.std.specs.declared.option.Option.{Option}
+use Rattle.std.specs.declared.option.Option.TheVariants.{Some, None}
+use Rattle.header.specs.declared.Header.{Header}
 use Rattle.rules.specs.Rules.{status}
 use Rattle.request.specs.declared.Fields.{Fields}
-use Rattle.request.specs.declared.Reading.TheVariants.{Status, Accepted}
-use Rattle.request_writer.specs.declared.Written.TheVariants.{Refused, NoRoom, Wrote}
-use Rattle.request.specs.Reading.{reading, frame_of}
-use Rattle.request_writer.specs.Writing.{header_for, frame_bytes, lengths_held, refuses, writing, FieldsFit}
+use Rattle.request.specs.Reading.{Status, Accepted, reading, frame_of}
+use Rattle.request_writer.specs.Writing.{Refused, NoRoom, Wrote, header_for, frame_bytes, lengths_held, refuses, writing, FieldsFit}
 use Rattle.request_writer.proofs.Frames.{reading-long, reading-frame, length-frame, h, frame, body}
 
 module _ (f : Fields) (extras key value : List ℕ) (room : ℕ) where
@@ -70,9 +71,27 @@ module _ (f : Fields) (extras key value : List ℕ) (room : ℕ) where
         pub wrote : 24 + (length extras + length key + length value) ≤ room → writing f extras key value room ≡ Wrote (24 + (length extras + length key + length value))
         wrote r = by-reading (small-held e n) ∙ rw (is_read, eq-eqb _ _ s, le-ltb _ _ r)
 
--- the sum that was capped at 1,401
-pub over-sum : (n b : ℕ) → b ≡ cond (leb n 1400) n 1401 → 1400 < b → 1400 < n
-over-sum n b e l = cases (leb n 1400) (λ t. omega (arith, rw t at e, leb-true n 1400 t)) (λ t. leb-false n 1400 t)
+-- the header that the code makes, where it makes one
+abbrev made : Fields → ℕ → ℕ → ℕ → Option Header
+made f e k v = cond (leb e 255 && leb (e + k + v) 1400) (Some (header_for f e k v)) None
 
-pub small-sum : (n b : ℕ) → b ≡ cond (leb n 1400) n 1401 → b ≤ 1400 → (b ≡ n) × (n ≤ 1400)
-small-sum n b e l = cases (leb n 1400) (λ t. (rw t at e, leb-true n 1400 t)) (λ t. absurd (let z : b ≡ 1401 = rw t at e in omega arith))
+pub record Headed (f : Fields) (e k v : ℕ) (x : Header) : Type 0 where
+  pub header : x ≡ header_for f e k v
+  pub narrow : e ≤ 255
+  pub short : e + k + v ≤ 1400
+
+pub headed : (f : Fields) (e k v : ℕ) (x : Header) → made f e k v ≡ Some x → Headed f e k v x
+headed f e k v x m =
+    cond-elim (leb e 255 && leb (e + k + v) 1400) _ _ _ m
+    (λ t z. let (n, w) = both (leb e 255) (leb (e + k + v) 1400) t in
+    record { header = cc; narrow = leb-true e 255 n; short = leb-true (e + k + v) 1400 w })
+    (λ t z. absurd (let y : ◌≡◌ {A = ℕ} 0 1 = cc in omega arith))
+
+pub headless : (f : Fields) (extras key value : List ℕ) (room : ℕ) → FieldsFit f → made f (length extras) (length key) (length value) ≡ None
+    → writing f extras key value room ≡ Refused
+headless f extras key value room p m =
+    cond-elim (leb (length extras) 255 && leb (length extras + length key + length value) 1400) _ _ _ m
+    (λ t z. absurd (let y : ◌≡◌ {A = ℕ} 0 1 = cc in omega arith))
+    (λ t z. cases (leb (length extras) 255)
+    (λ n. too_long f extras key value room p (leb-false (length extras + length key + length value) 1400 (rw n at t)))
+    (λ n. wide-extras f extras key value room (leb-false (length extras) 255 n)))

@@ -5,10 +5,8 @@ use Rattle.header.specs.declared.Header.{Header}
 use Rattle.header.specs.Header.{HeaderFits as HeaderFits}
 use Rattle.request.specs.declared.Fields.{Fields}
 use Rattle.request.specs.declared.Frame.{Frame}
-use Rattle.request.specs.declared.Reading.TheVariants.{Accepted}
-use Rattle.request_writer.specs.declared.Written.TheVariants.{Refused, Wrote}
-use Rattle.request.specs.Reading.{reading, bytes_in}
-use Rattle.request_writer.specs.Writing.{frame_bytes, lengths_held, refuses, writing, output_of, FieldsFit}
+use Rattle.request.specs.Reading.{Accepted, reading, bytes_in}
+use Rattle.request_writer.specs.Writing.{Refused, Wrote, frame_bytes, lengths_held, refuses, writing, output_of, FieldsFit}
 
 -- these bytes are read as a request with these fields and these parts
 pub record Reads (s : List ℕ) (f : Fields) (extras key value : List ℕ) : Type 0 where

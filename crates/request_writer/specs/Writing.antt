@@ -1,14 +1,30 @@
 -- Writing a request: "The writer takes these fields and refuses with status 0x04 exactly if reading the frame would refuse for any cause, lengths no header holds included,
 -- then with outcome 4 exactly if the room is too small for that frame; the output is then unchanged. Otherwise bytes past the frame are unchanged."
 use Rattle.std.specs.Prelude.{ℕ, ◌+◌, ◌^◌, ◌<◌, List, ◌++◌, Bool, not, ◌&&◌, cond, length, ltb, eqb}
+use Rattle.std.specs.declared.result.Result.{Result}
+use Rattle.std.specs.declared.result.Result.TheVariants.{Ok, Err}
 use Rattle.octets.specs.Parts.{written}
 use Rattle.header.specs.Header.{header_bytes}
 use Rattle.header.specs.declared.Header.{Header}
 use Rattle.request.specs.declared.Fields.{Fields}
-use Rattle.request.specs.declared.Reading.{Reading}
-use Rattle.request_writer.specs.declared.Written.{Written}
-use Rattle.request_writer.specs.declared.Written.TheVariants.{Refused, NoRoom, Wrote}
-use Rattle.request.specs.Reading.{reading_outcome, reading_status, reading}
+use Rattle.request.specs.Reading.{Reading, reading_outcome, reading_status, reading}
+use Rattle.request_writer.specs.declared.WriteError.{WriteError}
+use Rattle.request_writer.specs.declared.WriteError.TheVariants.{Refused as NotWritten, NoRoom as NoRoomFor}
+
+-- the writer's answer: status 0x04, outcome 4, or the length of the frame that was written
+pub data Written : Type 0 where
+  Refused : Written
+  NoRoom : Written
+  Wrote : ℕ → Written
+
+-- what the code answers
+abbrev pub error_told : WriteError → Written
+error_told NotWritten = Refused
+error_told NoRoomFor = NoRoom
+
+abbrev pub written_told : Result ℕ WriteError → Written
+written_told (Ok n) = Wrote n
+written_told (Err error) = error_told error
 
 -- 01's numbers for an answer of the writer: status 0x04 or outcome 4, 0 where the frame was written
 abbrev pub status_no : Written → ℕ

@@ -1,7 +1,6 @@
 -- For the code alone: what the walk of the damage test asks of any memory. What damage is, is in plain's and ordered's own Damage.antt.
-use Rattle.std.specs.Prelude.{ℕ, List, Bool, true, ◌&&◌, cond, length, drop}
-use Rattle.engine.specs.declared.Checked.{Checked}
-use Rattle.engine.specs.declared.Checked.TheVariants.{Damaged, Sound}
+use Rattle.std.specs.Prelude.{ℕ, List, Bool, true, ◌&&◌, cond, length, drop, Option, Some, None}
+use Rattle.document.specs.declared.Head.{Head}
 use Rattle.rows.specs.Row.{Row}
 use Rattle.rows.specs.Table.{head_of, chunks, row_count, rows_of}
 use Rattle.rows.specs.RowRules.{size_ok, head_ok, all_sound}
@@ -19,5 +18,5 @@ rows_ok keyed b =
     && (all_sound (head_of b).mark.0 (chunks (row_count b) (drop 16 b))
     && in_order keyed (rows_of (row_count b) (drop 16 b))))
 
-unfoldable pub checked_rows : Bool → List ℕ → Checked
-checked_rows keyed b = cond (rows_ok keyed b) (Sound (head_of b)) Damaged
+unfoldable pub checked_rows : Bool → List ℕ → Option Head
+checked_rows keyed b = cond (rows_ok keyed b) (Some (head_of b)) None

@@ -3,16 +3,14 @@
 // inlined in it for having no other caller.
 #![tactic(auto)]
 
-ghost use Rattle.std.specs.Prelude.{◌≡◌, ◌&&◌, ◌+◌, ◌*◌, ◌≤◌, length, drop};
+ghost use Rattle.std.specs.Prelude.{◌≡◌, ◌&&◌, map};
 ghost use Rattle.rows.specs.Row.{row_of};
-ghost use Rattle.rows.specs.Table.{chunks, rows_of};
 ghost use Rattle.rows.specs.RowRules.{all_sound};
 ghost use Rattle.ordered.specs.Order.{follows};
 ghost use Rattle.row_damage.specs.Walk.{in_order, checked_rows};
 
-use engine::Checked;
-use keys::Side;
-use rows::{FIXED, HEADER, ROW};
+use document::Head;
+use rows::{HEADER, ROW};
 
 // Whether a row may stand right after another: a free row after any, a used one only after a used one with a smaller key.
 fn row_follows(v: &[u8], w: &[u8]) -> bool
@@ -24,52 +22,39 @@ fn row_follows(v: &[u8], w: &[u8]) -> bool
     if octets::be16(v, 0) == 0 {
         return false;
     }
-    let a = octets::part(v, FIXED, octets::be16(v, 2) as usize);
-    let b = octets::part(w, FIXED, octets::be16(w, 2) as usize);
-    match keys::compare(a, b) {
-        Side::Less => true,
-        Side::Equal => false,
-        Side::Greater => false,
-    }
+    let a = rows::row::key(v);
+    let b = rows::row::key(w);
+    keys::compare(a, b).is_lt()
 }
 
-fn rows_sound(s: &[u8], n: usize, mark: u64, keyed: bool) -> bool
-    requires { 16 + n * 1312 ≤ length s.now }
-    ensures { result ≡ (all_sound mark (chunks n (drop 16 s.now)) && in_order keyed (rows_of n (drop 16 s.now))) }
+fn rows_sound(rows: &[[u8; ROW]], mark: u64, keyed: bool) -> bool
+    ensures { result ≡ (all_sound mark rows.now && in_order keyed (map row_of rows.now)) }
 {
-    let mut at: usize = HEADER;
-    let mut left = n;
-    while 0 < left {
-        let end = at + ROW;
-        if !rows::damage::row_sound(&s[at..end], mark) {
+    for (i, row) in rows.iter().enumerate() {
+        if !rows::damage::row_sound(row, mark) {
             return false;
         }
-        if keyed & (left != n) {
-            let before = at - ROW;
-            if !row_follows(&s[before..at], &s[at..end]) {
-                return false;
-            }
+        if keyed && 0 < i && !row_follows(&rows[i - 1], row) {
+            return false;
         }
-        at += ROW;
-        left -= 1;
     }
     true
 }
 
 // The head where the size, the header and the rows are right. keyed: whether the rows are to be in key order.
-pub fn checked_rows(s: &[u8], keyed: bool) -> Checked
+pub fn checked_rows(s: &[u8], keyed: bool) -> Option<Head>
     ensures { result ≡ checked_rows keyed s.now }
 {
-    let n = rows::rows_in(s.len());
-    if !rows::damage::size_ok(s.len(), n) {
-        return Checked::Damaged;
+    let rows = rows::all(s);
+    if !rows::damage::size_ok(s.len(), rows.len()) {
+        return None;
     }
     let h = rows::head_of(&s[..HEADER]);
     if !rows::damage::head_ok(h) {
-        return Checked::Damaged;
+        return None;
     }
-    if !rows_sound(s, n, h.mark.0, keyed) {
-        return Checked::Damaged;
+    if !rows_sound(rows, h.mark.0, keyed) {
+        return None;
     }
-    Checked::Sound(h)
+    Some(h)
 }

@@ -5,7 +5,7 @@ use native.Mathlib.Nat.{zero-add}
 use mathlib.Core.Path.{◌≡◌, refl, sym, ap, ◌∙◌}
 use mathlib.Core.Bool.{true}
 use mathlib.Core.List.{List, [], ◌∷◌, ◌++◌, append_assoc}
-use mathlib.Core.Option.{none, some}
+use Rattle.std.specs.Prelude.{Some, None}
 use lib.Dec.{eqb}
 use lib.ListN.{length, drop, replicate, length-append, length-drop, length-replicate, replicate-append-replicate}
 use lib.Seq.{drop-drop}
@@ -72,11 +72,11 @@ module _ (r : List ℕ) (e : Entry) (old : ℕ) (l : length r ≡ 1312) (room : 
       let k : over + left ≡ 1280 - size = omega arith in
       replicate-append-replicate {A = ℕ} over left 0 ∙ ap (λ (n : ℕ). replicate n 0) k
 
-  padded-row : body ++ replicate (1280 - size) 0 ≡ row_bytes (some e)
+  padded-row : body ++ replicate (1280 - size) 0 ≡ row_bytes (Some e)
   unfolding row_bytes used_bytes
   padded-row = simp append_assoc
 
-  pub over-row : over_bytes r e old ≡ row_bytes (some e)
+  pub over-row : over_bytes r e old ≡ row_bytes (Some e)
   over-row =
       one-write
       ∙ written-fits r 0 (body ++ replicate over 0) (omega (arith, length_both))
@@ -88,27 +88,27 @@ module _ (r : List ℕ) (e : Entry) (old : ℕ) (l : length r ≡ 1312) (room : 
 
 -- over a row of the same key, and over a free one
 module _ (mark : ℕ) (e : Entry) (g : EntryGood mark e) where
-  pub over-used : (x : Entry) → EntryGood mark x → x.key ≡ e.key → over_bytes (row_bytes (some x)) e (length x.doc.value) ≡ row_bytes (some e)
+  pub over-used : (x : Entry) → EntryGood mark x → x.key ≡ e.key → over_bytes (row_bytes (Some x)) e (length x.doc.value) ≡ row_bytes (Some e)
   unfolding row_bytes
   over-used x f k =
       let n : length x.key ≡ length e.key = ap length k in
       let left = 1280 - (length x.key + length x.doc.value) in
-      over-row (row_bytes (some x)) e (length x.doc.value) (row-length mark (some x) f) (omega (arith, g.key-most, g.value-most)) (omega (arith, f.key-most, f.value-most))
-      (ap (λ (m : ℕ). zeros (drop (32 + (m + length x.doc.value)) (row_bytes (some x)))) (sym n) ∙ ap zeros (after-value x) ∙ zeros-replicate left)
+      over-row (row_bytes (Some x)) e (length x.doc.value) (row-length mark (Some x) f) (omega (arith, g.key-most, g.value-most)) (omega (arith, f.key-most, f.value-most))
+      (ap (λ (m : ℕ). zeros (drop (32 + (m + length x.doc.value)) (row_bytes (Some x)))) (sym n) ∙ ap zeros (after-value x) ∙ zeros-replicate left)
 
   -- the key stands there
   pub update-used : (x : Entry) → EntryGood mark x → x.key ≡ e.key
-      → updated_bytes (row_bytes (some x)) (length e.key) (metadata_of e.doc) e.doc.value (length x.doc.value) ≡ row_bytes (some e)
+      → updated_bytes (row_bytes (Some x)) (length e.key) (metadata_of e.doc) e.doc.value (length x.doc.value) ≡ row_bytes (Some e)
   unfolding row_bytes
   update-used x f k =
-      let r = row_bytes (some x) in
-      let l = row-length mark (some x) f in
+      let r = row_bytes (Some x) in
+      let l = row-length mark (Some x) f in
       let held : part r 32 (length e.key) ≡ e.key = ap (λ (key : Key). part r 32 (length key)) (sym k) ∙ key-read x ∙ k in
       update-over r r e (length x.doc.value) l (omega (arith, g.key-most, g.value-most)) (stands r 32 (length e.key) e.key (omega (arith, g.key-most, l)) held)
       ∙ over-used x f k
 
-  pub over-free : over_bytes (row_bytes none) e 0 ≡ row_bytes (some e)
+  pub over-free : over_bytes (row_bytes None) e 0 ≡ row_bytes (Some e)
   unfolding row_bytes
   over-free =
-      over-row (row_bytes none) e 0 (row-length mark none tt) (omega (arith, g.key-most, g.value-most)) (omega (arith, g.key-most))
-      (zeros-drop (32 + (length e.key + 0)) (row_bytes none) (zeros-replicate 1312))
+      over-row (row_bytes None) e 0 (row-length mark None tt) (omega (arith, g.key-most, g.value-most)) (omega (arith, g.key-most))
+      (zeros-drop (32 + (length e.key + 0)) (row_bytes None) (zeros-replicate 1312))

@@ -2,8 +2,9 @@
 use Prim.Native.Nat.{ℕ, zero, suc, ◌+◌, ◌-◌, ◌*◌, ◌≤◌, ◌<◌}
 use mathlib.Core.Path.{◌≡◌, refl, ap, ◌∙◌}
 use mathlib.Core.Bool.{true, ◌&&◌}
-use mathlib.Core.List.{List, [], ◌∷◌}
-use mathlib.Core.Option.{none, some}
+use mathlib.Core.List.{List, [], ◌∷◌, map}
+use Rattle.std.specs.Prelude.{Some, None}
+use Rattle.std.specs.Simd.{first_chunks}
 use native.Mathlib.Omega.{arith}
 use native.Mathlib.Numerals.{add-one}
 use lib.Dec.{eqb, leb}
@@ -17,7 +18,6 @@ use Rattle.octets.proofs.Choices.{both, cond-elim}
 use Rattle.octets.proofs.Lists.{part_length}
 use Rattle.octets.proofs.Options.{none-some}
 use Rattle.document.specs.Documents.{Entry}
-use Rattle.document.specs.declared.Stored.TheVariants.{Used}
 use Rattle.document.specs.Stored.{metadata_of, alive, live}
 use Rattle.rows.specs.Row.{slot_of, doc_of, key_of, row_of}
 use Rattle.rows.specs.Table.{chunks, row_count, rows_of, table_of, row_at}
@@ -41,15 +41,15 @@ module _ (s : List ℕ) (at n : ℕ) (h : 0 < n) where
 
 -- a row is free where its kind is 0
 module _ (r : List ℕ) where
-  pub row-free : num r 0 2 ≡ 0 → row_of r ≡ none
+  pub row-free : num r 0 2 ≡ 0 → row_of r ≡ None
   unfolding row_of slot_of
   row-free e = rw e
 
-  pub row-used : (num r 0 2 ≡ 0 → ⊥) → row_of r ≡ some (record { key = key_of r; doc = doc_of r })
+  pub row-used : (num r 0 2 ≡ 0 → ⊥) → row_of r ≡ Some (record { key = key_of r; doc = doc_of r })
   unfolding row_of slot_of
   row-used e = rw (ne_eqb (num r 0 2) 0 e)
 
-  pub row-alive : (clock kind expiry : ℕ) → kind ≡ num r 0 2 → expiry ≡ num r 12 4 → live (Used (metadata_of (doc_of r))) clock ≡ alive (eqb kind 2) expiry clock
+  pub row-alive : (clock kind expiry : ℕ) → kind ≡ num r 0 2 → expiry ≡ num r 12 4 → live (Some (metadata_of (doc_of r))) clock ≡ alive (eqb kind 2) expiry clock
   unfolding live doc_of slot_of
   row-alive clock kind expiry k e = rw (k, e)
 
@@ -89,22 +89,26 @@ module _ (b : List ℕ) (i : ℕ) where
   pub row-nowhere : row_count b ≤ i → row_at b i ≡ []
   row-nowhere h = chunk-none (row_count b) i (drop 16 b) h
 
-no_row : row_of [] ≡ none
+pub no_row : row_of [] ≡ None
 unfolding row_of slot_of be be_from
 no_row = refl
 
 -- the row at a place, as bytes and as what they say
-pub row-at : (b : List ℕ) (i : ℕ) → get_or (table_of b).rows i none ≡ row_of (row_at b i)
+pub row-at : (b : List ℕ) (i : ℕ) → get_or (table_of b).rows i None ≡ row_of (row_at b i)
 unfolding table_of
 row-at b i = rw no_row at (get_or-map row_of (chunks (row_count b) (drop 16 b)) i [])
 
+pub all-rows : (b : List ℕ) (rs : List (List ℕ)) → rs ≡ chunks (row_count b) (drop 16 b) → map row_of rs ≡ (table_of b).rows
+unfolding table_of
+all-rows b rs e = ap (map row_of) e
+
 -- a used row's entry, whose key stands after the fixed part
 module _ (r : List ℕ) where
-  pub row-entry : (e : Entry) → row_of r ≡ some e → (key_of r ≡ e.key) × (doc_of r ≡ e.doc)
+  pub row-entry : (e : Entry) → row_of r ≡ Some e → (key_of r ≡ e.key) × (doc_of r ≡ e.doc)
   unfolding row_of
   row-entry e h =
       let x : Entry = record { key = key_of r; doc = doc_of r } in
-      cond-elim (eqb (slot_of r).kind 0) none (some x) (some e) h
+      cond-elim (eqb (slot_of r).kind 0) None (Some x) (Some e) h
       (λ t z. none-some e z)
       (λ f z. let q : x ≡ e = cc in (ap (λ (w : Entry). w.key) q, ap (λ (w : Entry). w.doc) q))
 
@@ -124,3 +128,8 @@ size-most len n e = leb-true n 256 (both (leb n 256) (eqb len (16 + n * 1312)) (
 pub size_is : (len n : ℕ) → size_ok len n ≡ true → len ≡ 16 + n * 1312
 unfolding size_ok
 size_is len n e = eqb-true len (16 + n * 1312) (both (leb n 256) (eqb len (16 + n * 1312)) (both (leb 1 n) (leb n 256 && eqb len (16 + n * 1312)) e).1).1
+
+-- a slice's runs as the library cuts them
+pub runs-chunks : (n : ℕ) (b : List ℕ) → first_chunks 1312 n b ≡ chunks n b
+runs-chunks zero b = refl
+runs-chunks (suc n) b = ap (λ (rs : List (List ℕ)). take 1312 b ∷ rs) (runs-chunks n (drop 1312 b))

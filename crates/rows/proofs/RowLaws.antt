@@ -5,7 +5,7 @@ use mathlib.Core.Logic.{◌⊎◌, inl, inr, ⊎_elim}
 use mathlib.Core.Path.{◌≡◌, refl, sym, ap, ◌∙◌}
 use mathlib.Core.Bool.{Bool, true, false, ◌&&◌, ◌||◌, cond}
 use mathlib.Core.List.{List, ◌++◌}
-use mathlib.Core.Option.{none, some}
+use Rattle.std.specs.Prelude.{Some, None}
 use Prim.Native.Nat.{ℕ, ◌+◌, ◌-◌, ◌^◌, ◌≤◌, ◌<◌}
 use lib.ListN.{length, drop, replicate, length-append, length-drop, length-replicate}
 use lib.Seq.{drop-drop, take_at, drop_at}
@@ -25,8 +25,8 @@ use Rattle.rows.specs.RowRules.{kind_ok, used_ok, row_sound}
 use Rattle.rows.specs.Good.{EntryGood}
 
 abbrev pub RowGood : ℕ → Row → Type 0
-RowGood mark none = Unit {0}
-RowGood mark (some e) = EntryGood mark e
+RowGood mark None = Unit {0}
+RowGood mark (Some e) = EntryGood mark e
 
 kind-below : (t : Bool) → kind_of t < 256 ^ 2
 kind-below true = omega arith
@@ -92,16 +92,16 @@ module _ (mark : ℕ) (e : Entry) (g : EntryGood mark e) where
       };
     }
 
-    used-read : row_of (used_bytes e) ≡ some e
+    used-read : row_of (used_bytes e) ≡ Some e
     unfolding row_of doc_of key_of slot_for
     used-read =
         let r = used_bytes e in
         let s = slot_read in
-        (λ i. cond (eqb (s i).kind 0) none (some (record {
+        (λ i. cond (eqb (s i).kind 0) None (Some (record {
           key = part r 32 (s i).keylen;
           doc = record { tomb = eqb (s i).kind 2; value = part r (32 + (s i).keylen) (s i).vallen; numbers = (s i).numbers };
         })))
-        ∙ (λ i. cond (kind-used e.doc.tomb i) none (some (record {
+        ∙ (λ i. cond (kind-used e.doc.tomb i) None (Some (record {
           key = key-read e i;
           doc = record { tomb = kind-tomb e.doc.tomb i; value = value_read e i; numbers = e.doc.numbers };
         })))
@@ -127,18 +127,18 @@ module _ (mark : ℕ) (e : Entry) (g : EntryGood mark e) where
 module _ (mark : ℕ) where
   pub row-length : (w : Row) → RowGood mark w → length (row_bytes w) ≡ 1312
   unfolding row_bytes
-  row-length none g = length-replicate {A = ℕ} 1312 0
-  row-length (some e) g = used-length mark e g
+  row-length None g = length-replicate {A = ℕ} 1312 0
+  row-length (Some e) g = used-length mark e g
 
   pub row_read : (w : Row) → RowGood mark w → mark < 2 ^ 64 → row_of (row_bytes w) ≡ w
   unfolding row_bytes row_of slot_of be be_from
-  row_read none g m = refl
-  row_read (some e) g m = used-read mark e g m
+  row_read None g m = refl
+  row_read (Some e) g m = used-read mark e g m
 
   pub row-sound : (w : Row) → RowGood mark w → mark < 2 ^ 64 → row_sound mark (row_bytes w) ≡ true
   unfolding row_bytes row_sound slot_of be be_from
-  row-sound none g m = zeros-replicate 1312
-  row-sound (some e) g m = used_sound mark e g m
+  row-sound None g m = zeros-replicate 1312
+  row-sound (Some e) g m = used_sound mark e g m
 
 -- a used row's rules
 pub record Used (mark : ℕ) (s : Slot) : Type 0 where

@@ -1,6 +1,5 @@
 -- A used row that keeps document 01's rules, and rows of which each does.
-use Rattle.std.specs.Prelude.{ℕ, ◌^◌, ◌≤◌, ◌<◌, ◌≡◌, List, [], ◌∷◌, true, length}
-use Rattle.std.proofs.Math.Option.{none, some}
+use Rattle.std.specs.Prelude.{ℕ, ◌^◌, ◌≤◌, ◌<◌, ◌≡◌, List, [], ◌∷◌, true, length, Some, None}
 use Rattle.document.specs.Documents.{Entry}
 use Rattle.rows.specs.Row.{Row}
 
@@ -18,5 +17,5 @@ pub record EntryGood (mark : ℕ) (e : Entry) : Type 0 where
 
 abbrev pub AllGood : ℕ → List Row → Type 0
 AllGood mark [] = Unit {0}
-AllGood mark (none ∷ ws) = AllGood mark ws
-AllGood mark (some e ∷ ws) = EntryGood mark e × AllGood mark ws
+AllGood mark (None ∷ ws) = AllGood mark ws
+AllGood mark (Some e ∷ ws) = EntryGood mark e × AllGood mark ws

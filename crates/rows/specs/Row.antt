@@ -1,6 +1,5 @@
 -- A row's 1,312 bytes and what they mean: kind 2, key length 2, value length 4, flags 4, expiry 4, revision 8, CAS 8, then the key, the value and zeros without a gap.
-use Rattle.std.specs.Prelude.{ℕ, ◌+◌, ◌-◌, List, ◌++◌, Bool, true, false, cond, length, replicate, eqb}
-use Rattle.std.proofs.Math.Option.{Option, none, some}
+use Rattle.std.specs.Prelude.{ℕ, ◌+◌, ◌-◌, List, ◌++◌, Bool, true, false, cond, length, replicate, eqb, Option, Some, None}
 use Rattle.octets.specs.Parts.{part}
 use Rattle.octets.specs.BigEndian.{num, bytes_of}
 use Rattle.document.specs.Documents.{Doc, Entry}
@@ -54,7 +53,7 @@ key_of r = part r 32 (slot_of r).keylen
 
 unfoldable pub row_of : List ℕ → Row
 unfolding doc_of key_of
-row_of r = cond (eqb (slot_of r).kind 0) none (some (record { key = key_of r; doc = doc_of r }))
+row_of r = cond (eqb (slot_of r).kind 0) None (Some (record { key = key_of r; doc = doc_of r }))
 
 unfoldable pub slot_for : Entry → Slot
 slot_for e = record { kind = kind_of e.doc.tomb; keylen = length e.key; vallen = length e.doc.value; numbers = e.doc.numbers }
@@ -67,5 +66,5 @@ used_bytes e = slot_bytes (slot_for e) ++ (e.key ++ (e.doc.value ++ replicate (1
 -- a free row is all zero
 unfoldable pub row_bytes : Row → List ℕ
 unfolding used_bytes
-row_bytes none = replicate 1312 0
-row_bytes (some e) = used_bytes e
+row_bytes None = replicate 1312 0
+row_bytes (Some e) = used_bytes e

@@ -1,6 +1,5 @@
 -- A table's bytes and what they mean: a header of 16 bytes, state 1, mode 1, vbucket 2, the kept clock 4, mark 8, and then the rows.
-use Rattle.std.specs.Prelude.{ℕ, zero, suc, ◌-◌, ◌/◌, List, [], ◌∷◌, ◌++◌, map, length, take, drop, set, get_or, replicate}
-use Rattle.std.proofs.Math.Option.{none}
+use Rattle.std.specs.Prelude.{ℕ, zero, suc, ◌-◌, ◌/◌, List, [], ◌∷◌, ◌++◌, map, length, take, drop, set, get_or, replicate, None}
 use Rattle.octets.specs.BigEndian.{num, bytes_of}
 use Rattle.numbers.specs.Expiry.{later}
 use Rattle.document.specs.declared.Head.{Head}
@@ -59,4 +58,4 @@ table_at t clock = record { head = at_clock t.head clock; rows = t.rows }
 
 -- "A fresh table is all free, mark 0."; order 2, of the kept clock: "0 when fresh"
 abbrev pub fresh : ℕ → ℕ → ℕ → ℕ → Table
-fresh n state mode vbucket = record { head = record { state = state; mode = mode; vbucket = vbucket; clock = 0; mark = record { 0 = 0 } }; rows = replicate n none }
+fresh n state mode vbucket = record { head = record { state = state; mode = mode; vbucket = vbucket; clock = 0; mark = record { 0 = 0 } }; rows = replicate n None }

@@ -7,6 +7,7 @@ use crate::{FIXED, HEADER, ROW, Slot};
 use document::Head;
 use numbers::{Cas, Numbers, Revision};
 
+// With `&&` for `&`, a walk over 256 rows takes 42,085 instructions and not 40,806.
 fn used_ok(s: Slot, mark: u64) -> bool
     ensures { result ≡ used_ok mark s }
 {
@@ -17,34 +18,18 @@ fn used_ok(s: Slot, mark: u64) -> bool
         & ((s.keylen <= 250) & ((s.vallen <= 1024) & ((1 <= cas) & (cas <= mark)))))
 }
 
-// What crate::row::slot gives. This is called once, and so inlined: a row's length is known there, and every test of it goes.
-fn slot_here(r: &[u8]) -> Slot
-    ensures { result ≡ slot_of r.now }
-{
-    Slot {
-        kind: octets::be16(r, 0),
-        keylen: octets::be16(r, 2),
-        vallen: octets::be32(r, 4),
-        numbers: Numbers {
-            flags: octets::be32(r, 8),
-            expiry: octets::be32(r, 12),
-            revision: Revision(octets::be64(r, 16)),
-            cas: Cas(octets::be64(r, 24)),
-        },
-    }
-}
-
 pub fn row_sound(r: &[u8], mark: u64) -> bool
     ensures { result ≡ row_sound mark r.now }
 {
     if octets::be16(r, 0) == 0 {
         return compare::all_zero(r);
     }
-    let s = slot_here(r);
+    let s = crate::row::slot(r);
     let used = s.keylen as usize + s.vallen as usize;
     used_ok(s, mark) & compare::zero_run(octets::rest(r, FIXED + used))
 }
 
+// Ranges' `contains` was tried, here and below: the proof didn't close by the search.
 pub fn head_ok(h: Head) -> bool
     ensures { result ≡ head_ok h }
 {

@@ -5,8 +5,8 @@
 pub mod damage;
 pub mod row;
 
-ghost use Rattle.std.specs.Prelude.{◌≡◌, ◌-◌, ◌/◌};
-ghost use Rattle.rows.specs.Table.{head_of};
+ghost use Rattle.std.specs.Prelude.{◌≡◌, ◌-◌, ◌/◌, length, drop};
+ghost use Rattle.rows.specs.Table.{head_of, chunks, row_count};
 
 use document::Head;
 use numbers::{Cas, Numbers};
@@ -24,7 +24,7 @@ pub const SPACE: usize = 1280;
 // The fixed part of a row.
 #[derive(Clone, Copy)]
 pub struct Slot {
-    // 0 free, 1 document, 2 tombstone
+    // 0 free, 1 document, 2 tombstone; in damaged memory any number, which `slot_of` gives
     pub kind: u16,
     pub keylen: u16,
     pub vallen: u32,
@@ -43,12 +43,16 @@ pub fn head_of(s: &[u8]) -> Head
     }
 }
 
+// The rows of a table.
+pub fn all(s: &[u8]) -> &[[u8; ROW]]
+    ensures { (result.now ≡ chunks (row_count s.now) (drop 16 s.now)) × (length result.now ≡ row_count s.now) }
+{
+    octets::rest(s, HEADER).as_chunks::<ROW>().0
+}
+
 // How many rows memory of this size has.
 pub fn rows_in(len: usize) -> usize
     ensures { result ≡ (len - 16) / 1312 }
 {
-    if len < HEADER {
-        return 0;
-    }
-    (len - HEADER) / ROW
+    len.saturating_sub(HEADER) / ROW
 }

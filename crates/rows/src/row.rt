@@ -1,23 +1,13 @@
 // A row's fixed part, read.
 ghost use Rattle.std.specs.Prelude.{◌≡◌};
 ghost use Rattle.document.specs.Stored.{metadata_of};
-ghost use Rattle.rows.specs.Row.{slot_of, doc_of};
+ghost use Rattle.rows.specs.Row.{slot_of, doc_of, key_of};
 
-use crate::Slot;
+use crate::{FIXED, Slot};
 use document::Metadata;
 use numbers::{Cas, Numbers, Revision};
 
-fn numbers_of(r: &[u8]) -> Numbers
-    ensures { result ≡ (slot_of r.now).numbers }
-{
-    Numbers {
-        flags: octets::be32(r, 8),
-        expiry: octets::be32(r, 12),
-        revision: Revision(octets::be64(r, 16)),
-        cas: Cas(octets::be64(r, 24)),
-    }
-}
-
+#[inline(always)]
 pub fn slot(r: &[u8]) -> Slot
     ensures { result ≡ slot_of r.now }
 {
@@ -25,21 +15,29 @@ pub fn slot(r: &[u8]) -> Slot
         kind: octets::be16(r, 0),
         keylen: octets::be16(r, 2),
         vallen: octets::be32(r, 4),
-        numbers: numbers_of(r),
-    }
-}
-
-// What a used row holds for its key, the value aside. A lookup alone calls this, and so it is inlined there.
-pub fn metadata(r: &[u8]) -> Metadata
-    ensures { result ≡ metadata_of (doc_of r.now) }
-{
-    Metadata {
-        tomb: octets::be16(r, 0) == 2,
         numbers: Numbers {
             flags: octets::be32(r, 8),
             expiry: octets::be32(r, 12),
             revision: Revision(octets::be64(r, 16)),
             cas: Cas(octets::be64(r, 24)),
         },
+    }
+}
+
+// A row's key.
+pub fn key(r: &[u8]) -> &[u8]
+    ensures { result.now ≡ key_of r.now }
+{
+    octets::part(r, FIXED, octets::be16(r, 2) as usize)
+}
+
+// What a used row holds for its key, the value aside.
+pub fn metadata(r: &[u8]) -> Metadata
+    ensures { result ≡ metadata_of (doc_of r.now) }
+{
+    let s = slot(r);
+    Metadata {
+        tomb: s.kind == 2,
+        numbers: s.numbers,
     }
 }

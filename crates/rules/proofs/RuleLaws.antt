@@ -10,8 +10,7 @@ use lib.ListN.{length}
 use lib.Dec.{ltb, leb, eqb}
 use borrow.Author.Tests.{leb-true, eqb-true, eqb-false, eq-eqb, ne_eqb, not-true, not-false}
 use Rattle.octets.proofs.Choices.{cases, cond-elim, both, either}
-use Rattle.shape.specs.Shapes.{shape_of}
-use Rattle.shape.specs.declared.Shape.{Shape}
+use Rattle.shape.specs.Shapes.{Shape, shape_of}
 use Rattle.header.specs.declared.Header.{Header}
 use Rattle.with_meta.specs.WithMeta.{with_meta}
 use Rattle.with_meta.specs.FieldRules.{with_meta_ok}

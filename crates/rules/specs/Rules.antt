@@ -1,8 +1,7 @@
 -- Statuses 1 to 3 of document 01, "first that applies", with order 9's 0x83, save the rules that need mode or clock.
 use Rattle.std.specs.Prelude.{ℕ, ◌+◌, ◌-◌, ◌%◌, List, Bool, true, not, ◌&&◌, ◌||◌, cond, length, ltb, leb, eqb}
 use Rattle.octets.specs.BigEndian.{num}
-use Rattle.shape.specs.Shapes.{shape_of}
-use Rattle.shape.specs.declared.Shape.{Shape}
+use Rattle.shape.specs.Shapes.{Shape, shape_of}
 use Rattle.shape.specs.declared.Extras.{Extras}
 use Rattle.shape.specs.declared.Extras.TheVariants.{Nothing, FlagsExpiry, Counter, Meta, Count, Expiry}
 use Rattle.header.specs.declared.Header.{Header}

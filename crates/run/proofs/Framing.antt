@@ -16,18 +16,15 @@ use Rattle.document.specs.declared.Head.{Head}
 use Rattle.rows.specs.Table.{head_of}
 use Rattle.tally.specs.declared.Tally.{Tally}
 use Rattle.tally.specs.Counts.{counted_of}
-use Rattle.serving.specs.declared.Served.{Served}
-use Rattle.serving.specs.declared.Served.TheVariants.{Refused, Done}
 use Rattle.serving.specs.Serves.{Serves}
-use Rattle.serving.specs.Serve.{served_used, served, served_table, served_reply}
+use Rattle.serving.specs.Serve.{Served, Refused, Done, served_used, served, served_table, served_reply}
 use Rattle.serving.proofs.Gated.{refused-keeps}
 use Rattle.serving.proofs.Sound.{stays-sound}
 use Rattle.step.specs.Step.{Stepped, Steps, step_of}
 use Rattle.step.proofs.Told.{Told, step-told, step_left}
 use Rattle.serve.proofs.Stepping.{stepped}
-use Rattle.run.specs.Run.{Stand, begun, called_on, further, stand_after, run_end, ran_of}
+use Rattle.run.specs.Run.{Ran, Stand, begun, called_on, further, stand_after, run_end, ran_of}
 use Rattle.run.specs.Frames.{Framed, after_frame, on_answer, frames_from, step_at, serve_at, Leaves}
-use Rattle.run.specs.declared.Ran.{Ran}
 use Rattle.run.proofs.Runs.{by-served, consumed, stops, goes}
 
 -- ---- one call

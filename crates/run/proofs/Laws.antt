@@ -6,18 +6,14 @@ use mathlib.Core.List.{List}
 use mathlib.Core.Bool.{false}
 use lib.ListN.{length, drop}
 use Rattle.engine.specs.declared.Config.{Config}
-use Rattle.request.specs.declared.Gate.{Gate}
-use Rattle.request.specs.declared.Gate.TheVariants.{Stop, Whole}
+use Rattle.request.specs.Reading.{Gate, Stop, Whole}
 use Rattle.engines.specs.Damage.{sound_by}
-use Rattle.serving.specs.declared.Served.{Served}
-use Rattle.serving.specs.declared.Served.TheVariants.{Refused}
 use Rattle.serving.proofs.Gated.{was-open}
-use Rattle.serving.specs.Serve.{served_used, gate_all, served}
+use Rattle.serving.specs.Serve.{Served, Refused, served_used, gate_all, served}
 use Rattle.serving.specs.Serves.{Serves}
 use Rattle.serve.proofs.Gates.{gate-damaged, gated}
 use Rattle.run.specs.declared.Cursor.{Cursor}
-use Rattle.run.specs.declared.Moved.{Moved}
-use Rattle.run.specs.Run.{moved_by}
+use Rattle.run.specs.Run.{Moved, moved_by}
 
 used-by : (config : Config) (b : List ℕ) (clock : ℕ) (s : List ℕ) (room : ℕ) (g : Gate) → gate_all config b room s ≡ g → served_used (served config b clock s room) ≤ length s
 unfolding served

@@ -8,8 +8,7 @@ use borrow.Author.Tests.{le-ltb}
 use Rattle.engine.specs.declared.Config.{Config}
 use Rattle.engines.specs.Damage.{sound_by}
 use Rattle.request.specs.Reading.{gate_of}
-use Rattle.serving.specs.declared.Served.TheVariants.{Refused}
-use Rattle.serving.specs.Serve.{gate_all, served}
+use Rattle.serving.specs.Serve.{Refused, gate_all, served}
 use Rattle.run.specs.Claims.{PastEnd}
 
 nothing-received : (config : Config) (b : List ℕ) (clock room : ℕ) → sound_by config b ≡ true → 1302 ≤ room → served config b clock [] room ≡ Refused 1 24

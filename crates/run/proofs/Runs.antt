@@ -7,16 +7,12 @@ use mathlib.Core.List.{List}
 use lib.ListN.{length, drop}
 use Rattle.engine.specs.declared.Config.{Config}
 use Rattle.engines.specs.Damage.{sound_by}
-use Rattle.request.specs.declared.Gate.{Gate}
-use Rattle.request.specs.declared.Gate.TheVariants.{Stop, Whole}
+use Rattle.request.specs.Reading.{Gate, Stop, Whole}
 use Rattle.tally.specs.declared.Tally.{Tally}
-use Rattle.serving.specs.declared.Served.{Served}
-use Rattle.serving.specs.declared.Served.TheVariants.{Refused, Done}
-use Rattle.serving.specs.Serve.{gate_all, answer_by, served}
+use Rattle.serving.specs.Serve.{Served, Refused, Done, gate_all, answer_by, served}
 use Rattle.serving.proofs.Gated.{was-open}
 use Rattle.serve.proofs.Gates.{gate-damaged}
-use Rattle.run.specs.Run.{Stand, begun, called_on, further, on_done, stand_after, run_end, ran_of}
-use Rattle.run.specs.declared.Ran.{Ran}
+use Rattle.run.specs.Run.{Ran, Stand, begun, called_on, further, on_done, stand_after, run_end, ran_of}
 
 -- ---- what a call that was not refused did
 pub record Consumed (s : List ℕ) (used : ℕ) : Type 0 where

@@ -2,8 +2,7 @@
 use Rattle.std.specs.Prelude.{ℕ, ◌≤◌, ◌≡◌, true, List, [], length}
 use Rattle.engine.specs.declared.Config.{Config}
 use Rattle.engines.specs.Damage.{sound_by}
-use Rattle.serving.specs.declared.Served.TheVariants.{Refused}
-use Rattle.serving.specs.Serve.{served}
+use Rattle.serving.specs.Serve.{Refused, served}
 use Rattle.run.specs.Run.{seen}
 
 abbrev pub PastEnd : Config → Type 0

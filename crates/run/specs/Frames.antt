@@ -2,13 +2,10 @@
 use Rattle.std.specs.Prelude.{ℕ, zero, suc, ◌+◌, ◌-◌, ◌≡◌, List, ◌++◌, length, take, drop}
 use Rattle.engine.specs.declared.Config.{Config}
 use Rattle.rows.specs.Table.{head_of}
-use Rattle.serving.specs.declared.Served.{Served}
-use Rattle.serving.specs.declared.Served.TheVariants.{Refused, Done}
-use Rattle.serving.specs.Serve.{served_table, served_reply}
+use Rattle.serving.specs.Serve.{Served, Refused, Done, served_table, served_reply}
 use Rattle.step.specs.Step.{Stepped, step_of}
 use Rattle.tally.specs.Counts.{counted_of}
-use Rattle.run.specs.declared.Ran.{Ran}
-use Rattle.run.specs.Run.{Stand, seen, called_on}
+use Rattle.run.specs.Run.{Ran, Stand, seen, called_on}
 
 -- what stands after the frames, and the last answer
 pub record Framed : Type 0 where

@@ -1,17 +1,35 @@
 -- "A cursor over a run of received frames is handed back advanced by what was consumed. One past the end sees no bytes."
 use Rattle.std.specs.Prelude.{ℕ, zero, suc, ◌+◌, ◌-◌, List, ◌++◌, length, take, drop}
 use Rattle.engine.specs.declared.Config.{Config}
-use Rattle.serving.specs.declared.Served.{Served}
-use Rattle.serving.specs.declared.Served.TheVariants.{Refused, Done}
-use Rattle.serving.specs.Serve.{served_used, served, served_table, served_reply}
+use Rattle.serving.specs.Serve.{served_told, Served, Refused, Done, served_used, served, served_table, served_reply}
 use Rattle.tally.specs.declared.Tally.{Tally}
 use Rattle.tally.specs.Counts.{counted_of}
-use Rattle.run.specs.declared.Moved.{Moved}
-use Rattle.run.specs.declared.Ran.{Ran}
+use Rattle.run.specs.declared.Cursor.{Cursor}
+use Rattle.run.specs.declared.Moved.{Moved as MovedCursor}
+use Rattle.run.specs.declared.Ran.{Ran as RanFrames}
 
 -- what a cursor sees of a run
 abbrev pub seen : ℕ → List ℕ → List ℕ
 seen at run = drop at run
+
+-- the cursor after a call, and its answer
+pub record Moved : Type 0 where
+  pub cursor : Cursor
+  pub served : Served
+
+-- past the last frame served, the bytes of all replies, the tally, and the last answer
+pub record Ran : Type 0 where
+  pub cursor : Cursor
+  pub filled : ℕ
+  pub tally : Tally
+  pub stop : Served
+
+-- what the code answers, in these
+abbrev pub moved_told : MovedCursor → Moved
+moved_told m = record { cursor = m.cursor; served = served_told m.served }
+
+abbrev pub ran_told : RanFrames → Ran
+ran_told r = record { cursor = r.cursor; filled = r.filled; tally = r.tally; stop = served_told r.stop }
 
 -- "handed back advanced by what was consumed"
 unfoldable pub moved_by : ℕ → Served → Moved

@@ -3,13 +3,14 @@
 
 ghost use Rattle.std.specs.Prelude.{◌≡◌, true};
 ghost use Rattle.engines.specs.Damage.{sound_by};
-ghost use Rattle.run.specs.Run.{seen, moved_by, begun, run_end, ran_of};
+ghost use Rattle.run.specs.Run.{moved_told, ran_told, seen, moved_by, begun, run_end, ran_of};
 ghost use Rattle.run.specs.Frames.{frames_from, step_at, serve_at, Leaves};
-ghost use Rattle.serving.specs.Serve.{served_used};
+ghost use Rattle.serving.specs.Serve.{served_told, served_used};
 ghost use Rattle.serving.specs.Serves.{Serves};
 ghost use Rattle.tally.specs.Serves.{ServesCounted};
 
 use engine::Config;
+use outcome::Refusal;
 use serving::Served;
 use tally::Tally;
 
@@ -18,10 +19,11 @@ pub struct Cursor {
     pub at: usize,
 }
 
+// The cursor after a call, and what the call answered.
 #[derive(Clone, Copy)]
 pub struct Moved {
     pub cursor: Cursor,
-    pub served: Served,
+    pub served: Result<Served, Refusal>,
 }
 
 // cursor: past the last frame served; filled: the bytes of all replies; stop: why no further frame was served.
@@ -30,16 +32,14 @@ pub struct Ran {
     pub cursor: Cursor,
     pub filled: usize,
     pub tally: Tally,
-    pub stop: Served,
+    pub stop: Result<Served, Refusal>,
 }
 
-pub fn used_of(r: Served) -> usize
-    ensures { result ≡ served_used r }
+// The bytes that a call consumed.
+pub fn used_of(answer: Result<Served, Refusal>) -> usize
+    ensures { result ≡ served_used (served_told answer) }
 {
-    match r {
-        Served::Done(_, used, _) => used,
-        Served::Refused(_, _) => 0,
-    }
+    answer.map_or(0, |frame| frame.used)
 }
 
 // Serves the frames of a run one after another on memory that its caller knows to be a table that is not damaged, each reply after those
@@ -54,79 +54,63 @@ pub fn serve_frames(
     t: Tally,
     more: usize,
 ) -> Ran
-    ensures { Leaves (frames_from (step_at config clock run.now) more (begun b.old out.old t)) result b.new out.new
+    ensures { Leaves (frames_from (step_at config clock run.now) more (begun b.old out.old t)) (ran_told result) b.new out.new
         × (sound_by config b.old ≡ true
-        → Leaves (frames_from (serve_at config clock run.now) more (begun b.old out.old t)) result b.new out.new) }
+        → Leaves (frames_from (serve_at config clock run.now) more (begun b.old out.old t)) (ran_told result) b.new out.new) }
 {
     let mut cursor = Cursor { at: 0 };
     let mut filled: usize = 0;
     let mut tally = t;
     let mut left = more;
+    // Each step says how far the next is, so that there is nothing to go over.
     loop {
-        let at = cursor.at;
         let head = table::head(b);
-        let r = step::step(
-            config,
-            b,
-            head,
-            clock,
-            octets::rest(run, at),
-            &mut out[filled..],
-        );
-        match r {
-            Served::Done(_, used, len) => {
-                cursor = Cursor { at: at + used };
-                filled = filled + len;
-                tally = tally::counted(tally, r);
-                if left == 0 {
-                    return Ran {
-                        cursor,
-                        filled,
-                        tally,
-                        stop: r,
-                    };
-                }
-                left = left - 1;
-            }
-            Served::Refused(_, _) => {
-                return Ran {
-                    cursor,
-                    filled,
-                    tally,
-                    stop: r,
-                };
-            }
+        let seen = octets::rest(run, cursor.at);
+        let stop = step::step(config, b, head, clock, seen, &mut out[filled..]);
+        let Ok(frame) = stop else {
+            return Ran {
+                cursor,
+                filled,
+                tally,
+                stop,
+            };
+        };
+        cursor = Cursor {
+            at: cursor.at + frame.used,
+        };
+        filled += frame.reply;
+        tally = tally::counted(tally, stop);
+        if left == 0 {
+            return Ran {
+                cursor,
+                filled,
+                tally,
+                stop,
+            };
         }
+        left -= 1;
     }
 }
 
 impl Cursor {
     // Serves the frame at the cursor, uncounted. The cursor is handed back past it.
     pub fn step(self, config: Config, b: &mut [u8], clock: u32, run: &[u8], out: &mut [u8]) -> Moved
-        ensures { (result ≡ moved_by self.at result.served)
-            × Serves config b.old clock (seen self.at run.now) out.old result.served b.new out.new }
+        ensures { (moved_told result ≡ moved_by self.at (served_told result.served))
+            × Serves config b.old clock (seen self.at run.now) out.old (served_told result.served) b.new out.new }
     {
         if !table::is_sound(config, b) {
             return Moved {
                 cursor: self,
-                served: Served::Refused(5, 0),
+                served: Err(Refusal::Damaged),
             };
         }
-        let at = self.at;
-        let ran = serve_frames(
-            config,
-            b,
-            clock,
-            octets::rest(run, at),
-            out,
-            tally::none(),
-            0,
-        );
-        let past = ran.cursor;
-        let served = ran.stop;
+        let seen = octets::rest(run, self.at);
+        let ran = serve_frames(config, b, clock, seen, out, tally::none(), 0);
         Moved {
-            cursor: Cursor { at: at + past.at },
-            served,
+            cursor: Cursor {
+                at: self.at + ran.cursor.at,
+            },
+            served: ran.stop,
         }
     }
 
@@ -140,8 +124,8 @@ impl Cursor {
         out: &mut [u8],
         t: &mut Tally,
     ) -> Moved
-        ensures { (result ≡ moved_by self.at result.served)
-            × ServesCounted config b.old clock (seen self.at run.now) out.old t.old result.served b.new out.new t.new }
+        ensures { (moved_told result ≡ moved_by self.at (served_told result.served))
+            × ServesCounted config b.old clock (seen self.at run.now) out.old t.old (served_told result.served) b.new out.new t.new }
     {
         let r = self.step(config, b, clock, run, out);
         tally::count(t, r.served);
@@ -159,7 +143,7 @@ pub fn serve_run(
     out: &mut [u8],
     t: Tally,
 ) -> Ran
-    ensures { (result ≡ ran_of config clock run.now (run_end config clock run.now (begun b.old out.old t)))
+    ensures { (ran_told result ≡ ran_of config clock run.now (run_end config clock run.now (begun b.old out.old t)))
         × ((b.new ≡ (run_end config clock run.now (begun b.old out.old t)).table)
         × (out.new ≡ (run_end config clock run.now (begun b.old out.old t)).reply)) }
 {
@@ -168,7 +152,7 @@ pub fn serve_run(
             cursor: Cursor { at: 0 },
             filled: 0,
             tally: t,
-            stop: Served::Refused(5, 0),
+            stop: Err(Refusal::Damaged),
         };
     }
     serve_frames(config, b, clock, run, out, t, run.len())

@@ -7,9 +7,11 @@
 #![tactic(auto)]
 
 use engine::Config;
+use outcome::Refusal;
 use run::{Cursor, Ran};
 use serving::Served;
 use tally::Tally;
+use vector_text::show::{decimal, octets, text};
 
 const CLOCK: u32 = 1000000;
 
@@ -34,52 +36,29 @@ const RUN: usize = 124;
 
 const CUT: usize = 69;
 
-fn text(s: &[u8]) {
-    io::write_all(1, s);
-}
-
-fn decimal(name: &[u8], n: u64) {
-    text(name);
-    io::print_decimal(1, n);
-}
-
-fn octet(b: u8) {
-    io::print_hex(1, b as u64, 2);
-}
-
-fn hex(s: &[u8]) {
-    let mut i: usize = 0;
-    while i < s.len() {
-        octet(s[i]);
-        i += 1;
-    }
-}
-
-fn answer(r: Served) {
-    match r {
-        Served::Refused(outcome, needed) => {
-            decimal(b"outcome ", outcome as u64);
-            decimal(b", needs ", needed as u64);
+fn answer(answer: Result<Served, Refusal>) {
+    match answer {
+        Ok(served) => {
+            let status = outcome::status_of(served.status);
+            decimal(b"status ", u64::from(status));
+            decimal(b", reply ", served.reply as u64);
         }
-        Served::Done(status, _, len) => {
-            decimal(b"status ", status as u64);
-            decimal(b", reply ", len as u64);
+        Err(refusal) => {
+            decimal(b"outcome ", u64::from(refusal.number()));
+            decimal(b", needs ", refusal.needed() as u64);
         }
     }
 }
 
 // Serves the frame at a place, and answers where the cursor stands then.
 fn step(table: &mut [u8], run: &[u8], out: &mut [u8], at: usize) -> usize {
-    let start = Cursor { at };
-    let moved = start.step(engine::config_for(false), table, CLOCK, run, out);
-    let cursor = moved.cursor;
-    let served = moved.served;
+    let moved = Cursor { at }.step(engine::config_for(false), table, CLOCK, run, out);
     decimal(b"at ", at as u64);
     text(b": ");
-    answer(served);
-    decimal(b", then at ", cursor.at as u64);
+    answer(moved.served);
+    decimal(b", then at ", moved.cursor.at as u64);
     text(b"\n");
-    cursor.at
+    moved.cursor.at
 }
 
 // Serves at a place without bytes, and says whether table and reply area are what they were.
@@ -89,17 +68,17 @@ fn past(table: &mut [u8], run: &[u8], at: usize) {
     let mut out = [FILL; ROOM];
     octet_writer::put_bytes(&mut before, 0, table);
     step(table, run, &mut out, at);
-    if compare::same(table, &before) & compare::same(&out, &filled) {
+    if compare::same(table, &before) && compare::same(&out, &filled) {
         text(b"  table and reply area unchanged\n");
-        return;
+    } else {
+        text(b"  CHANGED\n");
     }
-    text(b"  CHANGED\n");
 }
 
 fn by_steps(run: &[u8]) {
     let mut table = [0u8; SIZE];
     let mut out = [FILL; ROOM];
-    owner::make(&mut table, ROWS, ACTIVE, BY_REVISION, VBUCKET);
+    let _ = owner::make(&mut table, ROWS, ACTIVE, BY_REVISION, VBUCKET);
     let second = step(&mut table, run, &mut out, 0);
     let third = step(&mut table, run, &mut out, second);
     let fourth = step(&mut table, run, &mut out, third);
@@ -118,7 +97,7 @@ fn ran_by(config: Config, run: &[u8], out: &mut [u8]) -> Ran {
         refused: 0,
         silent: 0,
     };
-    owner::make(&mut table, ROWS, ACTIVE, BY_REVISION, VBUCKET);
+    let _ = owner::make(&mut table, ROWS, ACTIVE, BY_REVISION, VBUCKET);
     run::serve_run(config, &mut table, CLOCK, run, out, none)
 }
 
@@ -127,18 +106,15 @@ fn whole(run: &[u8]) {
     let mut plain = [FILL; ROOM];
     let ran = ran_by(engine::config_for(false), run, &mut out);
     ran_by(engine::config_for(true), run, &mut plain);
-    let cursor = ran.cursor;
-    let tally = ran.tally;
-    let stop = ran.stop;
-    decimal(b"consumed ", cursor.at as u64);
-    decimal(b", tally ", tally.served);
-    decimal(b" ", tally.refused);
-    decimal(b" ", tally.silent);
+    decimal(b"consumed ", ran.cursor.at as u64);
+    decimal(b", tally ", ran.tally.served);
+    decimal(b" ", ran.tally.refused);
+    decimal(b" ", ran.tally.silent);
     text(b", stop ");
-    answer(stop);
+    answer(ran.stop);
     decimal(b"\n  replies ", ran.filled as u64);
     text(b": ");
-    hex(octets::part(&out, 0, ran.filled));
+    octets(octets::part(&out, 0, ran.filled));
     text(b"\n");
     if !compare::same(&out, &plain) {
         text(b"  THE PLAIN ENGINE REPLIES OTHERWISE\n");

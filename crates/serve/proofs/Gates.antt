@@ -6,13 +6,10 @@ use mathlib.Core.List.{List}
 use lib.ListN.{length}
 use lib.Dec.{ltb}
 use Rattle.engine.specs.declared.Config.{Config}
-use Rattle.request.specs.declared.Gate.{Gate}
-use Rattle.request.specs.declared.Gate.TheVariants.{Stop}
-use Rattle.request.specs.Reading.{gate_of}
+use Rattle.request.specs.Reading.{Gate, Stop, gate_of}
 use Rattle.engines.specs.Damage.{sound_by}
-use Rattle.serving.specs.declared.Served.{Served}
 use Rattle.serving.specs.Serves.{Serves}
-use Rattle.serving.specs.Serve.{gate_all, answer_by, table_by, reply_by, served, served_table, served_reply}
+use Rattle.serving.specs.Serve.{Served, gate_all, answer_by, table_by, reply_by, served, served_table, served_reply}
 
 module _ (config : Config) (b s : List ℕ) (room : ℕ) where
   pub gate-damaged : sound_by config b ≡ false → gate_all config b room s ≡ Stop 5 0

@@ -3,7 +3,7 @@ use Prim.Native.Nat.{ℕ, ◌+◌, ◌^◌, ◌≤◌, ◌<◌}
 use mathlib.Core.Path.{◌≡◌, refl, sym, ap, subst, ◌∙◌}
 use mathlib.Core.Bool.{Bool, true, false, ◌||◌}
 use mathlib.Core.List.{List, [], append-nil}
-use mathlib.Core.Option.{Option, none}
+use Rattle.std.specs.Prelude.{Option, Some, None}
 use native.Mathlib.Omega.{arith}
 use lib.Dec.{ltb}
 use lib.ListN.{length}
@@ -25,15 +25,12 @@ use Rattle.document.specs.Head.{at_clock}
 use Rattle.document.specs.declared.Metadata.{Metadata}
 use Rattle.document.specs.declared.Side.{Side}
 use Rattle.document.specs.declared.Side.TheVariants.{Back}
-use Rattle.document.specs.declared.Stored.{Stored}
-use Rattle.document.specs.declared.Stored.TheVariants.{Nothing as NoRow, Used}
 use Rattle.commands.specs.declared.Context.{Context}
 use Rattle.commands.specs.declared.Instruction.{Instruction}
 use Rattle.effects.specs.declared.Source.{Source}
 use Rattle.effects.specs.declared.Source.TheVariants.{Empty, Frame, Digits, Kept, Joined}
-use Rattle.decision.specs.declared.Decision.{Decision}
 use Rattle.commands.specs.Writes.{is_mutation}
-use Rattle.decision.specs.Decision.{decision}
+use Rattle.decision.specs.Decision.{Decision, decision}
 use Rattle.decision.specs.Decide.{Effect, instruction_of, doc_from, bytes_from}
 use Rattle.decision.proofs.Writing.{free-with-row, free-unread, stores-none}
 use Rattle.decision.proofs.Stores.{joined_length}
@@ -51,9 +48,7 @@ use Rattle.table.specs.Calls.{has_place, lookup_of, joined_by}
 use Rattle.table.specs.Claims.{Finds}
 use Rattle.table.proofs.Looking.{finds-sound, lookup_head}
 use Rattle.table.proofs.Keeping.{stores-good, joins-good}
-use Rattle.serving.specs.declared.Served.{Served}
-use Rattle.serving.specs.declared.Served.TheVariants.{Done}
-use Rattle.serving.specs.Serve.{reaches_decision, asked_of, decision_on, decision_at, frame_effect, effect_at, frame_table, frame_reply}
+use Rattle.serving.specs.Serve.{Served, Done, reaches_decision, asked_of, decision_on, decision_at, frame_effect, effect_at, frame_table, frame_reply}
 use Rattle.serving.specs.Serves.{ServesFrame}
 use Rattle.serving.proofs.Change.{changing, unchanged, raised, raised-good}
 use Rattle.effects.specs.declared.Reply.{Reply}
@@ -101,19 +96,19 @@ module _ (config : Config) (b s : List ℕ) (clock : ℕ) (h : Header) (g : reac
 
 -- ---- a frame that is decided
 -- a key with a row needs no free one, and a command that doesn't write doesn't look for one
-abbrev pub seeing : Head → Stored → Bool → ℕ → List ℕ → Context
+abbrev pub seeing : Head → Option Metadata → Bool → ℕ → List ℕ → Context
 seeing h s free clock old = record { head = h; row = s; free = free; clock = clock; number = number_of old; size = length old }
 
-room-known : (h : Head) (s : Stored) (free : Bool) (clock : ℕ) (n : List ℕ) (q : Instruction) → decision (seeing h s (has_row s || free) clock n) q ≡ decision (seeing h s free clock n) q
-room-known h NoRow free clock n q = refl
-room-known h (Used m) free clock n q = free-with-row (seeing h (Used m) true clock n) q free refl
+room-known : (h : Head) (s : Option Metadata) (free : Bool) (clock : ℕ) (n : List ℕ) (q : Instruction) → decision (seeing h s (has_row s || free) clock n) q ≡ decision (seeing h s free clock n) q
+room-known h None free clock n q = refl
+room-known h (Some m) free clock n q = free-with-row (seeing h (Some m) true clock n) q free refl
 
-placed : (h : Head) (s : Stored) (place free : Bool) (clock : ℕ) (n : List ℕ) (q : Instruction) (w : Bool) → w ≡ is_mutation q.command
+placed : (h : Head) (s : Option Metadata) (place free : Bool) (clock : ℕ) (n : List ℕ) (q : Instruction) (w : Bool) → w ≡ is_mutation q.command
     → (w ≡ true → place ≡ (has_row s || free)) → decision (seeing h s place clock n) q ≡ decision (seeing h s free clock n) q
 placed h s place free clock n q true e p = ap (λ (x : Bool). decision (seeing h s x clock n) q) (p refl) ∙ room-known h s free clock n q
 placed h s place free clock n q false e p = free-unread (seeing h s place clock n) q free (sym e)
 
-no-doc : (st : Stored) (value : List ℕ) → st ≡ NoRow → doc_from st value ≡ none
+no-doc : (st : Option Metadata) (value : List ℕ) → st ≡ None → doc_from st value ≡ None
 no-doc st value e = rw e
 
 -- ---- a value by its source
@@ -163,13 +158,13 @@ module _ (config : Config) (b s : List ℕ) (clock : ℕ) (h : Header) (y : Byte
   abbrev value : List ℕ
   value = bytes_from source v (doc_value (find_row t.rows asked))
 
-  changed-is : (w : Bool) (store : Stored) → doc_from store value ≡ effect.store → (w ≡ false → effect.store ≡ none)
+  changed-is : (w : Bool) (store : Option Metadata) → doc_from store value ≡ effect.store → (w ≡ false → effect.store ≡ None)
       → changed_with config b (lookup_of config w b asked) asked store source effect.head v ≡ frame_table config b clock s h
   unfolding frame_table
-  changed-is w NoRow e none-if =
+  changed-is w None e none-if =
       let kept = (changing config u then s h (clock-good-by config t clock (sound-good-by config b y sb).1 small).good z inside).keeps (sym e) in
       clock-written config b clock effect.head.clock y sb (ap (λ (k : Head). k.clock) kept) ∙ sym (ap table_bytes (unchanged config u then s h (sym e) kept))
-  changed-is w (Used m) e none-if =
+  changed-is w (Some m) e none-if =
       let good = sound-good-by config b y sb in
       let later-good = clock-good-by config t clock good.1 small in
       let d : Doc = record { tomb = m.tomb; value = value; numbers = m.numbers } in
@@ -255,7 +250,7 @@ module _ (config : Config) (b s : List ℕ) (clock : ℕ) (h : Header) (y : Byte
   unfolding frame_effect request_of
   store_is v ev = λ i. doc_from (decision-is i).done.store (bytes_from (decision-is i).done.source (ev i) (doc_value row))
 
-  store-none : (v : List ℕ) → v ≡ bare_value s h → w ≡ false → (effect_at config b clock s h).store ≡ none
+  store-none : (v : List ℕ) → v ≡ bare_value s h → w ≡ false → (effect_at config b clock s h).store ≡ None
   store-none v ev e =
       sym (store_is v ev) ∙ no-doc d.done.store _ (ap (λ (x : Decision). x.done.store) decided-is
       ∙ stores-none (seeing head (stored_of row) free head.clock (doc_value row)) q (sym ew ∙ e))

@@ -7,15 +7,12 @@ use lib.Dec.{ltb}
 use lib.ListN.{length}
 use Rattle.engine.specs.declared.Config.{Config}
 use Rattle.octets.specs.Parts.{Bytes}
-use Rattle.request.specs.declared.Gate.{Gate}
-use Rattle.request.specs.declared.Gate.TheVariants.{Stop, Whole}
-use Rattle.request.specs.Reading.{gate_of}
+use Rattle.request.specs.Reading.{Gate, Stop, Whole, gate_of}
 use Rattle.document.specs.declared.Head.{Head}
 use Rattle.rows.specs.Table.{head_of}
 use Rattle.engines.specs.Damage.{sound_by}
-use Rattle.serving.specs.declared.Served.{Served}
 use Rattle.serving.specs.Serves.{Serves}
-use Rattle.serving.specs.Serve.{gate_all}
+use Rattle.serving.specs.Serve.{Served, gate_all}
 use Rattle.serving.proofs.Gated.{was-open}
 use Rattle.step.specs.Step.{Stepped, Steps, gate_step, step_of}
 use Rattle.serve.specs.Claims.{StepServes}

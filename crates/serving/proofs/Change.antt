@@ -4,7 +4,7 @@ use Prim.Native.Nat.{ℕ, ◌+◌, ◌^◌, ◌≤◌, ◌<◌}
 use mathlib.Core.Path.{◌≡◌, sym, ap, ◌∙◌, subst}
 use mathlib.Core.Bool.{true, false}
 use mathlib.Core.List.{List}
-use mathlib.Core.Option.{Option, none, some}
+use Rattle.std.specs.Prelude.{Option, Some, None}
 use lib.ListN.{length}
 use lib.Dec.{ltb}
 use borrow.Author.Tests.{ltb-true}
@@ -52,12 +52,12 @@ module _ (config : Config) (t : Table) (clock : ℕ) (s : List ℕ) (h : Header)
     pub head : effect.head ≡ marked t.head mark
     pub grows : t.head.mark.0 ≤ mark
     pub fits : mark < 2 ^ 64
-    pub room : find_row t.rows key ≡ none → 0 < free_rows t.rows
+    pub room : find_row t.rows key ≡ None → 0 < free_rows t.rows
 
   -- a frame stores nothing and keeps the head, or what it stores is as above
   pub record Changing : Type 0 where
-    pub keeps : effect.store ≡ none → effect.head ≡ t.head
-    pub stores : (d : Doc) → effect.store ≡ some d → Storing d
+    pub keeps : effect.store ≡ None → effect.head ≡ t.head
+    pub stores : (d : Doc) → effect.store ≡ Some d → Storing d
 
   refused : reaches_decision s h ≡ false → Changing
   unfolding frame_effect decision_on
@@ -84,7 +84,7 @@ module _ (config : Config) (t : Table) (clock : ℕ) (s : List ℕ) (h : Header)
     most = key-most (shape_of h.opcode) h (bytes_in s (extras_span h)) (bytes_in s (value_span h)) o
 
     abbrev Kept : Type 0
-    Kept = (decided.store ≡ none → decided.head ≡ t.head) × ((d : Doc) → decided.store ≡ some d → 1 ≤ h.keylen)
+    Kept = (decided.store ≡ None → decided.head ≡ t.head) × ((d : Doc) → decided.store ≡ Some d → 1 ≤ h.keylen)
 
     kept : Kept
     kept = decide-keeps t.head (find_row t.rows key) (ltb 0 (free_rows t.rows)) clock (request_of config.forcing s h) h.keylen (command-right config.forcing s y h o).1
@@ -92,12 +92,12 @@ module _ (config : Config) (t : Table) (clock : ℕ) (s : List ℕ) (h : Header)
     -- the same, of the decision
     abbrev At : Effect → Type 0
     At x =
-        (x.store ≡ none → x.head ≡ t.head)
-        × ((d : Doc) → x.store ≡ some d
+        (x.store ≡ None → x.head ≡ t.head)
+        × ((d : Doc) → x.store ≡ Some d
         → (EntryGood x.head.mark.0 (record { key = key; doc = d }))
         × ((x.head ≡ marked t.head x.head.mark.0)
         × ((t.head.mark.0 ≤ x.head.mark.0)
-        × ((x.head.mark.0 < 2 ^ 64) × (find_row t.rows key ≡ none → 0 < free_rows t.rows)))))
+        × ((x.head.mark.0 < 2 ^ 64) × (find_row t.rows key ≡ None → 0 < free_rows t.rows)))))
 
     at-decided : At decided
     at-decided = (
@@ -115,7 +115,7 @@ module _ (config : Config) (t : Table) (clock : ℕ) (s : List ℕ) (h : Header)
             cas-least = q.one;
             cas-most = q.marked;
           } in
-          let free : find_row t.rows key ≡ none → 0 < free_rows t.rows = λ n.
+          let free : find_row t.rows key ≡ None → 0 < free_rows t.rows = λ n.
           ltb-true 0 (free_rows t.rows) (stores-with-room t.head (ltb 0 (free_rows t.rows)) clock (request_of config.forcing s h) d
           (ap (λ (x : Option Doc). (decide t.head x (ltb 0 (free_rows t.rows)) clock (request_of config.forcing s h)).store) (sym n) ∙ e)) in
           (fine, (sound.head, (sound.grows, (sound.fits, free)))),
@@ -133,7 +133,7 @@ pub changing : (config : Config) (t : Table) (clock : ℕ) (s : List ℕ) (h : H
 changing config t clock s h g y w = cases (reaches_decision s h) (went config t clock s h g y w) (refused config t clock s h)
 
 -- "A non-zero status changes no table byte"
-pub unchanged : (config : Config) (t : Table) (clock : ℕ) (s : List ℕ) (h : Header) → (frame_effect config t clock s h).store ≡ none → (frame_effect config t clock s h).head ≡ t.head
+pub unchanged : (config : Config) (t : Table) (clock : ℕ) (s : List ℕ) (h : Header) → (frame_effect config t clock s h).store ≡ None → (frame_effect config t clock s h).head ≡ t.head
     → frame_change config t clock s h ≡ t
 unchanged config t clock s h e f = λ i. record { head = f i; rows = store_row (engine_of config) t.rows (bytes_in s (key_span h)) (e i) }
 

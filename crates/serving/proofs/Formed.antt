@@ -11,8 +11,7 @@ use Rattle.octets.specs.Parts.{Bytes}
 use Rattle.octets.proofs.Choices.{both}
 use Rattle.octets.proofs.Lists.{bytes-part}
 use Rattle.octets.proofs.Numbers.{num-below}
-use Rattle.shape.specs.declared.Shape.{Shape}
-use Rattle.shape.specs.Shapes.{commands, shape_of}
+use Rattle.shape.specs.Shapes.{Shape, commands, shape_of}
 use Rattle.shape.proofs.ShapeLaws.{each-shape}
 use Rattle.header.specs.declared.Header.{Header}
 use Rattle.with_meta.specs.declared.WithMeta.{WithMeta}

@@ -9,13 +9,11 @@ use lib.Dec.{ltb}
 use borrow.Author.Tests.{ltb-false, not-false}
 use Rattle.octets.proofs.Choices.{cond-elim}
 use Rattle.header.specs.declared.Header.{Header}
-use Rattle.request.specs.declared.Gate.{Gate}
-use Rattle.request.specs.declared.Gate.TheVariants.{Stop, Whole}
+use Rattle.request.specs.Reading.{Gate, Stop, Whole}
 use Rattle.request.proofs.Gated.{WholeFrame, no_stop, whole-frame}
 use Rattle.engine.specs.declared.Config.{Config}
 use Rattle.engines.specs.Damage.{sound_by}
-use Rattle.serving.specs.declared.Served.TheVariants.{Refused}
-use Rattle.serving.specs.Serve.{gate_all, answer_by, table_by, reply_by, served, served_table, served_reply}
+use Rattle.serving.specs.Serve.{Refused, gate_all, answer_by, table_by, reply_by, served, served_table, served_reply}
 
 pub record Open (config : Config) (b s : List ℕ) (n : ℕ) (h : Header) : Type 0 where
   pub undamaged : sound_by config b ≡ true

@@ -4,7 +4,7 @@ use Prim.Native.Nat.{ℕ, ◌^◌, ◌≤◌, ◌<◌}
 use mathlib.Core.Path.{◌≡◌, refl, sym}
 use mathlib.Core.Bool.{Bool}
 use mathlib.Core.List.{List, [], ◌∷◌}
-use mathlib.Core.Option.{Option, none, some}
+use Rattle.std.specs.Prelude.{Option, Some, None}
 use lib.Dec.{eqb}
 use lib.ListN.{length}
 use Rattle.octets.specs.Compare.{same}
@@ -33,7 +33,7 @@ module _ (c : Context) (frame stored : List ℕ) (n : ℕ) where
   stores x = doc_from x.store (bytes_from x.source frame stored)
 
   abbrev Keeps : Done → Type 0
-  Keeps x = (stores x ≡ none → x.head ≡ c.head) × ((d : Doc) → stores x ≡ some d → 1 ≤ n)
+  Keeps x = (stores x ≡ None → x.head ≡ c.head) × ((d : Doc) → stores x ≡ Some d → 1 ≤ n)
 
   done-keeps : (x : Command) → Named n x → Keeps (done_of c x)
   unfolding done_of
@@ -49,8 +49,8 @@ module _ (c : Context) (frame stored : List ℕ) (n : ℕ) where
   done-keeps (Touch t) p = (λ e. none-some _ (sym e), λ d e. p)
 
 pub decide-keeps : (h : Head) (row : Option Doc) (free : Bool) (clock : ℕ) (q : Request) (n : ℕ) → Named n q.command
-    → ((decide h row free clock q).store ≡ none → (decide h row free clock q).head ≡ h)
-    × ((d : Doc) → (decide h row free clock q).store ≡ some d → 1 ≤ n)
+    → ((decide h row free clock q).store ≡ None → (decide h row free clock q).head ≡ h)
+    × ((d : Doc) → (decide h row free clock q).store ≡ Some d → 1 ≤ n)
 unfolding decide decision
 decide-keeps h row free clock q n p =
     let c = context_of h row free clock in
@@ -62,8 +62,8 @@ decide-keeps h row free clock q n p =
 -- the numbers of a key's row fit
 pub fits-found : (mark : ℕ) (ws : List Row) (k : Key) → mark < 2 ^ 64 → AllGood mark ws → NumbersFit (numbers_of (stored_of (find_row ws k)))
 fits-found mark [] k m g = record { flags = omega arith; expiry = omega arith; revision = omega arith; cas = omega arith }
-fits-found mark (none ∷ ws) k m g = fits-found mark ws k m g
-fits-found mark (some x ∷ ws) k m g =
+fits-found mark (None ∷ ws) k m g = fits-found mark ws k m g
+fits-found mark (Some x ∷ ws) k m g =
     cases (same x.key k)
     (λ s. rw s (record { flags = g.0.flags; expiry = g.0.expiry; revision = g.0.revision; cas = omega (arith, g.0.cas-most) }))
     (λ s. rw s (fits-found mark ws k m g.1))
@@ -71,5 +71,5 @@ fits-found mark (some x ∷ ws) k m g =
 -- and its value is short
 pub short-found : (mark : ℕ) (ws : List Row) (k : Key) → AllGood mark ws → length (doc_value (find_row ws k)) ≤ 1024
 short-found mark [] k g = omega arith
-short-found mark (none ∷ ws) k g = short-found mark ws k g
-short-found mark (some x ∷ ws) k g = cases (same x.key k) (λ s. rw s g.0.value-most) (λ s. rw s (short-found mark ws k g.1))
+short-found mark (None ∷ ws) k g = short-found mark ws k g
+short-found mark (Some x ∷ ws) k g = cases (same x.key k) (λ s. rw s g.0.value-most) (λ s. rw s (short-found mark ws k g.1))

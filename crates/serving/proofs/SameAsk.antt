@@ -5,8 +5,7 @@ use mathlib.Core.Bool.{cond}
 use mathlib.Core.List.{List}
 use Rattle.header.specs.declared.Header.{Header}
 use Rattle.request.specs.Reading.{frame_status, bytes_in, key_span}
-use Rattle.decision.specs.declared.Decision.{Decision}
-use Rattle.decision.specs.Decision.{decision}
+use Rattle.decision.specs.Decision.{Decision, decision}
 use Rattle.decision.specs.Decide.{instruction_of, effect_of}
 use Rattle.engine.specs.declared.Config.{Config}
 use Rattle.engine.specs.Engine.{store_row}

@@ -7,9 +7,7 @@ use lib.Dec.{ltb}
 use Rattle.engine.specs.declared.Config.{Config}
 use Rattle.octets.specs.Parts.{Bytes}
 use Rattle.header.specs.declared.Header.{Header}
-use Rattle.request.specs.declared.Gate.{Gate}
-use Rattle.request.specs.declared.Gate.TheVariants.{Stop, Whole}
-use Rattle.request.specs.Reading.{gate_of}
+use Rattle.request.specs.Reading.{Gate, Stop, Whole, gate_of}
 use Rattle.request.proofs.Gated.{whole-frame}
 use Rattle.rows.specs.Table.{table_of, table_at, clock_at}
 use Rattle.engines.specs.Damage.{sound_by}

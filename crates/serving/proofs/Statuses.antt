@@ -6,13 +6,11 @@ use mathlib.Core.Bool.{Bool, true, false, cond, not, ◌&&◌}
 use mathlib.Core.List.{List, [], ◌∷◌}
 use lib.ListN.{length}
 use lib.Dec.{ltb, eqb}
-use Rattle.shape.specs.declared.Shape.{Shape}
-use Rattle.shape.specs.Shapes.{Command, commands, unbuilt, look_up, among, shape_of}
+use Rattle.shape.specs.Shapes.{Shape, Command, commands, unbuilt, look_up, among, shape_of}
 use Rattle.rules.specs.Rules.{form_ok, field_rules_ok, keeps_rules, forces, meta_size, judged, status}
 use Rattle.request.specs.Reading.{bytes_in, extras_span, value_span, frame_status}
 use Rattle.commands.specs.Rules.{first_status, first_failure}
-use Rattle.decision.specs.declared.Decision.{Decision}
-use Rattle.decision.specs.Decision.{decision}
+use Rattle.decision.specs.Decision.{Decision, decision}
 use Rattle.serving.specs.Serve.{reaches_decision, decision_on}
 use Rattle.serving.specs.Statuses.{tests_on, StatusesInOrder}
 use Rattle.serving.proofs.Formed.{by_cond}

@@ -10,7 +10,7 @@ use Rattle.rows.specs.Find.{find_row}
 use Rattle.plain.specs.Plain.{used_rows}
 use Rattle.effects.specs.declared.Reply.{Reply}
 use Rattle.effects.specs.declared.Reply.TheVariants.{Bare, Found, Counted, Version as VersionReply, Keys}
-use Rattle.decision.specs.declared.Decision.{Decision}
+use Rattle.decision.specs.Decision.{Decision}
 use Rattle.decision.specs.Decide.{reply_extras, reply_key, reply_value}
 
 -- what a table shows a reply: the keys listed, or the value stored for the request's key

@@ -1,33 +1,41 @@
 -- Serving one request on a table of the engine that the call is for: the outcomes of document 01 in the order tested; then the request is decided, answered and stored.
-use Rattle.std.specs.Prelude.{ℕ, ◌+◌, Bool, false, cond, not, List, length, ltb}
-use Rattle.std.proofs.Math.Option.{Option}
+use Rattle.std.specs.declared.result.Result.{Result}
+use Rattle.std.specs.declared.result.Result.TheVariants.{Ok, Err}
+use Rattle.std.specs.Prelude.{ℕ, ◌+◌, Bool, false, cond, not, List, length, ltb, Option, None}
 use Rattle.octets.specs.Parts.{written}
 use Rattle.header.specs.declared.Header.{Header}
-use Rattle.request.specs.declared.Gate.{Gate}
-use Rattle.request.specs.declared.Gate.TheVariants.{Stop, Whole}
 use Rattle.shape.specs.Shapes.{shape_of}
 use Rattle.rules.specs.Rules.{keeps_rules}
-use Rattle.request.specs.Reading.{gate_of, frame_status, bytes_in, extras_span, key_span, value_span}
+use Rattle.request.specs.Reading.{Gate, Stop, Whole, gate_of, frame_status, bytes_in, extras_span, key_span, value_span}
 use Rattle.document.specs.declared.Head.{Head}
 use Rattle.commands.specs.declared.Context.{Context}
-use Rattle.decision.specs.declared.Decision.{Decision}
 use Rattle.effects.specs.declared.Reply.TheVariants.{Bare}
 use Rattle.effects.specs.Done.{nothing}
-use Rattle.decision.specs.Decision.{decision}
+use Rattle.decision.specs.Decision.{Decision, decision}
 use Rattle.decision.specs.Decide.{Request, Effect, context_of, instruction_of, effect_of}
 use Rattle.document.specs.Documents.{Key, Doc}
 use Rattle.engine.specs.Engine.{store_row}
 use Rattle.decode.specs.Decode.{request_of}
 use Rattle.rows.specs.Table.{Table, table_of, table_at, clock_at, table_bytes}
 use Rattle.engine.specs.declared.Config.{Config}
-use Rattle.engine.specs.declared.Checked.TheVariants.{Damaged}
 use Rattle.plain.specs.Damage.{checked_outcome}
 use Rattle.engines.specs.Engines.{engine_of}
 use Rattle.engines.specs.Damage.{sound_by}
 use Rattle.rows.specs.Find.{find_row, free_rows}
-use Rattle.serving.specs.declared.Served.{Served}
-use Rattle.serving.specs.declared.Served.TheVariants.{Refused, Done}
+use Rattle.outcome.specs.declared.Refusal.{Refusal}
+use Rattle.outcome.specs.Outcome.{status_of, refusal_number, refusal_needed}
+use Rattle.serving.specs.declared.Served.{Served as ServedFrame}
 use Rattle.serving.specs.Reply.{reply_shows, reply_bytes}
+
+-- ---- an outcome with the bytes needed from the frame's start, or status, bytes consumed and reply length
+pub data Served : Type 0 where
+  Refused : ℕ → ℕ → Served
+  Done : ℕ → ℕ → ℕ → Served
+
+-- what the code answers, in 01's numbers
+abbrev pub served_told : Result ServedFrame Refusal → Served
+served_told (Ok s) = Done (status_of s.status) s.used s.reply
+served_told (Err refusal) = Refused (refusal_number refusal) (refusal_needed refusal)
 
 -- ---- 01's numbers for each answer; what it doesn't have is 0
 -- its outcome, 0 where a frame was served
@@ -56,7 +64,7 @@ served_needed (Done status used len) = 0
 
 -- 5 table damaged, 4 reply room under 1,302 bytes, then the frame's own
 unfoldable pub gate_all : Config → List ℕ → ℕ → List ℕ → Gate
-gate_all config b room s = cond (not (sound_by config b)) (Stop (checked_outcome Damaged) 0) (cond (ltb room 1302) (Stop 4 0) (gate_of s))
+gate_all config b room s = cond (not (sound_by config b)) (Stop (checked_outcome None) 0) (cond (ltb room 1302) (Stop 4 0) (gate_of s))
 
 -- the reader's status ends it, save a 0x83 for option 0x01 and a 0x03: a 0x04 that needs mode or clock comes before both
 abbrev pub reaches_decision : List ℕ → Header → Bool

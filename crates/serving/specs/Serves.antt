@@ -3,9 +3,8 @@ use Rattle.std.specs.Prelude.{ℕ, ◌≡◌, List, length}
 use Rattle.octets.specs.Parts.{written}
 use Rattle.engine.specs.declared.Config.{Config}
 use Rattle.header.specs.declared.Header.{Header}
-use Rattle.request.specs.declared.Gate.TheVariants.{Whole}
-use Rattle.serving.specs.declared.Served.{Served}
-use Rattle.serving.specs.Serve.{answer_by, frame_table, frame_reply, served, served_table, served_reply}
+use Rattle.request.specs.Reading.{Whole}
+use Rattle.serving.specs.Serve.{Served, answer_by, frame_table, frame_reply, served, served_table, served_reply}
 
 -- a call on table memory b, of the engine that it is for, at a clock, with received bytes s and reply area out: its answer r, and both as it leaves them
 pub record Serves (config : Config) (b : List ℕ) (clock : ℕ) (s out : List ℕ) (r : Served) (b' out' : List ℕ) : Type 0 where

@@ -1,11 +1,14 @@
 // What serving means: definitions alone, in specs/, shared by the code that serves and by what is promised of it.
 #![tactic(auto)]
 
-// An outcome with the bytes needed from the frame's start, or status, bytes consumed and reply length.
+use outcome::Status;
+
+// A frame that was served: its status, the bytes consumed and the reply's length, 0 where it is silent.
 #[derive(Clone, Copy)]
-pub enum Served {
-    Refused(u8, usize),
-    Done(u8, usize, usize),
+pub struct Served {
+    pub status: Result<(), Status>,
+    pub used: usize,
+    pub reply: usize,
 }
 
 // The reply room that serving asks for, whatever the request: header, flags, key and value of the longest reply.

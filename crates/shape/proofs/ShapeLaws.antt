@@ -7,8 +7,7 @@ use lib.Dec.{eqb}
 use Rattle.octets.proofs.Choices.{cases}
 use Rattle.shape.specs.declared.Operation.{Operation}
 use Rattle.shape.specs.declared.Operation.TheVariants.{Unknown, NotBuilt}
-use Rattle.shape.specs.declared.Shape.{Shape}
-use Rattle.shape.specs.Shapes.{Form, Command, commands, unbuilt, shape_by, refused, among, look_up, shape_of}
+use Rattle.shape.specs.Shapes.{Shape, Form, Command, commands, unbuilt, shape_by, refused, among, look_up, shape_of}
 
 module _ {ℓ} (P : Shape → Type ℓ) (op : ℕ) where
   -- of each of these commands, loud and quiet

@@ -4,7 +4,15 @@ use Rattle.shape.specs.declared.Operation.{Operation}
 use Rattle.shape.specs.declared.Operation.TheVariants.{Unknown, NotBuilt, Get, GetKey, Set, Add, Replace, Delete, Increment, Decrement, Noop, Version, SetWithMeta, AddWithMeta, DeleteWithMeta, GetKeys, Append, Prepend, Touch, GetAndTouch}
 use Rattle.shape.specs.declared.Extras.{Extras}
 use Rattle.shape.specs.declared.Extras.TheVariants.{Nothing, FlagsExpiry, Counter, Meta, Count, Expiry}
-use Rattle.shape.specs.declared.Shape.{Shape}
+use Rattle.std.specs.declared.option.Option.{Option}
+use Rattle.std.specs.declared.option.Option.TheVariants.{Some, None}
+use Rattle.outcome.specs.Outcome.{status_of}
+use Rattle.with_meta.specs.declared.Stored.{Stored}
+use Rattle.shape.specs.declared.Shape.{Shape as DeclaredShape}
+use Rattle.with_meta.specs.FieldRules.{meta_number}
+use Rattle.shape.specs.declared.Key.{Key}
+use Rattle.shape.specs.declared.Key.TheVariants.{Forbidden, Needed, Optional}
+use Rattle.shape.specs.declared.Form.{Form as DeclaredForm}
 
 -- what stands between the header and the end of the body
 pub record Form : Type 0 where
@@ -12,6 +20,39 @@ pub record Form : Type 0 where
   pub key : ℕ
   pub value : ℕ
   pub meta : ℕ
+
+pub record Shape : Type 0 where
+  -- 0 where the command is built, 0x83 where it is not, 0x81 where there is no such command
+  pub status : ℕ
+  pub operation : Operation
+  pub extras : Extras
+  -- 0: forbidden, 1: needed, 2: optional
+  pub key : ℕ
+  -- 0: forbidden, 1: any
+  pub value : ℕ
+  -- with-meta: 1 has a value before the extended meta, 2 has none; 0: another command
+  pub meta : ℕ
+  pub quiet : Bool
+
+-- the numbers of a declared form and shape
+abbrev pub key_number : Key → ℕ
+key_number Forbidden = 0
+key_number Needed = 1
+key_number Optional = 2
+
+abbrev pub form_told : DeclaredForm → Form
+form_told f = record { extras = f.extras; key = key_number f.key; value = cond f.takes_value 1 0; meta = meta_number f.meta }
+
+abbrev pub shape_told : DeclaredShape → Shape
+shape_told s = record {
+  status = status_of s.built;
+  operation = s.operation;
+  extras = s.form.extras;
+  key = key_number s.form.key;
+  value = cond s.form.takes_value 1 0;
+  meta = meta_number s.form.meta;
+  quiet = s.quiet;
+}
 
 -- "nothing after the header"
 abbrev pub bare : Form

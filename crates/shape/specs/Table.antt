@@ -3,8 +3,7 @@ use Rattle.std.specs.Prelude.{ℕ, zero, suc, ◌+◌, ◌/◌, ◌%◌, ◌<◌
 use Rattle.std.proofs.Common.{sym, ap, ◌∙◌, add-zero, zero-add, add-suc, suc-add, le_of_suc-le-suc, not-suc-le-zero}
 use Rattle.std.proofs.Math.ListN.{get_or-map}
 use Rattle.shape.specs.declared.Operation.TheVariants.{Unknown, NotBuilt}
-use Rattle.shape.specs.declared.Shape.{Shape}
-use Rattle.shape.specs.Shapes.{Command, commands, shape_by, refused, shape_of}
+use Rattle.shape.specs.Shapes.{Shape, Command, commands, shape_by, refused, shape_of}
 
 -- the shapes of the operations, loud and quiet: unknown, not built, then the commands
 abbrev pub unknown : Bool → Shape

@@ -3,8 +3,12 @@
 #![tactic(auto)]
 
 ghost use Rattle.std.specs.Prelude.{◌≡◌};
-ghost use Rattle.shape.specs.Shapes.{refused, bare, key_only, plain_write, counter, meta_write, key_listing, joining, touching, shape_by, shape_of};
+ghost use Rattle.outcome.specs.Outcome.{status_number};
+ghost use Rattle.shape.specs.Shapes.{form_told, shape_told, refused, shape_by, shape_of};
 ghost use Rattle.shape.specs.Table.{numbered};
+
+use outcome::Status;
+use with_meta::Stored;
 
 // The command that an opcode is, its quiet form aside.
 #[derive(Clone, Copy)]
@@ -42,21 +46,85 @@ pub enum Extras {
     Expiry,
 }
 
+// Whether a request has a key.
+#[derive(Clone, Copy, Debug, PartialEq, Eq)]
+pub enum Key {
+    Forbidden,
+    Needed,
+    Optional,
+}
+
+// What stands between the header and the end of the body.
+#[derive(Clone, Copy)]
+pub struct Form {
+    pub extras: Extras,
+    pub key: Key,
+    pub takes_value: bool,
+    // of a with-meta command: what it stores
+    pub meta: Option<Stored>,
+}
+
+const BARE: Form = Form {
+    extras: Extras::Nothing,
+    key: Key::Forbidden,
+    takes_value: false,
+    meta: None,
+};
+
+const KEY_ONLY: Form = Form {
+    key: Key::Needed,
+    ..BARE
+};
+
+const PLAIN_WRITE: Form = Form {
+    extras: Extras::FlagsExpiry,
+    takes_value: true,
+    ..KEY_ONLY
+};
+
+const COUNTER: Form = Form {
+    extras: Extras::Counter,
+    ..KEY_ONLY
+};
+
+const META_WRITE: Form = Form {
+    extras: Extras::Meta,
+    takes_value: true,
+    meta: Some(Stored::Document),
+    ..KEY_ONLY
+};
+
+const META_DELETE: Form = Form {
+    meta: Some(Stored::Tombstone),
+    ..META_WRITE
+};
+
+const KEY_LISTING: Form = Form {
+    extras: Extras::Count,
+    key: Key::Optional,
+    ..BARE
+};
+
+const JOINING: Form = Form {
+    takes_value: true,
+    ..KEY_ONLY
+};
+
+const TOUCHING: Form = Form {
+    extras: Extras::Expiry,
+    ..KEY_ONLY
+};
+
 #[derive(Clone, Copy)]
 pub struct Shape {
-    // 0 where the command is built, 0x83 where it is not, 0x81 where there is no such command
-    pub status: u8,
+    // where the command isn't built: the status that its opcode gets, whatever follows it
+    pub built: Result<(), Status>,
     pub operation: Operation,
-    pub extras: Extras,
-    // 0: forbidden, 1: needed, 2: optional
-    pub key: u8,
-    // 0: forbidden, 1: any
-    pub value: u8,
-    // with-meta: 1 has a value before the extended meta, 2 has none; 0: another command
-    pub meta: u8,
+    pub form: Form,
     pub quiet: bool,
 }
 
+// A table, since document 01 says so: "One fixed table of 256 entries gives every opcode's shape."
 // Entry n: the number of opcode n's operation (in `shape_by`), times two, plus one for its quiet form. A table of bytes is
 // small: where a shape is asked for, the machine lays it out anew.
 const OPERATIONS: [u8; 256] = [
@@ -318,165 +386,60 @@ const OPERATIONS: [u8; 256] = [
     0, // ff
 ];
 
-fn refused(operation: Operation, status: u8) -> Shape
-    ensures { result ≡ refused operation status }
+fn built(operation: Operation, form: Form, quiet: bool) -> Shape
+    ensures { shape_told result ≡ shape_by operation (form_told form) quiet }
 {
     Shape {
-        status,
+        built: Ok(()),
         operation,
-        extras: Extras::Nothing,
-        key: 0,
-        value: 0,
-        meta: 0,
+        form,
+        quiet,
+    }
+}
+
+fn refused(operation: Operation, status: Status) -> Shape
+    ensures { shape_told result ≡ refused operation (status_number status) }
+{
+    Shape {
+        built: Err(status),
+        operation,
+        form: BARE,
         quiet: false,
-    }
-}
-
-fn bare(operation: Operation, quiet: bool) -> Shape
-    ensures { result ≡ shape_by operation bare quiet }
-{
-    Shape {
-        status: 0,
-        operation,
-        extras: Extras::Nothing,
-        key: 0,
-        value: 0,
-        meta: 0,
-        quiet,
-    }
-}
-
-fn key_only(operation: Operation, quiet: bool) -> Shape
-    ensures { result ≡ shape_by operation key_only quiet }
-{
-    Shape {
-        status: 0,
-        operation,
-        extras: Extras::Nothing,
-        key: 1,
-        value: 0,
-        meta: 0,
-        quiet,
-    }
-}
-
-fn plain_write(operation: Operation, quiet: bool) -> Shape
-    ensures { result ≡ shape_by operation plain_write quiet }
-{
-    Shape {
-        status: 0,
-        operation,
-        extras: Extras::FlagsExpiry,
-        key: 1,
-        value: 1,
-        meta: 0,
-        quiet,
-    }
-}
-
-fn counter(operation: Operation, quiet: bool) -> Shape
-    ensures { result ≡ shape_by operation counter quiet }
-{
-    Shape {
-        status: 0,
-        operation,
-        extras: Extras::Counter,
-        key: 1,
-        value: 0,
-        meta: 0,
-        quiet,
-    }
-}
-
-fn meta_write(operation: Operation, meta: u8, quiet: bool) -> Shape
-    ensures { result ≡ shape_by operation (meta_write meta) quiet }
-{
-    Shape {
-        status: 0,
-        operation,
-        extras: Extras::Meta,
-        key: 1,
-        value: 1,
-        meta,
-        quiet,
-    }
-}
-
-fn key_listing(operation: Operation, quiet: bool) -> Shape
-    ensures { result ≡ shape_by operation key_listing quiet }
-{
-    Shape {
-        status: 0,
-        operation,
-        extras: Extras::Count,
-        key: 2,
-        value: 0,
-        meta: 0,
-        quiet,
-    }
-}
-
-fn joining(operation: Operation, quiet: bool) -> Shape
-    ensures { result ≡ shape_by operation joining quiet }
-{
-    Shape {
-        status: 0,
-        operation,
-        extras: Extras::Nothing,
-        key: 1,
-        value: 1,
-        meta: 0,
-        quiet,
-    }
-}
-
-fn touching(operation: Operation, quiet: bool) -> Shape
-    ensures { result ≡ shape_by operation touching quiet }
-{
-    Shape {
-        status: 0,
-        operation,
-        extras: Extras::Expiry,
-        key: 1,
-        value: 0,
-        meta: 0,
-        quiet,
     }
 }
 
 // The shape of the operation with this number.
 #[tactic(auto, unfolding(crate::specs::Table::numbered, crate::specs::Table::operations, crate::specs::Shapes::commands))]
 fn shape_by(number: u8, quiet: bool) -> Shape
-    ensures { result ≡ numbered number quiet }
+    ensures { shape_told result ≡ numbered number quiet }
 {
     match number {
-        1 => refused(Operation::NotBuilt, 0x83),
-        2 => key_only(Operation::Get, quiet),
-        3 => key_only(Operation::GetKey, quiet),
-        4 => plain_write(Operation::Set, quiet),
-        5 => plain_write(Operation::Add, quiet),
-        6 => plain_write(Operation::Replace, quiet),
-        7 => key_only(Operation::Delete, quiet),
-        8 => counter(Operation::Increment, quiet),
-        9 => counter(Operation::Decrement, quiet),
-        10 => bare(Operation::Noop, quiet),
-        11 => bare(Operation::Version, quiet),
-        12 => meta_write(Operation::SetWithMeta, 1, quiet),
-        13 => meta_write(Operation::AddWithMeta, 1, quiet),
-        14 => meta_write(Operation::DeleteWithMeta, 2, quiet),
-        15 => key_listing(Operation::GetKeys, quiet),
-        16 => joining(Operation::Append, quiet),
-        17 => joining(Operation::Prepend, quiet),
-        18 => touching(Operation::Touch, quiet),
-        19 => touching(Operation::GetAndTouch, quiet),
-        _ => refused(Operation::Unknown, 0x81),
+        1 => refused(Operation::NotBuilt, Status::NotSupported),
+        2 => built(Operation::Get, KEY_ONLY, quiet),
+        3 => built(Operation::GetKey, KEY_ONLY, quiet),
+        4 => built(Operation::Set, PLAIN_WRITE, quiet),
+        5 => built(Operation::Add, PLAIN_WRITE, quiet),
+        6 => built(Operation::Replace, PLAIN_WRITE, quiet),
+        7 => built(Operation::Delete, KEY_ONLY, quiet),
+        8 => built(Operation::Increment, COUNTER, quiet),
+        9 => built(Operation::Decrement, COUNTER, quiet),
+        10 => built(Operation::Noop, BARE, quiet),
+        11 => built(Operation::Version, BARE, quiet),
+        12 => built(Operation::SetWithMeta, META_WRITE, quiet),
+        13 => built(Operation::AddWithMeta, META_WRITE, quiet),
+        14 => built(Operation::DeleteWithMeta, META_DELETE, quiet),
+        15 => built(Operation::GetKeys, KEY_LISTING, quiet),
+        16 => built(Operation::Append, JOINING, quiet),
+        17 => built(Operation::Prepend, JOINING, quiet),
+        18 => built(Operation::Touch, TOUCHING, quiet),
+        19 => built(Operation::GetAndTouch, TOUCHING, quiet),
+        _ => refused(Operation::Unknown, Status::UnknownCommand),
     }
 }
 
 pub fn shape_of(opcode: u8) -> Shape
-    ensures { result ≡ shape_of opcode }
+    ensures { shape_told result ≡ shape_of opcode }
 {
-    let i = opcode as usize;
-    let entry = OPERATIONS[i];
+    let entry = OPERATIONS[opcode as usize];
     shape_by(entry / 2, entry % 2 == 1)
 }

@@ -16,7 +16,7 @@ use Rattle.header.specs.Header.{header_bytes}
 use Rattle.document.specs.Documents.{Key}
 use Rattle.effects.specs.declared.Reply.{Reply}
 use Rattle.effects.specs.declared.Reply.TheVariants.{Bare, Found, Counted, Version as VersionReply, Keys}
-use Rattle.decision.specs.declared.Decision.{Decision}
+use Rattle.decision.specs.Decision.{Decision}
 use Rattle.decision.specs.Decide.{reply_key, reply_extras}
 use Rattle.listing.proofs.Taken.{taken-short, listing-short}
 use Rattle.rows.specs.Table.{row_count, table_of}

@@ -9,21 +9,17 @@ use borrow.Author.Tests.{lt-ltb, le-ltb}
 use Rattle.engine.specs.declared.Config.{Config}
 use Rattle.octets.specs.Parts.{written}
 use Rattle.header.specs.declared.Header.{Header}
-use Rattle.request.specs.declared.Gate.{Gate}
-use Rattle.request.specs.declared.Gate.TheVariants.{Stop}
-use Rattle.request.specs.Reading.{gate_of, bytes_in, key_span, frame_status}
+use Rattle.request.specs.Reading.{Gate, Stop, gate_of, bytes_in, key_span, frame_status}
 use Rattle.document.specs.declared.Head.{Head}
 use Rattle.document.specs.Head.{at_clock}
 use Rattle.commands.specs.declared.Instruction.{Instruction}
 use Rattle.commands.specs.Writes.{is_mutation}
-use Rattle.decision.specs.declared.Decision.{Decision}
+use Rattle.decision.specs.Decision.{Decision}
 use Rattle.decision.specs.Decide.{instruction_of}
 use Rattle.decode.specs.Decode.{bare_value}
 use Rattle.table.specs.declared.Lookup.{Lookup}
 use Rattle.table.specs.Calls.{lookup_of}
-use Rattle.serving.specs.declared.Served.{Served}
-use Rattle.serving.specs.declared.Served.TheVariants.{Done}
-use Rattle.serving.specs.Serve.{reaches_decision, asked_of}
+use Rattle.serving.specs.Serve.{Served, Done, reaches_decision, asked_of}
 use Rattle.step.specs.Answer.{reply_to, ReplyWritten}
 use Rattle.step.specs.Change.{changed_by}
 use Rattle.step.specs.Step.{Stepped, Steps, refused_step, value_found, decided_by, asked_step, frame_step, gate_step, step_of}

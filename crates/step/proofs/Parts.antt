@@ -6,8 +6,7 @@ use mathlib.Core.List.{List}
 use native.Mathlib.Omega.{arith}
 use lib.ListN.{length, take, drop}
 use Rattle.octets.specs.Parts.{part}
-use Rattle.shape.specs.Shapes.{shape_of}
-use Rattle.shape.specs.declared.Shape.{Shape}
+use Rattle.shape.specs.Shapes.{Shape, shape_of}
 use Rattle.header.specs.declared.Header.{Header}
 use Rattle.header.specs.declared.Layout.{Layout}
 use Rattle.header.specs.Layout.{layout_of}
@@ -16,8 +15,7 @@ use Rattle.rules.proofs.RuleLaws.{judged-form, judged-other, keeps-form, form-le
 use Rattle.request.specs.Reading.{frame_status, bytes_in, extras_span, key_span, value_span}
 use Rattle.commands.specs.declared.Instruction.{Instruction}
 use Rattle.decision.specs.Decide.{instruction_of}
-use Rattle.decode.specs.declared.Decoded.{Decoded}
-use Rattle.decode.specs.declared.Decoded.TheVariants.{Broken, Whole}
+use Rattle.std.specs.Prelude.{Option, Some, None}
 use Rattle.decode.specs.Decode.{decoded_status, decoded_by, request_of, bare_value}
 use Rattle.decode.proofs.DecodeLaws.{asked-breaks, asked-broken, asked-goes, asked-whole, asked-value}
 use Rattle.serving.specs.Serve.{reaches_decision}
@@ -64,18 +62,18 @@ module _ (s : List ℕ) (h : Header) where
     unfolding frame_status status
     by-fields = judged-form (shape_of h.opcode) h formed (bytes_in s (extras_span h)) (bytes_in s (value_span h))
 
-    module _ (forcing : Bool) (sh : Shape) (ex va : List ℕ) (r : Decoded) (eh : sh ≡ shape_of h.opcode) (ee : ex ≡ bytes_in s (extras_span h)) (ev : va ≡ bytes_in s (value_span h))
+    module _ (forcing : Bool) (sh : Shape) (ex va : List ℕ) (r : Option Instruction) (eh : sh ≡ shape_of h.opcode) (ee : ex ≡ bytes_in s (extras_span h)) (ev : va ≡ bytes_in s (value_span h))
         (er : r ≡ decoded_by forcing sh h ex va) where
       asked_is : decoded_by forcing (shape_of h.opcode) h (bytes_in s (extras_span h)) (bytes_in s (value_span h)) ≡ r
       asked_is = sym (er ∙ (λ i. decoded_by forcing (eh i) h (ee i) (ev i)))
 
-      pub broken-status : r ≡ Broken → decoded_status Broken ≡ frame_status s h
+      pub broken-status : r ≡ None → decoded_status None ≡ frame_status s h
       broken-status e = sym (by-fields ∙ asked-broken forcing h _ _ (asked_is ∙ e))
 
-      pub broken-stops : r ≡ Broken → reaches_decision s h ≡ false
+      pub broken-stops : r ≡ None → reaches_decision s h ≡ false
       broken-stops e = by-rules ∙ asked-breaks forcing h _ _ (asked_is ∙ e)
 
-      module _ (a : Instruction) (e : r ≡ Whole a) where
+      module _ (a : Instruction) (e : r ≡ Some a) where
         pub whole-goes : reaches_decision s h ≡ true
         whole-goes = by-rules ∙ asked-goes forcing h _ _ a (asked_is ∙ e)
 

@@ -10,8 +10,6 @@ use borrow.Author.Tests.{ltb-false}
 use Rattle.octets.proofs.Choices.{cases, cond-elim}
 use Rattle.engine.specs.declared.Config.{Config}
 use Rattle.header.specs.declared.Header.{Header}
-use Rattle.request.specs.declared.Gate.{Gate}
-use Rattle.request.specs.declared.Gate.TheVariants.{Stop, Whole}
 use Rattle.request.proofs.Gated.{no_stop, whole-frame}
 use Rattle.document.specs.declared.Head.{Head}
 use Rattle.effects.specs.declared.Reply.{Reply}
@@ -19,12 +17,11 @@ use Rattle.effects.specs.declared.Reply.TheVariants.{Bare, Found, Counted, Versi
 use Rattle.document.specs.Head.{at_clock}
 use Rattle.commands.specs.declared.Instruction.{Instruction}
 use Rattle.commands.specs.Writes.{is_mutation}
-use Rattle.decision.specs.declared.Decision.{Decision}
+use Rattle.decision.specs.Decision.{Decision}
 use Rattle.decision.specs.Decide.{instruction_of}
 use Rattle.decode.specs.Decode.{bare_value}
-use Rattle.request.specs.Reading.{bytes_in, key_span}
-use Rattle.serving.specs.declared.Served.TheVariants.{Refused, Done}
-use Rattle.serving.specs.Serve.{reaches_decision, asked_of}
+use Rattle.request.specs.Reading.{Gate, Stop, Whole, bytes_in, key_span}
+use Rattle.serving.specs.Serve.{Refused, Done, reaches_decision, asked_of}
 use Rattle.serving.specs.Reply.{body_of}
 use Rattle.table.specs.Calls.{lookup_of, keys_for}
 use Rattle.reply.specs.Fitting.{unfit, fitting_reply}

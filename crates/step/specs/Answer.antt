@@ -6,7 +6,7 @@ use Rattle.header.specs.declared.Header.{Header}
 use Rattle.document.specs.Documents.{Key}
 use Rattle.effects.specs.declared.Reply.{Reply}
 use Rattle.effects.specs.declared.Reply.TheVariants.{Bare, Found, Counted, Version as VersionReply, Keys}
-use Rattle.decision.specs.declared.Decision.{Decision}
+use Rattle.decision.specs.Decision.{Decision}
 use Rattle.table.specs.Calls.{keys_for}
 use Rattle.serving.specs.Reply.{reply_bytes}
 use Rattle.reply.specs.Fitting.{fitting_reply}

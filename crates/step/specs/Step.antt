@@ -6,26 +6,21 @@ use Rattle.octets.specs.BigEndian.{bytes_of}
 use Rattle.numbers.specs.Expiry.{later}
 use Rattle.header.specs.declared.Header.{Header}
 use Rattle.header.specs.Header.{header_bytes}
-use Rattle.request.specs.declared.Gate.{Gate}
-use Rattle.request.specs.declared.Gate.TheVariants.{Stop, Whole}
-use Rattle.request.specs.Reading.{gate_of, frame_status, bytes_in, key_span}
+use Rattle.request.specs.Reading.{Gate, Stop, Whole, gate_of, frame_status, bytes_in, key_span}
 use Rattle.document.specs.Documents.{Key}
 use Rattle.document.specs.declared.Head.{Head}
 use Rattle.document.specs.Head.{at_clock}
 use Rattle.digits.specs.Decimal.{number_of}
 use Rattle.commands.specs.declared.Instruction.{Instruction}
 use Rattle.commands.specs.Writes.{is_mutation}
-use Rattle.decision.specs.declared.Decision.{Decision}
-use Rattle.decision.specs.Decision.{decision}
+use Rattle.decision.specs.Decision.{Decision, decision}
 use Rattle.decision.specs.Decide.{instruction_of}
 use Rattle.decode.specs.Decode.{bare_value}
 use Rattle.engine.specs.declared.Config.{Config}
 use Rattle.table.specs.declared.Lookup.{Lookup}
 use Rattle.table.specs.Calls.{has_place, lookup_of}
 use Rattle.reply.specs.Fitting.{bare_header}
-use Rattle.serving.specs.declared.Served.{Served}
-use Rattle.serving.specs.declared.Served.TheVariants.{Refused, Done}
-use Rattle.serving.specs.Serve.{reaches_decision, asked_of}
+use Rattle.serving.specs.Serve.{Served, Refused, Done, reaches_decision, asked_of}
 use Rattle.step.specs.Answer.{reply_to}
 use Rattle.step.specs.Change.{changed_by}
 

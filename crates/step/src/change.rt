@@ -5,7 +5,7 @@ ghost use Rattle.document.specs.Stored.{entry_of};
 ghost use Rattle.table.specs.Calls.{stored_by};
 ghost use Rattle.step.specs.Change.{stored_from, changed_by};
 
-use document::{Metadata, Side, Stored};
+use document::{Metadata, Side};
 use effects::{Done, Source};
 use engine::Config;
 use table::Lookup;
@@ -45,14 +45,11 @@ fn store_from(
 pub(crate) fn change(config: Config, b: &mut [u8], l: Lookup, key: &[u8], d: Done, value: &[u8])
     ensures { b.new ≡ changed_by config b.old l key.now d value.now }
 {
-    let store = d.store;
-    let source = d.source;
-    let head = d.head;
-    match store {
-        Stored::Used(m) => {
-            row_writer::put_head(b, head);
-            store_from(config, b, l, key, m, source, value);
+    match d.store {
+        Some(m) => {
+            row_writer::put_head(b, d.head);
+            store_from(config, b, l, key, m, d.source, value);
         }
-        Stored::Nothing => row_writer::put_clock(b, head.clock),
+        None => row_writer::put_clock(b, d.head.clock),
     }
 }

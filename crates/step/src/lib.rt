@@ -4,44 +4,41 @@
 
 mod change;
 
-ghost use Rattle.std.specs.Prelude.{◌≡◌, true, ◌+◌, ◌≤◌, length};
+ghost use Rattle.std.specs.Prelude.{◌≡◌, true, ◌+◌, ◌≤◌, length, Ok};
+ghost use Rattle.outcome.specs.Outcome.{status_number};
 ghost use Rattle.octets.specs.Parts.{part};
-ghost use Rattle.shape.specs.Shapes.{shape_of};
+ghost use Rattle.shape.specs.Shapes.{shape_told, shape_of};
 ghost use Rattle.rules.specs.Rules.{form_status};
 ghost use Rattle.request.specs.Reading.{bytes_in, key_span};
 ghost use Rattle.decision.specs.Decide.{instruction_of};
 ghost use Rattle.decode.specs.Decode.{bare_value};
-ghost use Rattle.serving.specs.Serve.{reaches_decision, asked_of};
+ghost use Rattle.decision.specs.Decision.{decision_told};
+ghost use Rattle.serving.specs.Serve.{served_told, reaches_decision, asked_of};
 ghost use Rattle.step.specs.Answer.{keys_reply, reply_to, ReplyWritten};
 ghost use Rattle.step.specs.Step.{decided_by, refused_step, asked_step, frame_step, step_of, Steps};
 
 use commands::{Context, Instruction};
 use decision::Decision;
-use decode::Decoded;
 use document::Head;
 use effects::Reply;
 use engine::Config;
 use header::Header;
-use request::Gate;
+use outcome::{Refusal, Status};
 use serving::{ROOM, Served};
 use shape::Shape;
 use table::Lookup;
 
 // The decision on a request, from what was found for its key. old: the stored value.
 fn decided(head: Head, clock: u32, l: Lookup, old: &[u8], ask: Instruction) -> Decision
-    ensures { result ≡ decided_by head clock l old.now ask }
+    ensures { decision_told result ≡ decided_by head clock l old.now ask }
 {
-    let row = l.stored;
-    let place = l.place;
-    let free = table::has_place(place);
-    let number = digits::parse(old);
     decision::decide(
         Context {
             head,
-            row,
-            free,
+            row: l.stored,
+            free: table::has_place(l.place),
             clock,
-            number,
+            number: digits::parse(old),
             size: old.len(),
         },
         ask,
@@ -60,15 +57,14 @@ fn put_listing(
     out: &mut [u8],
 ) -> usize
     requires { (1302 ≤ length out.old) × (d.done.reply ≡ Reply.Keys count) }
-    ensures { ReplyWritten (keys_reply config (length out.old) b.now clock h d start.now count) out.old result out.new }
+    ensures { ReplyWritten (keys_reply config (length out.old) b.now clock h (decision_told d) start.now count) out.old result out.new }
 {
     if d.silent {
         return 0;
     }
     let n = table::put_keys(config, b, clock, start, count, out);
-    let done = d.done;
-    let cas = done.cas;
-    reply::put_value_header(out, h.opcode, h.opaque, d.status, n as u32, cas);
+    let status = outcome::status_of(d.status);
+    reply::put_value_header(out, h.opcode, h.opaque, status, n as u32, d.done.cas);
     24 + n
 }
 
@@ -84,11 +80,9 @@ fn put_answer(
     out: &mut [u8],
 ) -> usize
     requires { 1302 ≤ length out.old }
-    ensures { ReplyWritten (reply_to config (length out.old) b.now clock h d key.now old.now) out.old result out.new }
+    ensures { ReplyWritten (reply_to config (length out.old) b.now clock h (decision_told d) key.now old.now) out.old result out.new }
 {
-    let done = d.done;
-    let reply = done.reply;
-    match reply {
+    match d.done.reply {
         Reply::Keys(count) => put_listing(config, b, clock, h, d, key, count, out),
         _ => reply::put_reply(out, h.opcode, h.opaque, d, key, old),
     }
@@ -108,29 +102,40 @@ fn serve_asked(
 ) -> Served
     requires { 1302 ≤ length out.old }
     ensures { Steps (asked_step config b.old head clock h ask key.now (part value.now 0 ask.size) out.old)
-        result b.new out.new }
+        (served_told (Ok result)) b.new out.new }
 {
-    let command = ask.command;
-    let l = table::find(config, b, key, commands::writes(command));
-    let size = ask.size;
+    let l = table::find(config, b, key, commands::writes(ask.command));
     let old = octets::part(b, l.at, l.len);
     let now = document::at_clock(head, clock);
     let d = decided(now, now.clock, l, old, ask);
-    let n = put_answer(config, b, now.clock, h, d, key, old, out);
-    let done = d.done;
-    change::change(config, b, l, key, done, octets::part(value, 0, size));
+    let reply = put_answer(config, b, now.clock, h, d, key, old, out);
+    change::change(config, b, l, key, d.done, octets::part(value, 0, ask.size));
     let frame = header::layout_of(h);
-    Served::Done(d.status, frame.end, n)
+    Served {
+        status: d.status,
+        used: frame.end,
+        reply,
+    }
 }
 
 // Answers a frame whose status the reader gives: a bare header, and nothing stored but the clock.
-fn refused(b: &mut [u8], head: Head, clock: u32, h: Header, status: u8, out: &mut [u8]) -> Served
-    ensures { Steps (refused_step b.old head clock h out.old status) result b.new out.new }
+fn refused(
+    b: &mut [u8],
+    head: Head,
+    clock: u32,
+    h: Header,
+    status: Status,
+    out: &mut [u8],
+) -> Served
+    ensures { Steps (refused_step b.old head clock h out.old (status_number status)) (served_told (Ok result)) b.new out.new }
 {
-    reply::put_bare(out, h.opcode, h.opaque, status);
+    reply::put_bare(out, h.opcode, h.opaque, status.number());
     row_writer::put_clock(b, numbers::later(head.clock, clock));
-    let frame = header::layout_of(h);
-    Served::Done(status, frame.end, 24)
+    Served {
+        status: Err(status),
+        used: header::layout_of(h).end,
+        reply: 24,
+    }
 }
 
 // A frame whose lengths are right: its parts are cut out, and then its fields are judged.
@@ -145,21 +150,16 @@ fn serve_parts(
     out: &mut [u8],
 ) -> Served
     requires in_bounds { 1302 ≤ length out.old }
-    requires shape_value { (shape ≡ shape_of h.opcode) × ((form_status shape h ≡ 0) × (24 + h.body ≤ length s.now)) }
-    ensures { Steps (frame_step config b.old head clock s.now h out.old) result b.new out.new }
+    requires shape_value { (shape_told shape ≡ shape_of h.opcode) × ((form_status (shape_told shape) h ≡ 0) × (24 + h.body ≤ length s.now)) }
+    ensures { Steps (frame_step config b.old head clock s.now h out.old) (served_told (Ok result)) b.new out.new }
 {
     let l = header::layout_of(h);
-    let start = l.extras;
-    let a = l.key;
-    let k = l.value;
-    let end = l.end;
-    let extras = &s[start..a];
-    let key = &s[a..k];
-    let value = &s[k..end];
-    let forcing = config.forcing;
-    match decode::decoded_by(forcing, shape, h, extras, value) {
-        Decoded::Broken => refused(b, head, clock, h, 0x04, out),
-        Decoded::Whole(ask) => serve_asked(config, b, head, clock, h, ask, key, value, out),
+    let extras = &s[l.extras..l.key];
+    let key = &s[l.key..l.value];
+    let value = &s[l.value..l.end];
+    match decode::decoded_by(config.forcing, shape, h, extras, value) {
+        None => refused(b, head, clock, h, Status::Invalid, out),
+        Some(ask) => serve_asked(config, b, head, clock, h, ask, key, value, out),
     }
 }
 
@@ -173,14 +173,13 @@ fn serve_whole(
     out: &mut [u8],
 ) -> Served
     requires { (1302 ≤ length out.old) × (24 + h.body ≤ length s.now) }
-    ensures { Steps (frame_step config b.old head clock s.now h out.old) result b.new out.new }
+    ensures { Steps (frame_step config b.old head clock s.now h out.old) (served_told (Ok result)) b.new out.new }
 {
     let shape = shape::shape_of(h.opcode);
-    let status = rules::form_status(shape, h);
-    if status == 0 {
-        return serve_parts(config, b, head, clock, s, h, shape, out);
+    match rules::form_status(shape, h) {
+        Ok(()) => serve_parts(config, b, head, clock, s, h, shape, out),
+        Err(status) => refused(b, head, clock, h, status, out),
     }
-    refused(b, head, clock, h, status, out)
 }
 
 // Serves the request at the start of the received bytes, on memory that its caller knows to be a table that is not damaged, with this head:
@@ -192,14 +191,12 @@ pub fn step(
     clock: u32,
     s: &[u8],
     out: &mut [u8],
-) -> Served
-    ensures { Steps (step_of config b.old head clock s.now out.old) result b.new out.new }
+) -> Result<Served, Refusal>
+    ensures { Steps (step_of config b.old head clock s.now out.old) (served_told result) b.new out.new }
 {
     if out.len() < ROOM {
-        return Served::Refused(4, 0);
+        return Err(Refusal::NoRoom);
     }
-    match request::gate_of(s) {
-        Gate::Stop(outcome, needed) => Served::Refused(outcome, needed),
-        Gate::Whole(h) => serve_whole(config, b, head, clock, s, h, out),
-    }
+    let h = request::gate_of(s)?;
+    Ok(serve_whole(config, b, head, clock, s, h, out))
 }

@@ -37,11 +37,13 @@
 mod calls;
 mod frames;
 mod show;
-mod text;
+mod store;
 
 use engine::Config;
+use store::{Store, decimals};
 use tally::Tally;
-use text::Given;
+use vector_text::parts::{cut, lines, words};
+use vector_text::show::text;
 
 // The engine, how much of the memory and of the reply area is lent, and the counts.
 #[derive(Clone, Copy)]
@@ -52,223 +54,69 @@ struct Lent {
     tally: Tally,
 }
 
-// Whether a line names an engine.
-fn is_engine(word: &[u8], rest: &[u8]) -> bool {
-    compare::same(word, b"engine")
-        & (compare::same(rest, b"plain") | compare::same(rest, b"ordered"))
+// The first number of those that a line gives, 0 where it is none: make and lend lend so much even where the line is wrong otherwise.
+fn first_number(given: &[u8]) -> usize {
+    words(given).next().and_then(digits::parse).unwrap_or(0) as usize
 }
 
 // What a line finds lent: engine names another one, make and lend a new size, room and tally a new room or counts.
-fn lent_for(word: &[u8], rest: &[u8], g: Given, l: Lent) -> Lent {
-    let n = g.numbers;
-    let config = l.config;
-    let tally = l.tally;
-    if is_engine(word, rest) {
-        return Lent {
-            config: engine::config_for(compare::same(rest, b"plain")),
-            size: l.size,
-            room: l.room,
-            tally,
-        };
-    }
-    if compare::same(word, b"make") | compare::same(word, b"lend") {
-        return Lent {
-            config,
-            size: n[0] as usize,
-            room: l.room,
-            tally,
-        };
-    }
-    if compare::same(word, b"room") & (g.count == 1) {
-        return Lent {
-            config,
-            size: l.size,
-            room: n[0] as usize,
-            tally,
-        };
-    }
-    if compare::same(word, b"tally") & (g.count == 3) {
-        return Lent {
-            config,
-            size: l.size,
-            room: l.room,
-            tally: frames::tally_of(g),
-        };
-    }
-    l
+fn lent_for(word: &[u8], rest: &[u8], given: &[u8], lent: Lent) -> Option<Lent> {
+    let changed = match word {
+        b"engine" => Lent {
+            config: store::config_named(rest)?,
+            ..lent
+        },
+        b"make" | b"lend" => Lent {
+            size: first_number(given),
+            ..lent
+        },
+        b"room" => {
+            let [room] = decimals::<1>(given)?;
+            Lent {
+                room: room as usize,
+                ..lent
+            }
+        }
+        b"tally" => {
+            let [served, refused, silent] = decimals::<3>(given)?;
+            let tally = Tally {
+                served,
+                refused,
+                silent,
+            };
+            Lent { tally, ..lent }
+        }
+        _ => lent,
+    };
+    Some(changed)
 }
 
-// Answers the owner's calls that need no more than their numbers, and says whether the line is one of them.
-fn is_bare_call(config: Config, word: &[u8], g: Given, s: &mut [u8]) -> bool {
-    if compare::same(word, b"size") & (g.count == 1) {
-        calls::size(g);
-        return true;
-    }
-    if compare::same(word, b"make") & (g.count == 5) {
-        calls::make(g, s);
-        return true;
-    }
-    if compare::same(word, b"lend") & (g.count == 1) {
-        show::decimal(b"lent ", s.len() as u64);
-        return true;
-    }
-    if compare::same(word, b"dump") & (g.count == 2) {
-        calls::dump(g, s);
-        return true;
-    }
-    if compare::same(word, b"sound") & (g.count == 0) {
-        calls::sound(config, s);
-        return true;
-    }
-    if compare::same(word, b"purge") & (g.count == 2) {
-        calls::purge(config, g, s);
-        return true;
-    }
-    if compare::same(word, b"activate") & (g.count == 0) {
-        calls::activate(config, s);
-        return true;
-    }
-    false
-}
-
-// Answers a line about the engine, the reply area or the counts, and says whether the line is one.
-fn is_setting(word: &[u8], rest: &[u8], g: Given, room: usize, t: Tally) -> bool {
-    if is_engine(word, rest) {
-        show::text(b"engine ");
-        show::text(rest);
-        return true;
-    }
-    if compare::same(word, b"room") & (g.count == 1) {
-        show::decimal(b"room ", room as u64);
-        return true;
-    }
-    if compare::same(word, b"tally") & ((g.count == 0) | (g.count == 3)) {
-        frames::counts(t);
-        return true;
-    }
-    false
-}
-
-// Answers the owner's calls that take bytes, which stand after the line's first slash, and says whether the line is one of
-// them. The space is for the bytes.
-fn is_call(
-    config: Config,
-    word: &[u8],
-    g: Given,
-    spelled: &[u8],
-    s: &mut [u8],
-    space: &mut [u8],
-) -> bool {
-    if compare::same(word, b"poke") & (g.count == 1) {
-        calls::poke(g, spelled, s, space);
-        return true;
-    }
-    if compare::same(word, b"store") & (g.count == 6) {
-        calls::store(config, g, spelled, s, space);
-        return true;
-    }
-    if compare::same(word, b"read") & (g.count == 1) {
-        calls::read(config, g, spelled, s, space);
-        return true;
-    }
-    false
-}
-
-// Answers a line that serves, or one that can't be understood.
-fn answer_frames(
-    config: Config,
-    word: &[u8],
-    g: Given,
-    spelled: &[u8],
-    s: &mut [u8],
-    out: &mut [u8],
-    space: &mut [u8],
-    t: Tally,
-) -> Tally {
-    if compare::same(word, b"serve") & (g.count == 1) {
-        return frames::serve(config, g, spelled, s, out, space, t);
-    }
-    if compare::same(word, b"run") & (g.count == 1) {
-        return frames::run(config, g, spelled, s, out, space, t);
-    }
-    show::text(b"what?");
-    t
-}
-
-fn answer_call(
-    config: Config,
-    word: &[u8],
-    g: Given,
-    rest: &[u8],
-    s: &mut [u8],
-    out: &mut [u8],
-    space: &mut [u8],
-    t: Tally,
-) -> Tally {
-    if is_setting(word, rest, g, out.len(), t) {
-        return t;
-    }
-    if is_bare_call(config, word, g, s) {
-        show::table(s);
-        return t;
-    }
-    let spelled = text::after(rest, b'/');
-    if is_call(config, word, g, spelled, s, space) {
-        show::table(s);
-        return t;
-    }
-    answer_frames(config, word, g, spelled, s, out, space, t)
-}
-
-// Answers a line, and hands on what the next one finds lent.
+// Answers a line, and hands on what the next one finds lent: nothing else where the line asks for more than there is.
 fn answer_line(
     line: &[u8],
     memory: &mut [u8],
     area: &mut [u8],
     space: &mut [u8],
     before: Lent,
-) -> Lent {
-    if (line.len() == 0) | (octets::byte(line, 0) == b'#') {
-        show::text(line);
-        return before;
+) -> Option<Lent> {
+    let (word, rest) = cut(line, b' ');
+    let (given, spelled) = cut(rest, b'/');
+    let lent = lent_for(word, rest, given, before).unwrap_or(before);
+    let mut store = Store {
+        config: lent.config,
+        table: memory.get_mut(..lent.size)?,
+        replies: area.get_mut(..lent.room)?,
+        tally: lent.tally,
+    };
+    if store.answer(word, rest, given, spelled, space).is_none() {
+        text(b"what?");
     }
-    let word = text::before(line, b' ');
-    let rest = text::after(line, b' ');
-    let g = text::numbers(text::before(rest, b'/'));
-    let d = lent_for(word, rest, g, before);
-    let config = d.config;
-    let size = d.size;
-    let room = d.room;
-    if memory.len() < size {
-        show::text(b"what?");
-        return before;
-    }
-    if area.len() < room {
-        show::text(b"what?");
-        return before;
-    }
-    let t = d.tally;
-    let tally = answer_call(
-        config,
-        word,
-        g,
-        rest,
-        &mut memory[..size],
-        &mut area[..room],
-        space,
-        t,
-    );
-    Lent {
-        config,
-        size,
-        room,
-        tally,
-    }
+    let tally = store.tally;
+    Some(Lent { tally, ..lent })
 }
 
 fn answer_lines(input: &[u8], memory: &mut [u8], area: &mut [u8], space: &mut [u8]) {
-    let mut at: usize = 0;
-    let mut d = Lent {
+    let mut lent = Lent {
         config: engine::config_for(false),
         size: 0,
         room: 1302,
@@ -278,14 +126,15 @@ fn answer_lines(input: &[u8], memory: &mut [u8], area: &mut [u8], space: &mut [u
             silent: 0,
         },
     };
-    while at < input.len() {
-        let line = text::before(octets::rest(input, at), b'\n');
-        d = answer_line(line, memory, area, space, d);
-        show::text(b"\n");
-        if input.len() - at <= line.len() {
-            return;
+    for line in lines(input) {
+        if line.is_empty() || line.starts_with(b"#") {
+            text(line);
+        } else if let Some(next) = answer_line(line, memory, area, space, lent) {
+            lent = next;
+        } else {
+            text(b"what?");
         }
-        at += line.len() + 1;
+        text(b"\n");
     }
 }
 

@@ -8,7 +8,7 @@ use lib.ListN.{length, drop}
 use borrow.Author.Tests.{le-leb}
 use Rattle.octets.proofs.Choices.{cases, both}
 use Rattle.document.specs.declared.Head.{Head}
-use Rattle.engine.specs.declared.Checked.TheVariants.{Damaged, Sound}
+use Rattle.std.specs.Prelude.{Some, None}
 use Rattle.engine.specs.declared.Config.{Config}
 use Rattle.engine.specs.declared.EngineKind.{EngineKind}
 use Rattle.engine.specs.declared.EngineKind.TheVariants.{Plain, Ordered}
@@ -55,20 +55,20 @@ module _ (config : Config) (b : List ℕ) (keyed : Bool) (k : keyed ≡ is_order
   unfolding sound_by
   by-walk = sound-is config.engine b ∙ ap (λ (x : Bool). rows_ok x b && (x || keys_distinct b)) (sym k)
 
-  pub walk-damaged : checked_rows keyed b ≡ Damaged → Damaged ≡ checked_by config b
+  pub walk-damaged : checked_rows keyed b ≡ None → None ≡ checked_by config b
   unfolding checked_by
   walk-damaged e = rw (by-walk, rows-damaged keyed b e)
 
   -- the walk found no damage
-  module _ (h : Head) (e : checked_rows keyed b ≡ Sound h) where
-    pub keyed-sound : keyed ≡ true → Sound h ≡ checked_by config b
+  module _ (h : Head) (e : checked_rows keyed b ≡ Some h) where
+    pub keyed-sound : keyed ≡ true → Some h ≡ checked_by config b
     unfolding checked_by
-    keyed-sound t = let w = rows-sound keyed b h e in rw (by-walk, w.0, t) (ap Sound w.1)
+    keyed-sound t = let w = rows-sound keyed b h e in rw (by-walk, w.0, t) (ap Some w.1)
 
-    pub keys-equal : keyed ≡ false → keys_distinct b ≡ false → Damaged ≡ checked_by config b
+    pub keys-equal : keyed ≡ false → keys_distinct b ≡ false → None ≡ checked_by config b
     unfolding checked_by
     keys-equal t d = rw (by-walk, (rows-sound keyed b h e).0, t, d)
 
-    pub keys-differ : keyed ≡ false → keys_distinct b ≡ true → Sound h ≡ checked_by config b
+    pub keys-differ : keyed ≡ false → keys_distinct b ≡ true → Some h ≡ checked_by config b
     unfolding checked_by
-    keys-differ t d = let w = rows-sound keyed b h e in rw (by-walk, w.0, t, d) (ap Sound w.1)
+    keys-differ t d = let w = rows-sound keyed b h e in rw (by-walk, w.0, t, d) (ap Some w.1)

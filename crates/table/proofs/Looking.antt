@@ -4,7 +4,7 @@ use native.Mathlib.Omega.{arith}
 use mathlib.Core.Path.{◌≡◌, refl, sym, ap, ◌∙◌, subst}
 use mathlib.Core.Bool.{Bool, true, cond, not, ◌&&◌, ◌||◌}
 use mathlib.Core.List.{List, [], ◌∷◌}
-use mathlib.Core.Option.{Option, none, some}
+use Rattle.std.specs.Prelude.{Option, Some, None}
 use lib.Dec.{ltb, eqb}
 use lib.ListN.{length}
 use borrow.Author.Tests.{eqb-true, not-true}
@@ -13,14 +13,12 @@ use Rattle.octets.specs.Compare.{same}
 use Rattle.octets.proofs.Choices.{cases, both}
 use Rattle.document.specs.Documents.{Key, Doc, doc_value}
 use Rattle.document.specs.Stored.{stored_of, has_row}
-use Rattle.document.specs.declared.Stored.TheVariants.{Nothing as NoRow}
 use Rattle.engine.specs.declared.Config.{Config}
 use Rattle.engine.specs.declared.Place.{Place}
 use Rattle.engine.specs.declared.Place.TheVariants.{Into, Full}
 use Rattle.rows.specs.Row.{Row}
 use Rattle.rows.specs.Table.{Table, table_of, table_bytes}
 use Rattle.rows.specs.Find.{free_rows, value_place}
-use Rattle.plain.specs.declared.Found.TheVariants.{At, Nothing}
 use Rattle.plain.specs.Lookup.{find_in}
 use Rattle.plain.proofs.Places.{founds, nothing-at, find-place, find-nothing}
 use Rattle.plain.proofs.TableLaws.{table-length, good-sound}
@@ -33,29 +31,29 @@ use Rattle.table.proofs.Rows.{over, entry-good, over-at, value-at}
 use Rattle.table.proofs.Engines.{gap, new_at, found_in, absent-in}
 
 -- where the value of a found row stands
-place-from : (key : Key) (k i at : ℕ) (ws : List Row) → find_in key k ws ≡ At i → (j : ℕ) × ((i ≡ k + j) × (value_place ws key at ≡ at + j * 1312 + (32 + length key)))
+place-from : (key : Key) (k i at : ℕ) (ws : List Row) → find_in key k ws ≡ Some i → (j : ℕ) × ((i ≡ k + j) × (value_place ws key at ≡ at + j * 1312 + (32 + length key)))
 place-from key k i at [] e = nothing-at i e
-place-from key k i at (none ∷ ws) e = let h = place-from key (k + 1) i (at + 1312) ws e in (suc h.0, (omega (arith, h.1.0), omega (arith, h.1.1)))
-place-from key k i at (some x ∷ ws) e =
+place-from key k i at (None ∷ ws) e = let h = place-from key (k + 1) i (at + 1312) ws e in (suc h.0, (omega (arith, h.1.0), omega (arith, h.1.1)))
+place-from key k i at (Some x ∷ ws) e =
     cases (same x.key key)
     (λ s. let z : k ≡ i = at_same k i (rw s at e) in (0, (omega arith, rw s (omega arith))))
     (λ s.
     let h = place-from key (k + 1) i (at + 1312) ws (rw s at e) in
     (suc h.0, (omega (arith, h.1.0), rw s (omega (arith, h.1.1)))))
   where
-    at_same : (k i : ℕ) → At k ≡ At i → k ≡ i
+    at_same : (k i : ℕ) → Some k ≡ Some i → k ≡ i
     at_same k i e = cc
 
-place-nowhere : (key : Key) (k at : ℕ) (ws : List Row) → find_in key k ws ≡ Nothing → value_place ws key at ≡ 0
+place-nowhere : (key : Key) (k at : ℕ) (ws : List Row) → find_in key k ws ≡ None → value_place ws key at ≡ 0
 place-nowhere key k at [] e = refl
-place-nowhere key k at (none ∷ ws) e = place-nowhere key (k + 1) (at + 1312) ws e
-place-nowhere key k at (some x ∷ ws) e =
+place-nowhere key k at (None ∷ ws) e = place-nowhere key (k + 1) (at + 1312) ws e
+place-nowhere key k at (Some x ∷ ws) e =
     cases (same x.key key)
     (λ s. nothing-at k (sym (rw s at e)))
     (λ s. rw s (place-nowhere key (k + 1) (at + 1312) ws (rw s at e)))
 
 abbrev pub absent_at : Place → Lookup
-absent_at p = record { place = p; stored = NoRow; at = 0; len = 0 }
+absent_at p = record { place = p; stored = None; at = 0; len = 0 }
 
 module _ (room : Bool) (i : ℕ) where
   absent-at : (b : List ℕ) (k : ℕ) → lookup_at b k (cond room (Into i) Full) ≡ absent_at (cond room (Into i) Full)
@@ -72,7 +70,7 @@ module _ (config : Config) (t : Table) (g : GoodBy config t) (key : Key) (new : 
   place = place_for config new key (table_of b).rows
 
   -- rows have keys of a byte at least
-  keyless : eqb (length key) 0 ≡ true → find_in key 0 t.rows ≡ Nothing
+  keyless : eqb (length key) 0 ≡ true → find_in key 0 t.rows ≡ None
   keyless e =
       founds (find_in key 0 t.rows)
       (λ i f.
@@ -94,7 +92,7 @@ module _ (config : Config) (t : Table) (g : GoodBy config t) (key : Key) (new : 
   place-rows = ap (λ (x : Table). place_for config new key x.rows) (good-sound t g.good).1 ∙ place-with
 
   -- the key has a row
-  pub found-lookup : (i : ℕ) (f : find_in key 0 t.rows ≡ At i) → lookup_of config new b key ≡ over (length key) i (find-place key t.rows i f).entry
+  pub found-lookup : (i : ℕ) (f : find_in key 0 t.rows ≡ Some i) → lookup_of config new b key ≡ over (length key) i (find-place key t.rows i f).entry
   unfolding lookup_of
   found-lookup i f =
       let h = find-place key t.rows i f in
@@ -102,7 +100,7 @@ module _ (config : Config) (t : Table) (g : GoodBy config t) (key : Key) (new : 
       ∙ over-at t g.good i h.entry h.below h.there (length key)
 
   -- it has none
-  pub absent-lookup : find_in key 0 t.rows ≡ Nothing → lookup_of config new b key ≡ absent_at (gap config.engine new key t.rows)
+  pub absent-lookup : find_in key 0 t.rows ≡ None → lookup_of config new b key ≡ absent_at (gap config.engine new key t.rows)
   unfolding lookup_of
   absent-lookup f =
       ap (lookup_at b (length key)) (place-rows ∙ absent-in t g.good key new config.engine g.kept f)

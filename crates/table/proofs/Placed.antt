@@ -4,7 +4,7 @@ use native.Mathlib.Omega.{arith}
 use mathlib.Core.Path.{◌≡◌, sym, ap, ◌∙◌}
 use mathlib.Core.Bool.{Bool, not, ◌&&◌}
 use mathlib.Core.List.{List}
-use mathlib.Core.Option.{none, some}
+use Rattle.std.specs.Prelude.{Some, None}
 use lib.Dec.{eqb}
 use lib.ListN.{length, get_or}
 use Rattle.octets.specs.Parts.{part}
@@ -12,7 +12,6 @@ use Rattle.octets.proofs.Choices.{cond-elim}
 use Rattle.document.specs.Documents.{Key, Entry}
 use Rattle.document.specs.Stored.{metadata_of}
 use Rattle.document.specs.declared.Metadata.{Metadata}
-use Rattle.document.specs.declared.Stored.TheVariants.{Used}
 use Rattle.engine.specs.declared.Config.{Config}
 use Rattle.engine.specs.declared.EngineKind.{EngineKind}
 use Rattle.engine.specs.declared.EngineKind.TheVariants.{Plain, Ordered}
@@ -30,7 +29,7 @@ use Rattle.table.specs.Calls.{lookup_over, lookup_at, place_with, place_for, loo
 
 -- the row that a document goes over is there and has its key, whatever the rows
 abbrev Keyed : Key → List Row → ℕ → Type 0
-Keyed key ws i = (i < length ws) × ((e : Entry) × ((get_or ws i none ≡ some e) × (e.key ≡ key)))
+Keyed key ws i = (i < length ws) × ((e : Entry) × ((get_or ws i None ≡ Some e) × (e.key ≡ key)))
 
 over-in : (k : EngineKind) (key : Key) (ws : List Row) (new : Bool) (i : ℕ) → place_with k new key ws ≡ Over i → Keyed key ws i
 over-in Plain key ws new i e = let h = find-place key ws i (over-found key ws new i e) in (h.below, (h.entry, (h.there, h.named)))
@@ -57,13 +56,13 @@ module _ (config : Config) (b : List ℕ) (key : Key) (new : Bool) (i : ℕ) (e 
 
 -- what is read of the row
 pub row-held : (b r : List ℕ) (k i vallen : ℕ) (m : Metadata) → i < row_count b → r ≡ part b (16 + i * 1312) 1312 → m ≡ metadata_of (doc_of r) → vallen ≡ (slot_of r).vallen
-    → ◌≡◌ {A = Lookup} (record { place = Over i; stored = Used m; at = 16 + i * 1312 + (32 + k); len = vallen }) (lookup_over b k i)
+    → ◌≡◌ {A = Lookup} (record { place = Over i; stored = Some m; at = 16 + i * 1312 + (32 + k); len = vallen }) (lookup_over b k i)
 unfolding lookup_over
 row-held b r k i vallen m h e p q =
     let f : r ≡ row_at b i = e ∙ sym (row-there b i h) in
     λ j. record {
       place = Over i;
-      stored = Used ((p ∙ ap (λ (x : List ℕ). metadata_of (doc_of x)) f) j);
+      stored = Some ((p ∙ ap (λ (x : List ℕ). metadata_of (doc_of x)) f) j);
       at = 16 + i * 1312 + (32 + k);
       len = (q ∙ ap (λ (x : List ℕ). (slot_of x).vallen) f) j;
     }

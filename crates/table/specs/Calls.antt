@@ -1,10 +1,9 @@
 -- For the code alone: what a lookup gives and a store leaves, by places, on any memory. What they mean on a table that is not damaged is in Claims.antt.
-use Rattle.std.specs.Prelude.{ℕ, ◌+◌, ◌*◌, Bool, true, false, cond, not, ◌&&◌, List, length, eqb}
+use Rattle.std.specs.Prelude.{ℕ, ◌+◌, ◌*◌, Bool, true, false, cond, not, ◌&&◌, List, length, eqb, Some, None}
 use Rattle.document.specs.declared.Metadata.{Metadata}
 use Rattle.document.specs.declared.Side.{Side}
 use Rattle.document.specs.Documents.{Key, Doc, Entry}
 use Rattle.document.specs.Stored.{metadata_of, entry_of}
-use Rattle.document.specs.declared.Stored.TheVariants.{Nothing as NoRow, Used}
 use Rattle.engine.specs.declared.Config.{Config}
 use Rattle.engine.specs.declared.EngineKind.{EngineKind}
 use Rattle.engine.specs.declared.EngineKind.TheVariants.{Plain, Ordered}
@@ -32,12 +31,12 @@ has_place Full = false
 
 -- what the row at a place holds for a key of k bytes
 unfoldable pub lookup_over : List ℕ → ℕ → ℕ → Lookup
-lookup_over b k i = record { place = Over i; stored = Used (metadata_of (doc_of (row_at b i))); at = 16 + i * 1312 + (32 + k); len = (slot_of (row_at b i)).vallen }
+lookup_over b k i = record { place = Over i; stored = Some (metadata_of (doc_of (row_at b i))); at = 16 + i * 1312 + (32 + k); len = (slot_of (row_at b i)).vallen }
 
 abbrev pub lookup_at : List ℕ → ℕ → Place → Lookup
 lookup_at b k (Over i) = lookup_over b k i
-lookup_at b k (Into i) = record { place = Into i; stored = NoRow; at = 0; len = 0 }
-lookup_at b k Full = record { place = Full; stored = NoRow; at = 0; len = 0 }
+lookup_at b k (Into i) = record { place = Into i; stored = None; at = 0; len = 0 }
+lookup_at b k Full = record { place = Full; stored = None; at = 0; len = 0 }
 
 -- the place of a key's document in either engine; new: whether a place is looked for where the key has no row
 abbrev pub place_with : EngineKind → Bool → Key → List Row → Place

@@ -11,8 +11,8 @@ ghost use Rattle.plain_writer.specs.Change.{freed_rows};
 ghost use Rattle.engines.specs.Damage.{sound_by, checked_by};
 ghost use Rattle.table.specs.Calls.{is_ordered, has_place, lookup_at, place_for, lookup_of, stored_new, stored_by, joined_by, purged_by, keys_for};
 
-use document::{Head, Metadata, Side, Stored};
-use engine::{Checked, Config, EngineKind, Place};
+use document::{Head, Metadata, Side};
+use engine::{Config, EngineKind, Place};
 use numbers::Cas;
 use rows::{FIXED, HEADER, ROW};
 
@@ -22,7 +22,7 @@ pub struct Lookup {
     // where a document for the key is stored
     pub place: Place,
     // what the key's row holds, the value aside
-    pub stored: Stored,
+    pub stored: Option<Metadata>,
     // where its value stands in the table's memory, and its length; both 0 without a row
     pub at: usize,
     pub len: usize,
@@ -39,21 +39,21 @@ fn is_ordered(engine: EngineKind) -> bool
 }
 
 // The head where the memory is a table that is not damaged. One walk for both engines; the keys of plain rows are compared after it.
-pub fn checked(config: Config, b: &[u8]) -> Checked
+pub fn checked(config: Config, b: &[u8]) -> Option<Head>
     ensures { result ≡ checked_by config b.now }
 {
     let engine = config.engine;
     let keyed = is_ordered(engine);
     match row_damage::checked_rows(b, keyed) {
-        Checked::Damaged => Checked::Damaged,
-        Checked::Sound(h) => {
+        None => None,
+        Some(h) => {
             if keyed {
-                return Checked::Sound(h);
+                return Some(h);
             }
             if !plain_damage::is_distinct(b) {
-                return Checked::Damaged;
+                return None;
             }
-            Checked::Sound(h)
+            Some(h)
         }
     }
 }
@@ -63,8 +63,8 @@ pub fn is_sound(config: Config, b: &[u8]) -> bool
     ensures { result ≡ sound_by config b.now }
 {
     match checked(config, b) {
-        Checked::Damaged => false,
-        Checked::Sound(_) => true,
+        None => false,
+        Some(_) => true,
     }
 }
 
@@ -103,7 +103,7 @@ fn held(b: &[u8], k: usize, i: usize) -> Lookup
     let r = &b[at..end];
     Lookup {
         place: Place::Over(i),
-        stored: Stored::Used(rows::row::metadata(r)),
+        stored: Some(rows::row::metadata(r)),
         at: at + (FIXED + k),
         len: octets::be32(r, 4) as usize,
     }
@@ -111,11 +111,11 @@ fn held(b: &[u8], k: usize, i: usize) -> Lookup
 
 // What is found where the key has no row.
 fn absent(place: Place) -> Lookup
-    ensures { result ≡ (record { place = place; stored = Stored.Nothing; at = 0; len = 0 }) }
+    ensures { result ≡ (record { place = place; stored = None; at = 0; len = 0 }) }
 {
     Lookup {
         place,
-        stored: Stored::Nothing,
+        stored: None,
         at: 0,
         len: 0,
     }

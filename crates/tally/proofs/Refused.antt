@@ -1,6 +1,6 @@
 -- A refused call leaves the tally as it was.
 use mathlib.Core.Path.{refl}
-use Rattle.serving.specs.declared.Served.TheVariants.{Refused, Done}
+use Rattle.serving.specs.Serve.{Refused, Done}
 use Rattle.tally.specs.Counts.{counted_of}
 use Rattle.tally.specs.Claims.{TallyRefused}
 

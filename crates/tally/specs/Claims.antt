@@ -1,7 +1,6 @@
 -- "nothing consumed; table, tally, reply unchanged": a refused call counts nowhere, so that a store which counts it as a frame with another status isn't this one.
 use Rattle.std.specs.Prelude.{◌≡◌}
-use Rattle.serving.specs.declared.Served.{Served}
-use Rattle.serving.specs.Serve.{served_outcome}
+use Rattle.serving.specs.Serve.{Served, served_outcome}
 use Rattle.tally.specs.declared.Tally.{Tally}
 use Rattle.tally.specs.Counts.{counted_of}
 

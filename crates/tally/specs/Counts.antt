@@ -1,8 +1,7 @@
 -- "A tally, lent for change, counts frames with status 0, frames with another status, and frames without reply bytes. A count at 2^64 - 1 stays there."
 use Rattle.std.specs.Prelude.{ℕ, Bool, not, cond, eqb}
 use Rattle.numbers.specs.Growth.{next}
-use Rattle.serving.specs.declared.Served.{Served}
-use Rattle.serving.specs.declared.Served.TheVariants.{Refused, Done}
+use Rattle.serving.specs.Serve.{Served, Refused, Done}
 use Rattle.tally.specs.declared.Tally.{Tally}
 
 -- one more where the test holds, but never past 2^64 - 1

@@ -1,7 +1,7 @@
 -- A call of serving that is counted.
 use Rattle.std.specs.Prelude.{ℕ, ◌≡◌, List}
 use Rattle.engine.specs.declared.Config.{Config}
-use Rattle.serving.specs.declared.Served.{Served}
+use Rattle.serving.specs.Serve.{Served}
 use Rattle.serving.specs.Serves.{Serves}
 use Rattle.tally.specs.declared.Tally.{Tally}
 use Rattle.tally.specs.Counts.{counted_of}

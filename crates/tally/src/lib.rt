@@ -2,8 +2,10 @@
 #![tactic(auto)]
 
 ghost use Rattle.std.specs.Prelude.{◌≡◌};
+ghost use Rattle.serving.specs.Serve.{served_told};
 ghost use Rattle.tally.specs.Counts.{more_if, counted_of};
 
+use outcome::Refusal;
 use serving::Served;
 
 #[repr(C)]
@@ -34,29 +36,24 @@ pub fn none() -> Tally
     }
 }
 
-// The counts after an answer.
+// The counts after an answer. A call that was refused counts nowhere.
 #[tactic(auto, unfolding(crate::specs::Counts::counted_of))]
-pub fn counted(t: Tally, r: Served) -> Tally
-    ensures { result ≡ counted_of t r }
+pub fn counted(t: Tally, answer: Result<Served, Refusal>) -> Tally
+    ensures { result ≡ counted_of t (served_told answer) }
 {
-    match r {
-        Served::Done(status, _, len) => {
-            let served = more_if(status == 0, t.served);
-            let refused = more_if(status != 0, t.refused);
-            let silent = more_if(len == 0, t.silent);
-            Tally {
-                served,
-                refused,
-                silent,
-            }
-        }
-        Served::Refused(_, _) => t,
+    let Ok(frame) = answer else {
+        return t;
+    };
+    Tally {
+        served: more_if(frame.status.is_ok(), t.served),
+        refused: more_if(frame.status.is_err(), t.refused),
+        silent: more_if(frame.reply == 0, t.silent),
     }
 }
 
 // Counts one answer.
-pub fn count(t: &mut Tally, r: Served)
-    ensures { t.new ≡ counted_of t.old r }
+pub fn count(t: &mut Tally, answer: Result<Served, Refusal>)
+    ensures { t.new ≡ counted_of t.old (served_told answer) }
 {
-    *t = counted(*t, r);
+    *t = counted(*t, answer);
 }

@@ -1,4 +1,5 @@
 -- The fields of a trace, one by one: a field that isn't broken stands in the bytes that it was read from, and after it come the fields of what is left.
+use Rattle.std.specs.Prelude.{Option, Some, None}
 use native.Mathlib.Omega.{arith}
 use Prim.Native.Nat.{ℕ, zero, suc, ◌+◌, ◌≤◌}
 use mathlib.Core.Path.{◌≡◌, refl, sym, ap}
@@ -10,7 +11,7 @@ use borrow.Author.Tests.{ltb-false, eqb-true}
 use Rattle.octets.specs.BigEndian.{num}
 use Rattle.octets.proofs.Choices.{cases, both}
 use Rattle.trace.specs.declared.Field.{Field}
-use Rattle.trace.specs.declared.Field.TheVariants.{Clock, Frame, Reply, Purge, Rule, Broken}
+use Rattle.trace.specs.declared.Field.TheVariants.{Clock, Frame, Reply, Purge, Rule}
 use Rattle.trace.specs.Trace.{Placed, length_in, rule_by, field_by, field_of, is_rule, field_at, is_broken, placed_at, placed_from, fields_from}
 
 whole-inside : (s : List ℕ) → is_broken (field_of s) ≡ false → 3 + length_in s ≤ length s
@@ -21,7 +22,7 @@ whole-inside s e =
     (λ t. cases (ltb (length s) (3 + length_in s)) (λ u. absurd (false≢true (sym (rw (t, u) at e)))) (λ u. ltb-false _ _ u))
 
 -- a field at a place is the one that stands there, or broken
-pub by_place : (P : Field → Type 0) (at : ℕ) (s : List ℕ) → P Broken → P (field_of s) → P (field_at at s)
+pub by_place : (P : Option Field → Type 0) (at : ℕ) (s : List ℕ) → P None → P (field_of s) → P (field_at at s)
 unfolding field_at
 by_place P at s b f = cases (not (eqb at 3) && is_rule (field_of s)) (λ t. rw t b) (λ t. rw t f)
 
@@ -29,13 +30,13 @@ pub field-inside : (at : ℕ) (s : List ℕ) → is_broken (field_at at s) ≡ f
 field-inside at s = by_place (λ f. is_broken f ≡ false → 3 + length_in s ≤ length s) at s (λ e. absurd (false≢true (sym e))) (whole-inside s)
 
 -- what a field that isn't broken says of its length
-abbrev pub Says : List ℕ → Field → Type 0
-Says s (Clock n) = length_in s ≡ 4
-Says s (Frame len) = length_in s ≡ len
-Says s (Reply len) = length_in s ≡ len
-Says s (Purge bound) = length_in s ≡ 8
-Says s (Rule forcing) = length_in s ≡ 1
-Says s Broken = Unit {0}
+abbrev pub Says : List ℕ → Option Field → Type 0
+Says s (Some (Clock n)) = length_in s ≡ 4
+Says s (Some (Frame len)) = length_in s ≡ len
+Says s (Some (Reply len)) = length_in s ≡ len
+Says s (Some (Purge bound)) = length_in s ≡ 8
+Says s (Some (Rule forcing)) = length_in s ≡ 1
+Says s None = Unit {0}
 
 says-rule : (n : ℕ) (s : List ℕ) → length_in s ≡ 1 → Says s (rule_by n)
 says-rule n s l = cases (eqb n 1) (λ t. rw t l) (λ t. cases (eqb n 2) (λ u. rw (t, u) l) (λ u. rw (t, u) tt))

@@ -15,15 +15,15 @@ pub const OPENING: usize = 3;
 // The bytes of a field before those that it holds: tag and length.
 pub const FRONT: usize = 3;
 
-// No trace that can be replayed, or the mode and the vbucket of its table.
+// How a trace opens: the mode, a number as `owner::make` takes it, and the vbucket of its table.
 #[derive(Clone, Copy)]
-pub enum Opening {
-    Broken,
-    Opened(u8, u16),
+pub struct Opening {
+    pub mode: u8,
+    pub vbucket: u16,
 }
 
-// A clock, a request frame of so many bytes, an expected reply of so many, a purge's bound, the rule of force of the whole trace, by
-// which option 0x01 is taken or not, or what stops a replay.
+// A clock, a request frame of so many bytes, an expected reply of so many, a purge's bound, or the rule of force of the whole trace, by
+// which option 0x01 is taken or not. None where it stands is what stops a replay.
 #[derive(Clone, Copy)]
 pub enum Field {
     Clock(u32),
@@ -31,110 +31,92 @@ pub enum Field {
     Reply(usize),
     Purge(Cas),
     Rule(bool),
-    Broken,
 }
 
-// How a trace opens.
-pub fn opening_of(trace: &[u8]) -> Opening
+// How a trace opens, where it can be replayed.
+pub fn opening_of(trace: &[u8]) -> Option<Opening>
     ensures { result ≡ opening_of trace.now }
 {
     if LONGEST < trace.len() {
-        return Opening::Broken;
+        return None;
     }
     if trace.len() < OPENING {
-        return Opening::Broken;
+        return None;
     }
     let mode = octets::byte(trace, 0);
     if (mode == 1) | (mode == 2) {
-        return Opening::Opened(mode, octets::be16(trace, 1));
+        return Some(Opening {
+            mode,
+            vbucket: octets::be16(trace, 1),
+        });
     }
-    Opening::Broken
+    None
 }
 
 // The rule that a byte names: 1 the old, by which force is taken, 2 the new.
-fn rule_by(n: u8) -> Field
+fn rule_by(n: u8) -> Option<Field>
     ensures { result ≡ rule_by n }
 {
-    if n == 1 {
-        return Field::Rule(true);
+    match n {
+        1 => Some(Field::Rule(true)),
+        2 => Some(Field::Rule(false)),
+        _ => None,
     }
-    if n == 2 {
-        return Field::Rule(false);
-    }
-    Field::Broken
 }
 
 // A field of which all bytes are there, from its tag on: what its tag and its length say.
-fn field_by(tag: u8, len: usize, s: &[u8]) -> Field
+#[tactic(auto, unfolding(crate::specs::Trace::field_by))]
+fn field_by(tag: u8, len: usize, s: &[u8]) -> Option<Field>
     ensures { result ≡ field_by tag len s.now }
 {
-    if (tag == 1) & (len == 4) {
-        return Field::Clock(octets::be32(s, FRONT));
+    match (tag, len) {
+        (1, 4) => Some(Field::Clock(octets::be32(s, FRONT))),
+        (2, _) => Some(Field::Frame(len)),
+        (3, _) => Some(Field::Reply(len)),
+        (4, 8) => Some(Field::Purge(Cas(octets::be64(s, FRONT)))),
+        (5, 1) => rule_by(octets::byte(s, FRONT)),
+        _ => None,
     }
-    if tag == 2 {
-        return Field::Frame(len);
-    }
-    if tag == 3 {
-        return Field::Reply(len);
-    }
-    if (tag == 4) & (len == 8) {
-        return Field::Purge(Cas(octets::be64(s, FRONT)));
-    }
-    if (tag == 5) & (len == 1) {
-        return rule_by(octets::byte(s, FRONT));
-    }
-    Field::Broken
 }
 
 // The field at the start of s.
-pub fn field_of(s: &[u8]) -> Field
+pub fn field_of(s: &[u8]) -> Option<Field>
     ensures { result ≡ field_of s.now }
 {
     if s.len() < FRONT {
-        return Field::Broken;
+        return None;
     }
     let len = octets::be16(s, 1) as usize;
     if s.len() - FRONT < len {
-        return Field::Broken;
+        return None;
     }
     field_by(octets::byte(s, 0), len, s)
 }
 
-fn is_rule(f: Field) -> bool
+fn is_rule(f: Option<Field>) -> bool
     ensures { result ≡ is_rule f }
 {
-    match f {
-        Field::Rule(_) => true,
-        Field::Clock(_) => false,
-        Field::Frame(_) => false,
-        Field::Reply(_) => false,
-        Field::Purge(_) => false,
-        Field::Broken => false,
-    }
+    matches!(f, Some(Field::Rule(_)))
 }
 
 // The field at the start of s, which stands at a place of its trace. A rule stands at the first alone.
-pub fn field_at(s: &[u8], at: usize) -> Field
+pub fn field_at(s: &[u8], at: usize) -> Option<Field>
     ensures { result ≡ field_at at s.now }
 {
     let field = field_of(s);
     if (at != OPENING) & is_rule(field) {
-        return Field::Broken;
+        return None;
     }
     field
 }
 
 // Whether force is taken by a trace whose first field this is: it is unless that says the new rule.
-fn forcing_by(first: Field) -> bool
+fn forcing_by(first: Option<Field>) -> bool
     ensures { result ≡ forcing_by first }
 {
     match first {
-        Field::Rule(forcing) => forcing,
-        Field::Clock(_) => true,
-        Field::Frame(_) => true,
-        Field::Reply(_) => true,
-        Field::Purge(_) => true,
-        Field::Broken => true,
+        Some(Field::Rule(forcing)) => forcing,
+        _ => true,
     }
 }
 

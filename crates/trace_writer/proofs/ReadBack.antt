@@ -1,4 +1,5 @@
 -- The claims of specs/Claims.antt.
+use Rattle.std.specs.Prelude.{Option, Some}
 use native.Mathlib.Omega.{arith}
 use Prim.Native.Nat.{ℕ, zero, suc, ◌+◌, ◌^◌, ◌≤◌, ◌<◌}
 use mathlib.Core.Path.{◌≡◌, refl, ap, ◌∙◌}
@@ -11,7 +12,6 @@ use borrow.Author.Tests.{le-ltb}
 use Rattle.octets.specs.Parts.{part}
 use Rattle.octets.specs.BigEndian.{be_from, be, num, bytes_of}
 use Rattle.octets.proofs.Numbers.{length-bytes, be-bytes}
-use Rattle.trace.specs.declared.Opening.TheVariants.{Opened}
 use Rattle.trace.specs.declared.Field.{Field}
 use Rattle.trace.specs.declared.Field.TheVariants.{Clock, Frame, Reply, Purge, Rule}
 use Rattle.trace.specs.Trace.{opening_of, field_by, field_of, forcing_by, forcing_in}
@@ -40,7 +40,7 @@ module _ (tag : ℕ) (xs rest : List ℕ) (t : tag < 256) (h : length xs < 65536
   unfolding field_bytes bytes_of be be_from
   length_back = omega (arith, h)
 
-  field-by : (f : Field) → field_by tag (length xs) s ≡ f → FieldBack tag xs rest f
+  field-by : (f : Option Field) → field_by tag (length xs) s ≡ f → FieldBack tag xs rest f
   field-by f e = record {
     field = whole s tag (length xs) tag_back length_back (omega (arith, length-append (field_bytes tag xs) rest, length-field tag xs)) ∙ e;
     length-said = length_back;
@@ -57,32 +57,32 @@ pub clock-back : ClockBack
 unfolding field_by
 clock-back clock rest h =
     let l : length (bytes_of 4 clock) ≡ 4 = length-bytes 4 clock in
-    field-by 1 (bytes_of 4 clock) rest (omega arith) (omega arith) (Clock clock) (rw l (ap Clock (number-back 1 4 clock rest h)))
+    field-by 1 (bytes_of 4 clock) rest (omega arith) (omega arith) (Some (Clock clock)) (rw l (ap (λ (n : ℕ). Some (Clock n)) (number-back 1 4 clock rest h)))
 
 pub purge-back : PurgeBack
 unfolding field_by
 purge-back bound rest h =
     let l : length (bytes_of 8 bound) ≡ 8 = length-bytes 8 bound in
-    field-by 4 (bytes_of 8 bound) rest (omega arith) (omega arith) (Purge (record { 0 = bound })) (rw l (ap (λ (n : ℕ). Purge (record { 0 = n })) (number-back 4 8 bound rest h)))
+    field-by 4 (bytes_of 8 bound) rest (omega arith) (omega arith) (Some (Purge (record { 0 = bound }))) (rw l (ap (λ (n : ℕ). Some (Purge (record { 0 = n }))) (number-back 4 8 bound rest h)))
 
 pub frame_back : FrameBack
 unfolding field_by
-frame_back frame rest h = field-by 2 frame rest (omega arith) h (Frame (length frame)) refl
+frame_back frame rest h = field-by 2 frame rest (omega arith) h (Some (Frame (length frame))) refl
 
 pub reply-back : ReplyBack
 unfolding field_by
-reply-back reply rest h = field-by 3 reply rest (omega arith) h (Reply (length reply)) refl
+reply-back reply rest h = field-by 3 reply rest (omega arith) h (Some (Reply (length reply))) refl
 
-rule-by : (forcing : Bool) (rest : List ℕ) → field_by 5 1 (rule_field forcing ++ rest) ≡ Rule forcing
+rule-by : (forcing : Bool) (rest : List ℕ) → field_by 5 1 (rule_field forcing ++ rest) ≡ Some (Rule forcing)
 unfolding field_by field_bytes bytes_of be be_from
 rule-by true rest = refl
 rule-by false rest = refl
 
 pub rule-back : RuleBack
-rule-back forcing rest = field-by 5 (rule_byte forcing ∷ []) rest (omega arith) (omega arith) (Rule forcing) (rule-by forcing rest)
+rule-back forcing rest = field-by 5 (rule_byte forcing ∷ []) rest (omega arith) (omega arith) (Some (Rule forcing)) (rule-by forcing rest)
 
 opened : (s : List ℕ) (mode vbucket : ℕ) → num s 0 1 ≡ mode → num s 1 2 ≡ vbucket → (eqb mode 1 || eqb mode 2) ≡ true → 3 ≤ length s → length s ≤ 65536
-    → opening_of s ≡ Opened mode vbucket
+    → opening_of s ≡ Some (record { mode = mode; vbucket = vbucket })
 unfolding opening_of
 opened s mode vbucket e f m h k = rw (e, f, m, le-ltb 65536 (length s) k, le-ltb (length s) 3 h)
 

@@ -7,6 +7,7 @@ ghost use Rattle.trace_writer.specs.Writing.{opening_bytes, field_bytes, clock_f
 
 use trace::{FRONT, OPENING};
 
+// The tags of fields. They stay numbers: `put_field` writes any tag.
 const CLOCK: u8 = 1;
 
 const FRAME: u8 = 2;

@@ -1,4 +1,5 @@
 -- Each field of a trace does the same on twin tables, and leaves twin tables.
+use Rattle.std.specs.Prelude.{Option, Some, None}
 use native.Mathlib.Omega.{arith}
 use Prim.Native.Nat.{ℕ, ◌+◌, ◌^◌, ◌≤◌, ◌<◌}
 use mathlib.Core.Path.{◌≡◌, refl, sym, ap, subst, ◌∙◌}
@@ -14,14 +15,11 @@ use Rattle.octets.specs.BigEndian.{num}
 use Rattle.octets.proofs.Choices.{cases}
 use Rattle.octets.proofs.Lists.{bytes-part}
 use Rattle.octets.proofs.Numbers.{num-below}
-use Rattle.request.specs.declared.Gate.{Gate}
-use Rattle.request.specs.declared.Gate.TheVariants.{Stop, Whole}
+use Rattle.request.specs.Reading.{Gate, Stop, Whole}
 use Rattle.rows.specs.Table.{Table, table_bytes, fresh}
-use Rattle.serving.specs.declared.Served.{Served}
-use Rattle.serving.specs.Serve.{gate_all, served, served_table}
-use Rattle.trace.specs.declared.Opening.TheVariants.{Broken as NotOpened}
+use Rattle.serving.specs.Serve.{Served, gate_all, served, served_table}
 use Rattle.trace.specs.declared.Field.{Field}
-use Rattle.trace.specs.declared.Field.TheVariants.{Clock, Frame, Reply, Purge, Rule, Broken}
+use Rattle.trace.specs.declared.Field.TheVariants.{Clock, Frame, Reply, Purge, Rule}
 use Rattle.trace.specs.Trace.{Placed, opening_of, fields_in}
 use Rattle.replay.specs.Replay.{Voyage, is_one_frame, reply_for, sent_reply, on_field, on_turn, After, walked, ruled_by, replayed}
 use Rattle.engines.specs.Damage.{sound_by}
@@ -35,26 +33,26 @@ use Rattle.voyages.proofs.Spelling.{opened-or-not, opening-read, unopened, other
 
 -- ---- the numbers of a trace of bytes
 -- a clock has 32 bits
-abbrev Short : Field → Type 0
-Short (Clock n) = n < 2 ^ 32
-Short (Frame len) = Unit {0}
-Short (Reply len) = Unit {0}
-Short (Purge bound) = Unit {0}
-Short (Rule forcing) = Unit {0}
-Short Broken = Unit {0}
+abbrev Short : Option Field → Type 0
+Short (Some (Clock n)) = n < 2 ^ 32
+Short (Some (Frame len)) = Unit {0}
+Short (Some (Reply len)) = Unit {0}
+Short (Some (Purge bound)) = Unit {0}
+Short (Some (Rule forcing)) = Unit {0}
+Short None = Unit {0}
 
 abbrev AllShort : List Placed → Type 0
 AllShort [] = Unit {0}
 AllShort (p ∷ ps) = Bytes p.bytes × (Short p.field × AllShort ps)
 
 module _ (trace : List ℕ) (y : Bytes trace) where
-  short : (at : ℕ) (f : Field) → SpeltAt trace at f → Short f
-  short at (Clock n) s = subst (λ (m : ℕ). m < 2 ^ 32) (sym s.1.1.1) (num-below trace (at + 3) 4 y)
-  short at (Frame len) s = tt
-  short at (Reply len) s = tt
-  short at (Purge bound) s = tt
-  short at (Rule forcing) s = tt
-  short at Broken s = tt
+  short : (at : ℕ) (f : Option Field) → SpeltAt trace at f → Short f
+  short at (Some (Clock n)) s = subst (λ (m : ℕ). m < 2 ^ 32) (sym s.1.1.1) (num-below trace (at + 3) 4 y)
+  short at (Some (Frame len)) s = tt
+  short at (Some (Reply len)) s = tt
+  short at (Some (Purge bound)) s = tt
+  short at (Some (Rule forcing)) s = tt
+  short at None s = tt
 
   all_short : (at : ℕ) (ps : List Placed) → SpeltFrom trace at ps → AllShort ps
   all_short at [] w = tt
@@ -92,12 +90,12 @@ WalksAlike config other ps =
 
 module _ (config other : Config) (ps : List Placed) (rest : WalksAlike config other ps) (b c : List ℕ) (w : Twins config other b c) where
   module _ (clock frames : ℕ) (reply : List ℕ) (l : clock < 2 ^ 32) (at : ℕ) (bytes : List ℕ) (y : Bytes bytes) where
-    abbrev By : Field → Type 0
+    abbrev By : Option Field → Type 0
     By f =
         EndsAlike config other (on_turn (standing b clock frames reply) (on_field config at (standing b clock frames reply) f bytes) (λ v. walked config v ps))
         (on_turn (standing c clock frames reply) (on_field other at (standing c clock frames reply) f bytes) (λ v. walked other v ps))
 
-    serves : (len : ℕ) → By (Frame len)
+    serves : (len : ℕ) → By (Some (Frame len))
     serves len =
         let s = serve-alike config other b c w clock bytes y l (replicate {A = ℕ} 1302 0) in
         let size = length-replicate {A = ℕ} 1302 0 in
@@ -111,15 +109,15 @@ module _ (config other : Config) (ps : List Placed) (rest : WalksAlike config ot
         (λ t. rw (t, sym one ∙ t) (subst (λ (r : List ℕ). EndsAlike config other (past config b sent) (past other c r)) (sent-alike config other clock bytes y l b c w) go))
         (λ t. rw (t, sym one ∙ t) (record { answer = refl; tables = w }))
 
-    turn : (f : Field) → Short f → By f
-    turn (Clock n) k = rest b c w n frames reply k
-    turn (Frame len) k = serves len
-    turn (Reply len) k =
+    turn : (f : Option Field) → Short f → By f
+    turn (Some (Clock n)) k = rest b c w n frames reply k
+    turn (Some (Frame len)) k = serves len
+    turn (Some (Reply len)) k =
         cases (eqb frames 0) (λ t. rw t (record { answer = refl; tables = w }))
         (λ t. cases (same bytes reply) (λ u. rw (t, u) (rest b c w clock frames reply l)) (λ u. rw (t, u) (record { answer = refl; tables = w })))
-    turn (Purge bound) k = rest _ _ (purge-alike config other b c w clock bound.0 l).tables clock frames reply l
-    turn (Rule forcing) k = rest b c w clock frames reply l
-    turn Broken k = record { answer = refl; tables = w }
+    turn (Some (Purge bound)) k = rest _ _ (purge-alike config other b c w clock bound.0 l).tables clock frames reply l
+    turn (Some (Rule forcing)) k = rest b c w clock frames reply l
+    turn None k = record { answer = refl; tables = w }
 
 walks-alike : (config other : Config) (ps : List Placed) → AllShort ps → WalksAlike config other ps
 walks-alike config other [] k b c w clock frames reply l = record { answer = refl; tables = w }
@@ -163,7 +161,7 @@ module _ (config other : Config) (b trace : List ℕ) (y : Bytes trace) where
     other-undamaged = w.other-undamaged;
   }
 
-  answer-alike : length b ≡ 42000 → WellOpened trace ⊎ (opening_of trace ≡ NotOpened) → (replayed config b trace).answer ≡ (replayed other b trace).answer
+  answer-alike : length b ≡ 42000 → WellOpened trace ⊎ (opening_of trace ≡ None) → (replayed config b trace).answer ≡ (replayed other b trace).answer
   answer-alike n (inl o) = (opened n o).answer
   answer-alike n (inr e) = (unopened config b trace n e).0 ∙ sym (unopened other b trace n e).0
 

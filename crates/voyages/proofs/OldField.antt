@@ -1,4 +1,5 @@
 -- The field that says the old rule does nothing but put what follows 4 bytes later.
+use Rattle.std.specs.Prelude.{Option, Some, None}
 use native.Mathlib.Omega.{arith}
 use Prim.Native.Nat.{ℕ, zero, suc, ◌+◌, ◌≤◌}
 use mathlib.Core.Path.{◌≡◌, refl, sym, ap, ◌∙◌}
@@ -13,7 +14,7 @@ use Rattle.octets.specs.BigEndian.{num}
 use Rattle.octets.proofs.Choices.{cases}
 use Rattle.serving.specs.Serve.{served}
 use Rattle.trace.specs.declared.Field.{Field}
-use Rattle.trace.specs.declared.Field.TheVariants.{Clock, Frame, Reply, Purge, Rule, Broken}
+use Rattle.trace.specs.declared.Field.TheVariants.{Clock, Frame, Reply, Purge, Rule}
 use Rattle.trace.specs.Trace.{Placed, length_in, bytes_held, field_of, is_rule, field_at, forcing_by, forcing_in, is_broken, placed_from, fields_from, fields_in}
 use Rattle.trace_writer.specs.Writing.{rule_field}
 use Rattle.trace_writer.proofs.FieldLaws.{length-rule}
@@ -33,16 +34,16 @@ move p = record { at = p.at + 4; field = p.field; bytes = p.bytes }
 
 -- ---- a walk over fields that stand later
 module _ (config : Config) where
-  turn-later : (v : Voyage) (at : ℕ) (f : Field) (bytes : List ℕ) (go on : Voyage → After) → ((w : Voyage) → on w ≡ moved (go w))
+  turn-later : (v : Voyage) (at : ℕ) (f : Option Field) (bytes : List ℕ) (go on : Voyage → After) → ((w : Voyage) → on w ≡ moved (go w))
       → on_turn v (on_field config (at + 4) v f bytes) on ≡ moved (on_turn v (on_field config at v f bytes) go)
-  turn-later v at (Clock n) bytes go on h = h (with_clock n v)
-  turn-later v at (Frame len) bytes go on h =
+  turn-later v at (Some (Clock n)) bytes go on h = h (with_clock n v)
+  turn-later v at (Some (Frame len)) bytes go on h =
       cases (is_one_frame (served config v.table v.clock bytes 1302) len) (λ t. rw t (h (with_frame config bytes v))) (λ t. rw t refl)
-  turn-later v at (Reply len) bytes go on h =
+  turn-later v at (Some (Reply len)) bytes go on h =
       cases (eqb v.frames 0) (λ t. rw t refl) (λ t. cases (same bytes v.reply) (λ u. rw (t, u) (h v)) (λ u. rw (t, u) refl))
-  turn-later v at (Purge bound) bytes go on h = h (with_purge config bound.0 v)
-  turn-later v at (Rule forcing) bytes go on h = h v
-  turn-later v at Broken bytes go on h = refl
+  turn-later v at (Some (Purge bound)) bytes go on h = h (with_purge config bound.0 v)
+  turn-later v at (Some (Rule forcing)) bytes go on h = h v
+  turn-later v at None bytes go on h = refl
 
   walk-later : (v : Voyage) (ps : List Placed) → walked config v (map move ps) ≡ moved (walked config v ps)
   walk-later v [] = refl
@@ -109,7 +110,7 @@ module _ (config : Config) (b : List ℕ) (mode high low : ℕ) (fields : List �
 
   walks-moved : (v : Voyage) → walked (ruled_by config ruled) v (fields_in ruled) ≡ moved (walked (ruled_by config bare) v (fields_in bare))
   walks-moved v =
-      (λ i. walked (one-rule i) v (first-at 3 5 (1 ∷ []) fields (Rule true) (rule-back true fields) (at_first (rule_field true ++ fields)) refl i))
+      (λ i. walked (one-rule i) v (first-at 3 5 (1 ∷ []) fields (Some (Rule true)) (rule-back true fields) (at_first (rule_field true ++ fields)) refl i))
       ∙ (ap (walked (ruled_by config bare) v) fields-moved ∙ walk-later (ruled_by config bare) v (fields_from 3 fields))
 
   pub as_none : replayed config b ruled ≡ moved (replayed config b bare)

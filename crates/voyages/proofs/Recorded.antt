@@ -1,4 +1,5 @@
 -- Each field that was recorded is read back and goes on; and what the box records is what the definition has.
+use Rattle.std.specs.Prelude.{Option, Some}
 use native.Mathlib.Omega.{arith}
 use native.Mathlib.Nat.{add-zero}
 use Prim.Native.Nat.{ℕ, suc, ◌+◌, ◌^◌, ◌≤◌, ◌<◌}
@@ -13,8 +14,7 @@ use Rattle.octets.specs.BigEndian.{bytes_of}
 use Rattle.octets.proofs.Choices.{cases}
 use Rattle.octets.proofs.Tests.{same_refl}
 use Rattle.rows.specs.Table.{table_bytes, fresh}
-use Rattle.serving.specs.declared.Served.{Served}
-use Rattle.serving.specs.Serve.{gate_all, answer_by, table_by, served, served_table, served_reply}
+use Rattle.serving.specs.Serve.{Served, gate_all, answer_by, table_by, served, served_table, served_reply}
 use Rattle.trace.specs.declared.Field.{Field}
 use Rattle.trace.specs.declared.Field.TheVariants.{Clock, Frame, Reply, Rule}
 use Rattle.trace.specs.Trace.{Placed, length_in, field_of, is_rule, field_at, is_broken, placed_from, fields_from}
@@ -23,8 +23,7 @@ use Rattle.trace_writer.specs.Writing.{field_bytes, rule_field, opening_bytes, c
 use Rattle.trace_writer.specs.Claims.{FieldBack}
 use Rattle.trace_writer.proofs.FieldLaws.{clock-same, clock-other, length-opening, length-field, length-frame}
 use Rattle.trace_writer.proofs.ReadBack.{clock-back, frame_back, reply-back, rule-back, opening-back}
-use Rattle.replay.specs.declared.Ending.TheVariants.{Differs, Stopped, Replayed}
-use Rattle.replay.specs.Replay.{Voyage, On, End, is_one_frame, with_clock, with_frame, reply_for, sent_reply, on_turn, After, walked, set_out, ruled_by, replayed}
+use Rattle.replay.specs.Replay.{Differs, Stopped, Replayed, Voyage, On, End, is_one_frame, with_clock, with_frame, reply_for, sent_reply, on_turn, After, walked, set_out, ruled_by, replayed}
 use Rattle.replay.proofs.Frames.{sent-by}
 use Rattle.voyages.specs.Serving.{OneFrame}
 use Rattle.voyages.specs.Recorded.{Asked, left, left_by_all, AllServed, fields_added, RecordedReplays, RoomAlike}
@@ -39,7 +38,7 @@ unfolding field_at
 at-any at s e = cases (eqb at 3) (λ t. rw t refl) (λ t. rw (t, e) refl)
 
 -- a field that was written is the first of those that stand there
-pub first-at : (at tag : ℕ) (xs rest : List ℕ) (f : Field) → FieldBack tag xs rest f → field_at at (field_bytes tag xs ++ rest) ≡ field_of (field_bytes tag xs ++ rest) → is_broken f ≡ false
+pub first-at : (at tag : ℕ) (xs rest : List ℕ) (f : Option Field) → FieldBack tag xs rest f → field_at at (field_bytes tag xs ++ rest) ≡ field_of (field_bytes tag xs ++ rest) → is_broken f ≡ false
     → fields_from at (field_bytes tag xs ++ rest) ≡ record { at = at; field = f; bytes = xs } ∷ fields_from (at + (3 + length xs)) rest
 first-at at tag xs rest f w k e =
     let s = field_bytes tag xs ++ rest in
@@ -50,7 +49,7 @@ first-at at tag xs rest f w k e =
     (λ i. cond (is_broken (is i)) [] (on (w.length-said i))) ∙ (ap (λ (t : Bool). cond t [] (on (length xs))) e ∙ ap (fields_from (at + (3 + length xs))) w.after) in
     fields-on at s (omega (arith, length-append (field_bytes tag xs) rest, length-field tag xs)) ∙ (λ i. here i ∷ after i)
 
-first : (at tag : ℕ) (xs rest : List ℕ) (f : Field) → FieldBack tag xs rest f → is_rule f ≡ false → is_broken f ≡ false
+first : (at tag : ℕ) (xs rest : List ℕ) (f : Option Field) → FieldBack tag xs rest f → is_rule f ≡ false → is_broken f ≡ false
     → fields_from at (field_bytes tag xs ++ rest) ≡ record { at = at; field = f; bytes = xs } ∷ fields_from (at + (3 + length xs)) rest
 first at tag xs rest f w r e = first-at at tag xs rest f w (at-any at (field_bytes tag xs ++ rest) (ap is_rule w.field ∙ r)) e
 
@@ -68,14 +67,14 @@ module _ (config : Config) (v : Voyage) (rest : List ℕ) (z : After) where
       (λ f.
       let w = clock-back clock rest h in
       ap (λ (s : List ℕ). walked config v (fields_from at (s ++ rest))) (clock-other v.clock clock f)
-      ∙ ap (walked config v) (first at 1 (bytes_of 4 clock) rest (Clock clock) w refl refl) ∙ k (at + (3 + length (bytes_of 4 clock))))
+      ∙ ap (walked config v) (first at 1 (bytes_of 4 clock) rest (Some (Clock clock)) w refl refl) ∙ k (at + (3 + length (bytes_of 4 clock))))
 
   frame_on : (frame : List ℕ) → length frame < 65536 → OneFrame config v.table v.clock frame (length frame) → Ends (with_frame config frame v) rest → Ends v (field_bytes 2 frame ++ rest)
   frame_on frame h o k at =
       let next = at + (3 + length frame) in
       let one : is_one_frame (served config v.table v.clock frame 1302) (length frame) ≡ true =
       ap (λ (r : Served). is_one_frame r (length frame)) o.answer ∙ eq-eqb (length frame) (length frame) refl in
-      ap (walked config v) (first at 2 frame rest (Frame (length frame)) (frame_back frame rest h) refl refl)
+      ap (walked config v) (first at 2 frame rest (Some (Frame (length frame))) (frame_back frame rest h) refl refl)
       ∙ ap (λ (t : Bool). on_turn v (cond t (On (with_frame config frame v)) (End (Stopped at))) (λ w. walked config w (fields_from next rest))) one ∙ k next
 
   reply-on : length v.reply < 65536 → 1 ≤ v.frames → Ends v rest → Ends v (field_bytes 3 v.reply ++ rest)
@@ -83,7 +82,7 @@ module _ (config : Config) (v : Voyage) (rest : List ℕ) (z : After) where
       let reply = v.reply in
       let next = at + (3 + length reply) in
       let some : eqb v.frames 0 ≡ false = ne_eqb v.frames 0 (λ e. omega (arith, n, e)) in
-      ap (walked config v) (first at 3 reply rest (Reply (length reply)) (reply-back reply rest h) refl refl)
+      ap (walked config v) (first at 3 reply rest (Some (Reply (length reply))) (reply-back reply rest h) refl refl)
       ∙ (λ i. on_turn v (cond (some i) (End (Stopped at)) (cond (same_refl reply i) (On v) (End (Differs at)))) (λ w. walked config w (fields_from next rest))) ∙ k next
 
 -- ---- all frames
@@ -130,7 +129,7 @@ recorded-replays config new b mode vbucket xs n m k v q l =
     let count : 0 + length xs ≡ length xs = omega arith in
     rw (eq-eqb (length b) 42000 n, o.opening)
     ((λ i. walked (same i) (set_out mode vbucket) (fields_from 3 (o.fields i)))
-    ∙ ap (walked config (set_out mode vbucket)) (first-at 3 5 (2 ∷ []) rest (Rule false) (rule-back false rest) (at_first (rule_field false ++ rest)) refl)
+    ∙ ap (walked config (set_out mode vbucket)) (first-at 3 5 (2 ∷ []) rest (Some (Rule false)) (rule-back false rest) (at_first (rule_field false ++ rest)) refl)
     ∙ walks config table 0 0 [] xs q (omega (arith, l, size, seven)) 7
     ∙ (λ i. record { answer = Replayed (count i); table = left_by_all config table xs }))
 

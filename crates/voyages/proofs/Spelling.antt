@@ -5,7 +5,7 @@ use mathlib.Core.Path.{◌≡◌, refl, sym, ap, subst, ◌∙◌}
 use mathlib.Core.Bool.{Bool, true, false, cond, ◌&&◌, ◌||◌, false≢true}
 use mathlib.Core.List.{List, [], ◌∷◌, ◌++◌}
 use mathlib.Core.Logic.{◌⊎◌, inl, inr, ⊎_elim}
-use mathlib.Core.Option.{Option}
+use Rattle.std.specs.Prelude.{Option, Some, None}
 use lib.ListN.{length, take, drop, length-drop}
 use lib.Dec.{ltb, eqb}
 use lib.Seq.{drop-drop}
@@ -14,25 +14,22 @@ use Rattle.engine.specs.declared.Config.{Config}
 use Rattle.octets.specs.Parts.{part}
 use Rattle.octets.specs.BigEndian.{be, num}
 use Rattle.octets.proofs.Choices.{cases, both}
-use Rattle.trace.specs.declared.Opening.TheVariants.{Broken as NotOpened, Opened}
 use Rattle.trace.specs.declared.Field.{Field}
-use Rattle.trace.specs.declared.Field.TheVariants.{Clock, Frame, Reply, Purge, Rule, Broken}
+use Rattle.trace.specs.declared.Field.TheVariants.{Clock, Frame, Reply, Purge, Rule}
 use Rattle.trace.specs.Trace.{Placed, opening_of, length_in, bytes_held, rule_by, field_by, field_of, is_rule, field_at, is_broken, placed_from, fields_from, fields_in}
 use Rattle.trace.proofs.Modes.{mode-known, known-mode}
-use Rattle.replay.specs.declared.Ending.{Ending}
-use Rattle.replay.specs.declared.Ending.TheVariants.{Damaged, Differs, Stopped, Replayed}
-use Rattle.replay.specs.Replay.{ruled_by, replayed}
+use Rattle.replay.specs.Replay.{Ending, Damaged, Differs, Stopped, Replayed, ruled_by, replayed}
 use Rattle.voyages.specs.Serving.{EndsAt}
 use Rattle.voyages.specs.Spelling.{WellOpened, BadOpeningStops, OtherSizeRefused, ReplayServes, said_at, tag_at, WholeAt, RuleAt, SpeltAt, NextOf, SpeltFrom, FieldsSpelt, EndsWithin, PlacesWithin}
 use Rattle.voyages.proofs.Serving.{opened-serves}
 
 -- ---- the opening
-pub opening-read : (trace : List ℕ) → WellOpened trace → opening_of trace ≡ Opened (num trace 0 1) (num trace 1 2)
+pub opening-read : (trace : List ℕ) → WellOpened trace → opening_of trace ≡ Some (record { mode = (num trace 0 1); vbucket = (num trace 1 2) })
 unfolding opening_of
 opening-read trace w =
     rw (le-ltb 65536 (length trace) w.most, le-ltb (length trace) 3 w.least, known-mode (num trace 0 1) w.mode) refl
 
-pub opened-or-not : (trace : List ℕ) → WellOpened trace ⊎ (opening_of trace ≡ NotOpened)
+pub opened-or-not : (trace : List ℕ) → WellOpened trace ⊎ (opening_of trace ≡ None)
 unfolding opening_of
 opened-or-not trace =
     cases (ltb 65536 (length trace)) (λ t. inr (rw t refl))
@@ -45,7 +42,7 @@ opened-or-not trace =
     }))
     (λ v. inr (rw (t, u, v) refl))))
 
-pub unopened : (config : Config) (b trace : List ℕ) → length b ≡ 42000 → opening_of trace ≡ NotOpened
+pub unopened : (config : Config) (b trace : List ℕ) → length b ≡ 42000 → opening_of trace ≡ None
     → ((replayed config b trace).answer ≡ Stopped 0) × ((replayed config b trace).table ≡ b)
 unfolding replayed
 unopened config b trace n e = rw (eq-eqb (length b) 42000 n, e) (refl, refl)
@@ -86,13 +83,13 @@ unknown (suc (suc (suc (suc (suc zero))))) a b c d e = absurd (e refl)
 unknown (suc (suc (suc (suc (suc (suc n)))))) a b c d e = inr (omega arith)
 
 -- what holds of no fields, and of those that come after a field, holds of all after it
-pub after : (P : List Placed → Type 0) → P [] → (f : Field) (ps : List Placed) (X : Type 0) → (X → P ps) → NextOf f ps X → P ps
-after P end Broken ps X go e = subst P (sym e) end
-after P end (Clock n) ps X go x = go x
-after P end (Frame len) ps X go x = go x
-after P end (Reply len) ps X go x = go x
-after P end (Purge bound) ps X go x = go x
-after P end (Rule forcing) ps X go x = go x
+pub after : (P : List Placed → Type 0) → P [] → (f : Option Field) (ps : List Placed) (X : Type 0) → (X → P ps) → NextOf f ps X → P ps
+after P end None ps X go e = subst P (sym e) end
+after P end (Some (Clock n)) ps X go x = go x
+after P end (Some (Frame len)) ps X go x = go x
+after P end (Some (Reply len)) ps X go x = go x
+after P end (Some (Purge bound)) ps X go x = go x
+after P end (Some (Rule forcing)) ps X go x = go x
 
 module _ (trace : List ℕ) where
   module _ (at : ℕ) where
@@ -107,7 +104,7 @@ module _ (trace : List ℕ) where
 
     -- no tag of an order, or a clock, a bound or a rule of another length
     refused : (eqb tag 1 && eqb (length_in s) 4) ≡ false → eqb tag 2 ≡ false → eqb tag 3 ≡ false → (eqb tag 4 && eqb (length_in s) 8) ≡ false
-        → (eqb tag 5 && eqb (length_in s) 1) ≡ false → SpeltAt trace at Broken
+        → (eqb tag 5 && eqb (length_in s) 1) ≡ false → SpeltAt trace at None
     refused t u v w x =
         cases (eqb tag 1)
         (λ y. inr (inr (inl (inl (eqb-true _ _ y, λ n. eqb-false _ _ (not-both (eqb tag 1) (eqb (length_in s) 4) t y) (said ∙ n))))))
@@ -118,10 +115,10 @@ module _ (trace : List ℕ) where
         (λ e. inr (inl (unknown tag (eqb-false _ _ a) (eqb-false _ _ u) (eqb-false _ _ v) (eqb-false _ _ d) (eqb-false _ _ e))))))
 
     -- a rule is spelt where it is the first field, and only by tag 5
-    abbrev SpeltFirst : Field → Type 0
+    abbrev SpeltFirst : Option Field → Type 0
     SpeltFirst f = ((is_rule f ≡ true → at ≡ 3) → SpeltAt trace at f) × (is_rule f ≡ true → tag ≡ 5)
 
-    other-field : (f : Field) → is_rule f ≡ false → SpeltAt trace at f → SpeltFirst f
+    other-field : (f : Option Field) → is_rule f ≡ false → SpeltAt trace at f → SpeltFirst f
     other-field f e x = ((λ y. x), λ t. absurd (false≢true (sym e ∙ t)))
 
     abbrev byte : ℕ
@@ -140,32 +137,32 @@ module _ (trace : List ℕ) where
         (λ a. rw a ((λ y. (h, record { first = y refl; tag = t; one = l; rule = sym byte-on ∙ eqb-true _ _ a })), λ y. t))
         (λ a. cases (eqb byte 2)
         (λ b. rw (a, b) ((λ y. (h, record { first = y refl; tag = t; one = l; rule = sym byte-on ∙ eqb-true _ _ b })), λ y. t))
-        (λ b. rw (a, b) (other-field Broken refl (inr (inr (inr (record { tag = t; other = no-rule a b })))))))
+        (λ b. rw (a, b) (other-field None refl (inr (inr (inr (record { tag = t; other = no-rule a b })))))))
 
     by-tag : WholeAt trace at → SpeltFirst (field_by tag (length_in s) s)
     unfolding field_by
     by-tag h =
         cases (eqb tag 1 && eqb (length_in s) 4)
         (λ t. let k = both (eqb tag 1) (eqb (length_in s) 4) t in
-        rw t (other-field (Clock (num s 3 4)) refl (h, (eqb-true _ _ k.0, (sym said ∙ eqb-true _ _ k.1, ap be (part-on trace at 3 4))))))
-        (λ t. cases (eqb tag 2) (λ u. rw (t, u) (other-field (Frame (length_in s)) refl (h, (eqb-true _ _ u, said))))
-        (λ u. cases (eqb tag 3) (λ v. rw (t, u, v) (other-field (Reply (length_in s)) refl (h, (eqb-true _ _ v, said))))
+        rw t (other-field (Some (Clock (num s 3 4))) refl (h, (eqb-true _ _ k.0, (sym said ∙ eqb-true _ _ k.1, ap be (part-on trace at 3 4))))))
+        (λ t. cases (eqb tag 2) (λ u. rw (t, u) (other-field (Some (Frame (length_in s))) refl (h, (eqb-true _ _ u, said))))
+        (λ u. cases (eqb tag 3) (λ v. rw (t, u, v) (other-field (Some (Reply (length_in s))) refl (h, (eqb-true _ _ v, said))))
         (λ v. cases (eqb tag 4 && eqb (length_in s) 8)
         (λ w. let k = both (eqb tag 4) (eqb (length_in s) 8) w in
-        rw (t, u, v, w) (other-field (Purge (record { 0 = num s 3 8 })) refl (h, (eqb-true _ _ k.0, (sym said ∙ eqb-true _ _ k.1, ap be (part-on trace at 3 8))))))
+        rw (t, u, v, w) (other-field (Some (Purge (record { 0 = num s 3 8 }))) refl (h, (eqb-true _ _ k.0, (sym said ∙ eqb-true _ _ k.1, ap be (part-on trace at 3 8))))))
         (λ w. cases (eqb tag 5 && eqb (length_in s) 1)
         (λ x. let k = both (eqb tag 5) (eqb (length_in s) 1) x in
         rw (t, u, v, w, x) (by-rule h (eqb-true _ _ k.0) (sym said ∙ eqb-true _ _ k.1)))
-        (λ x. rw (t, u, v, w, x) (other-field Broken refl (refused t u v w x)))))))
+        (λ x. rw (t, u, v, w, x) (other-field None refl (refused t u v w x)))))))
 
     pub spelt-first : at ≤ length trace → SpeltFirst (field_of s)
     unfolding field_of
     spelt-first h =
         let k = length-drop at trace in
         cases (ltb (length s) 3)
-        (λ t. rw t (other-field Broken refl (inl (inl (omega (arith, ltb-true (length s) 3 t, k))))))
+        (λ t. rw t (other-field None refl (inl (inl (omega (arith, ltb-true (length s) 3 t, k))))))
         (λ t. cases (ltb (length s) (3 + length_in s))
-        (λ u. rw (t, u) (other-field Broken refl (inl (inr (omega (arith, ltb-true (length s) (3 + length_in s) u, k, said))))))
+        (λ u. rw (t, u) (other-field None refl (inl (inr (omega (arith, ltb-true (length s) (3 + length_in s) u, k, said))))))
         (λ u. rw (t, u) (by-tag (omega (arith, ltb-false (length s) (3 + length_in s) u, k, said, h)))))
 
     spelt : at ≤ length trace → SpeltAt trace at (field_at at s)
@@ -179,13 +176,13 @@ module _ (trace : List ℕ) where
         (λ u. rw (t, u) (w.0 (λ y. absurd (false≢true (sym u ∙ y))))))
 
   -- ---- one after another
-  next : (f : Field) (more : List Placed) (X : List Placed → Type 0) → X more → NextOf f (cond (is_broken f) [] more) (X (cond (is_broken f) [] more))
-  next Broken more X x = refl
-  next (Clock n) more X x = x
-  next (Frame len) more X x = x
-  next (Reply len) more X x = x
-  next (Purge bound) more X x = x
-  next (Rule forcing) more X x = x
+  next : (f : Option Field) (more : List Placed) (X : List Placed → Type 0) → X more → NextOf f (cond (is_broken f) [] more) (X (cond (is_broken f) [] more))
+  next None more X x = refl
+  next (Some (Clock n)) more X x = x
+  next (Some (Frame len)) more X x = x
+  next (Some (Reply len)) more X x = x
+  next (Some (Purge bound)) more X x = x
+  next (Some (Rule forcing)) more X x = x
 
   spelt-from : (n at : ℕ) (s : List ℕ) → s ≡ drop at trace → length s ≤ n → SpeltFrom trace at (placed_from n at s)
   unfolding placed_from

@@ -1,14 +1,11 @@
 -- Order 9: "Old traces hold such requests, so a trace replays under the new rule exactly if its first field is tag 5 with one byte of 2; a 1 there means the old, which differs for option 0x01 alone. Any other tag 5 stops it." Proved in proofs/Forcing.antt.
-use Rattle.std.specs.Prelude.{ℕ, ◌+◌, ◌≡◌, Bool, true, false, List, ◌∷◌, ◌++◌, length}
-use Rattle.std.proofs.Math.Option.{none}
+use Rattle.std.specs.Prelude.{ℕ, ◌+◌, ◌≡◌, Bool, true, false, List, ◌∷◌, ◌++◌, length, None}
 use Rattle.engine.specs.declared.Config.{Config}
 use Rattle.octets.specs.BigEndian.{num}
 use Rattle.rows.specs.Table.{table_bytes, fresh}
 use Rattle.trace.specs.Trace.{Placed, fields_in}
 use Rattle.trace_writer.specs.Writing.{rule_field}
-use Rattle.replay.specs.declared.Ending.{Ending}
-use Rattle.replay.specs.declared.Ending.TheVariants.{Damaged, Differs, Stopped, Replayed}
-use Rattle.replay.specs.Replay.{ruled_by, replayed}
+use Rattle.replay.specs.Replay.{Ending, Damaged, Differs, Stopped, Replayed, ruled_by, replayed}
 use Rattle.promises.specs.Clock.{memory_after}
 use Rattle.voyages.specs.Serving.{calls_of, AllLeadOn, ReplaysAs}
 use Rattle.voyages.specs.Spelling.{WellOpened, WholeAt, RuleAt, OtherRuleAt}
@@ -23,7 +20,7 @@ table_for trace = table_bytes (fresh 32 1 (num trace 0 1) (num trace 1 2))
 
 -- the replay serves the trace's frames on an engine under a rule, by which force is taken or isn't, whatever the caller's rule is
 abbrev pub ServesUnder : Bool → Config → List ℕ → List ℕ → Type 0
-ServesUnder forcing config b trace = ReplaysAs (record { engine = config.engine; forcing = forcing }) (table_for trace) 0 none 0 (fields_in trace) (replayed config b trace)
+ServesUnder forcing config b trace = ReplaysAs (record { engine = config.engine; forcing = forcing }) (table_for trace) 0 None 0 (fields_in trace) (replayed config b trace)
 
 -- "a trace replays under the new rule exactly if": if
 abbrev pub NewRuleServes : Config → Type 0
@@ -43,7 +40,7 @@ CallersRuleUnheard = (config other : Config) (b trace : List ℕ) → config.eng
 abbrev pub OtherRuleStops : Config → Type 0
 OtherRuleStops config =
     (b trace : List ℕ) → length b ≡ 42000 → WellOpened trace → (before after : List Placed) (p : Placed) → fields_in trace ≡ before ++ (p ∷ after) → OtherRuleAt trace p.at
-    → AllLeadOn (ruled_by config trace) (table_for trace) 0 none before
+    → AllLeadOn (ruled_by config trace) (table_for trace) 0 None before
     → replayed config b trace ≡ record { answer = Stopped p.at; table = memory_after (ruled_by config trace) (table_for trace) (calls_of 0 before) }
 
 -- "a 1 there means the old": such a field does nothing but put what follows 4 bytes later

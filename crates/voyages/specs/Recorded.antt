@@ -3,11 +3,9 @@ use Rattle.std.specs.Prelude.{ℕ, ◌^◌, ◌≤◌, ◌<◌, ◌≡◌, false
 use Rattle.engine.specs.declared.Config.{Config}
 use Rattle.octets.specs.Parts.{Bytes}
 use Rattle.rows.specs.Table.{table_bytes, fresh}
-use Rattle.serving.specs.declared.Served.TheVariants.{Done}
-use Rattle.serving.specs.Serve.{served, served_table, served_reply}
+use Rattle.serving.specs.Serve.{Done, served, served_table, served_reply}
 use Rattle.trace_writer.specs.Writing.{opening_bytes, frame_fields}
-use Rattle.replay.specs.declared.Ending.TheVariants.{Replayed}
-use Rattle.replay.specs.Replay.{sent_reply, replayed}
+use Rattle.replay.specs.Replay.{Replayed, sent_reply, replayed}
 use Rattle.voyages.specs.Serving.{OneFrame}
 
 -- a frame that was served at a clock

@@ -1,16 +1,13 @@
 -- Orders 6 and 9: what a trace spells, on its bytes: where a replay doesn't begin, on what table it begins, and each field from the first to the last. Proved in proofs/Spelling.antt.
-use Rattle.std.specs.Prelude.{ℕ, ◌+◌, ◌≤◌, ◌<◌, ◌≡◌, Bool, true, false, List, [], ◌∷◌, ◌⊎◌, length}
-use Rattle.std.proofs.Math.Option.{none}
+use Rattle.std.specs.Prelude.{ℕ, ◌+◌, ◌≤◌, ◌<◌, ◌≡◌, Bool, true, false, List, [], ◌∷◌, ◌⊎◌, length, None, Option, Some}
 use Rattle.engine.specs.declared.Config.{Config}
 use Rattle.octets.specs.Parts.{part}
 use Rattle.octets.specs.BigEndian.{num}
 use Rattle.rows.specs.Table.{table_bytes, fresh}
 use Rattle.trace.specs.declared.Field.{Field}
-use Rattle.trace.specs.declared.Field.TheVariants.{Clock, Frame, Reply, Purge, Rule, Broken}
+use Rattle.trace.specs.declared.Field.TheVariants.{Clock, Frame, Reply, Purge, Rule}
 use Rattle.trace.specs.Trace.{Placed, fields_in}
-use Rattle.replay.specs.declared.Ending.{Ending}
-use Rattle.replay.specs.declared.Ending.TheVariants.{Damaged, Differs, Stopped, Replayed}
-use Rattle.replay.specs.Replay.{ruled_by, replayed}
+use Rattle.replay.specs.Replay.{Ending, Damaged, Differs, Stopped, Replayed, ruled_by, replayed}
 use Rattle.voyages.specs.Serving.{ReplaysAs}
 
 -- ---- the opening
@@ -35,7 +32,7 @@ OtherSizeRefused config = (b trace : List ℕ) → (length b ≡ 42000 → ⊥) 
 abbrev pub ReplayServes : Config → Type 0
 ReplayServes config =
     (b trace : List ℕ) → length b ≡ 42000 → WellOpened trace
-    → ReplaysAs (ruled_by config trace) (table_bytes (fresh 32 1 (num trace 0 1) (num trace 1 2))) 0 none 0 (fields_in trace) (replayed config b trace)
+    → ReplaysAs (ruled_by config trace) (table_bytes (fresh 32 1 (num trace 0 1) (num trace 1 2))) 0 None 0 (fields_in trace) (replayed config b trace)
 
 -- ---- the fields
 -- "one-byte tag and two-byte length"
@@ -79,22 +76,22 @@ pub record OtherRuleAt (trace : List ℕ) (at : ℕ) : Type 0 where
   pub other : (forcing : Bool) → RuleAt trace at forcing → ⊥
 
 -- "tag 1 clock (4 bytes), tag 2 one request frame, tag 3 the reply expected for the frame before it, tag 4 a purge bound (8 bytes)"
-abbrev pub SpeltAt : List ℕ → ℕ → Field → Type 0
-SpeltAt trace at (Clock n) = WholeAt trace at × ((tag_at trace at ≡ 1) × ((said_at trace at ≡ 4) × (n ≡ num trace (at + 3) 4)))
-SpeltAt trace at (Frame len) = WholeAt trace at × ((tag_at trace at ≡ 2) × (len ≡ said_at trace at))
-SpeltAt trace at (Reply len) = WholeAt trace at × ((tag_at trace at ≡ 3) × (len ≡ said_at trace at))
-SpeltAt trace at (Purge bound) = WholeAt trace at × ((tag_at trace at ≡ 4) × ((said_at trace at ≡ 8) × (bound.0 ≡ num trace (at + 3) 8)))
-SpeltAt trace at (Rule forcing) = WholeAt trace at × RuleAt trace at forcing
-SpeltAt trace at Broken = CutAt trace at ⊎ (UnknownAt trace at ⊎ (WrongLengthAt trace at ⊎ OtherRuleAt trace at))
+abbrev pub SpeltAt : List ℕ → ℕ → Option Field → Type 0
+SpeltAt trace at (Some (Clock n)) = WholeAt trace at × ((tag_at trace at ≡ 1) × ((said_at trace at ≡ 4) × (n ≡ num trace (at + 3) 4)))
+SpeltAt trace at (Some (Frame len)) = WholeAt trace at × ((tag_at trace at ≡ 2) × (len ≡ said_at trace at))
+SpeltAt trace at (Some (Reply len)) = WholeAt trace at × ((tag_at trace at ≡ 3) × (len ≡ said_at trace at))
+SpeltAt trace at (Some (Purge bound)) = WholeAt trace at × ((tag_at trace at ≡ 4) × ((said_at trace at ≡ 8) × (bound.0 ≡ num trace (at + 3) 8)))
+SpeltAt trace at (Some (Rule forcing)) = WholeAt trace at × RuleAt trace at forcing
+SpeltAt trace at None = CutAt trace at ⊎ (UnknownAt trace at ⊎ (WrongLengthAt trace at ⊎ OtherRuleAt trace at))
 
 -- what comes after a field: nothing after a broken one, else the fields from where it ends
-abbrev pub NextOf : Field → List Placed → Type 0 → Type 0
-NextOf Broken ps more = ps ≡ []
-NextOf (Clock n) ps more = more
-NextOf (Frame len) ps more = more
-NextOf (Reply len) ps more = more
-NextOf (Purge bound) ps more = more
-NextOf (Rule forcing) ps more = more
+abbrev pub NextOf : Option Field → List Placed → Type 0 → Type 0
+NextOf None ps more = ps ≡ []
+NextOf (Some (Clock n)) ps more = more
+NextOf (Some (Frame len)) ps more = more
+NextOf (Some (Reply len)) ps more = more
+NextOf (Some (Purge bound)) ps more = more
+NextOf (Some (Rule forcing)) ps more = more
 
 -- the fields from a place on, to the end of the trace; "A place is the offset of a field's tag"
 abbrev pub SpeltFrom : List ℕ → ℕ → List Placed → Type 0

@@ -1,2 +1,3 @@
 pub mod SectionLaws
 pub mod Layouts
+pub mod StoredLaws

@@ -1,6 +1,8 @@
 -- The "field rules, each 0x04" of a with-meta request, save option 0x02's, which needs the mode.
-use Rattle.std.specs.Prelude.{ℕ, ◌-◌, ◌/◌, ◌%◌, List, Bool, ◌&&◌, ◌||◌, length, drop, leb, eqb}
+use Rattle.std.specs.Prelude.{ℕ, ◌-◌, ◌/◌, ◌%◌, List, Bool, ◌&&◌, ◌||◌, length, drop, leb, eqb, Option, Some, None}
 use Rattle.with_meta.specs.declared.WithMeta.{WithMeta}
+use Rattle.with_meta.specs.declared.Stored.{Stored}
+use Rattle.with_meta.specs.declared.Stored.TheVariants.{Document, Tombstone}
 use Rattle.with_meta.specs.Section.{section_ok}
 
 -- the largest CAS and revision that a request carries
@@ -15,6 +17,15 @@ numbers_ok w =
     && (leb w.numbers.revision.0 largest_number
     && (leb w.options 0x0f
     && (eqb (w.options / 4 % 2) 0 || eqb (w.options / 8 % 2) 1))))
+
+-- the number of what is stored, as a shape's meta has it, 0 for another command's
+abbrev pub stored_number : Stored → ℕ
+stored_number Document = 1
+stored_number Tombstone = 2
+
+abbrev pub meta_number : Option Stored → ℕ
+meta_number None = 0
+meta_number (Some stored) = stored_number stored
 
 -- "for Set and Add, no value byte before the extended meta; for Delete, such a byte, or flags or expiry not 0", n being the bytes before it
 unfoldable pub body_ok : ℕ → WithMeta → ℕ → Bool

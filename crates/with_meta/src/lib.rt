@@ -2,11 +2,26 @@
 #![tactic(auto)]
 
 ghost use Rattle.std.specs.Prelude.{◌≡◌};
-ghost use Rattle.with_meta.specs.WithMeta.{present_numbers, former_numbers, carried_numbers, options_of, section_of, with_meta};
+ghost use Rattle.with_meta.specs.WithMeta.{carried_numbers, options_of, section_of, with_meta};
 ghost use Rattle.with_meta.specs.Section.{field_ok, fields_ok, section_ok};
-ghost use Rattle.with_meta.specs.FieldRules.{numbers_ok, body_ok, with_meta_ok};
+ghost use Rattle.with_meta.specs.FieldRules.{stored_number, meta_number, numbers_ok, body_ok, with_meta_ok};
 
 use numbers::{Cas, Numbers, Revision};
+
+// The largest CAS and revision that a request carries.
+const LARGEST_NUMBER: u64 = 0xfffffffeffffffff;
+
+const OPTION_BITS: u32 = 0x0f;
+
+// The version of extended meta.
+const VERSION: u8 = 1;
+
+// What a with-meta request leaves in its key's row.
+#[derive(Clone, Copy, Debug, PartialEq, Eq)]
+pub enum Stored {
+    Document,
+    Tombstone,
+}
 
 // What the extras of a with-meta request carry.
 #[derive(Clone, Copy)]
@@ -17,60 +32,49 @@ pub struct WithMeta {
     pub section: u16,
 }
 
-// The numbers in extras of 24, 26, 28 and 30 bytes.
-fn present_numbers(extras: &[u8]) -> Numbers
-    ensures { result ≡ present_numbers extras.now }
-{
-    Numbers {
-        flags: octets::be32(extras, 0),
-        expiry: octets::be32(extras, 4),
-        revision: Revision(octets::be64(extras, 8)),
-        cas: Cas(octets::be64(extras, 16)),
-    }
-}
-
-// The numbers in extras of the 2012 layout, which has 25 bytes and the CAS before the revision.
-fn former_numbers(extras: &[u8]) -> Numbers
-    ensures { result ≡ former_numbers extras.now }
-{
-    Numbers {
-        flags: octets::be32(extras, 0),
-        expiry: octets::be32(extras, 4),
-        revision: Revision(octets::be64(extras, 16)),
-        cas: Cas(octets::be64(extras, 8)),
-    }
-}
-
+// In extras of 25 bytes, which is the 2012 layout, the CAS stands before the revision; in all others behind it.
+#[tactic(auto, unfolding(crate::specs::WithMeta::carried_numbers, crate::specs::WithMeta::present_numbers, crate::specs::WithMeta::former_numbers))]
 fn numbers_of(extras: &[u8]) -> Numbers
     ensures { result ≡ carried_numbers extras.now }
 {
-    if extras.len() == 25 {
-        return former_numbers(extras);
+    let first = octets::be64(extras, 8);
+    let second = octets::be64(extras, 16);
+    let (revision, cas) = if extras.len() == 25 {
+        (second, first)
+    } else {
+        (first, second)
+    };
+    Numbers {
+        flags: octets::be32(extras, 0),
+        expiry: octets::be32(extras, 4),
+        revision: Revision(revision),
+        cas: Cas(cas),
     }
-    present_numbers(extras)
 }
 
+#[tactic(auto, unfolding(crate::specs::WithMeta::options_of))]
 fn options_of(extras: &[u8]) -> u32
     ensures { result ≡ options_of extras.now }
 {
     if 28 <= extras.len() {
-        return octets::be32(extras, 24);
+        octets::be32(extras, 24)
+    } else {
+        0
     }
-    0
 }
 
+#[tactic(auto, unfolding(crate::specs::WithMeta::section_of))]
 pub fn section_of(extras: &[u8]) -> u16
     ensures { result ≡ section_of extras.now }
 {
-    if extras.len() == 26 {
-        return octets::be16(extras, 24);
+    match extras.len() {
+        26 => octets::be16(extras, 24),
+        30 => octets::be16(extras, 28),
+        _ => 0,
     }
-    if extras.len() == 30 {
-        return octets::be16(extras, 28);
-    }
-    0
 }
 
+#[tactic(auto, unfolding(crate::specs::WithMeta::with_meta))]
 pub fn read(extras: &[u8]) -> WithMeta
     ensures { result ≡ with_meta extras.now }
 {
@@ -82,6 +86,7 @@ pub fn read(extras: &[u8]) -> WithMeta
 }
 
 // Whether a field of extended meta stands at the start of s.
+
 fn field_ok(s: &[u8]) -> bool
     ensures { result ≡ field_ok s.now }
 {
@@ -97,51 +102,58 @@ fn field_ok(s: &[u8]) -> bool
 fn fields_ok(s: &[u8]) -> bool
     ensures { result ≡ fields_ok s.now }
 {
-    let mut at: usize = 0;
-    while at < s.len() {
-        let left = octets::rest(s, at);
+    let mut left = s;
+    while !left.is_empty() {
         if !field_ok(left) {
             return false;
         }
-        at = at + (3 + octets::be16(left, 1) as usize);
+        left = octets::rest(left, 3 + octets::be16(left, 1) as usize);
     }
     true
 }
 
+#[tactic(auto, unfolding(crate::specs::Section::section_ok))]
 fn section_ok(s: &[u8]) -> bool
     ensures { result ≡ section_ok s.now }
 {
-    let fields = fields_ok(octets::rest(s, 1));
-    (s.len() == 0) | ((octets::byte(s, 0) == 1) & fields)
+    s.is_empty() || (octets::byte(s, 0) == VERSION && fields_ok(octets::rest(s, 1)))
 }
 
+#[tactic(auto, unfolding(crate::specs::FieldRules::numbers_ok))]
 fn numbers_ok(w: WithMeta) -> bool
     ensures { result ≡ numbers_ok w }
 {
     let cas = w.numbers.cas.0;
     let revision = w.numbers.revision.0;
-    (1 <= cas)
-        & ((cas <= 0xfffffffeffffffff)
-            & ((revision <= 0xfffffffeffffffff)
-                & ((w.options <= 0x0f) & ((w.options / 4 % 2 == 0) | (w.options / 8 % 2 == 1)))))
+    1 <= cas
+        && cas <= LARGEST_NUMBER
+        && revision <= LARGEST_NUMBER
+        && w.options <= OPTION_BITS
+        && (w.options / 4 % 2 == 0 || w.options / 8 % 2 == 1)
 }
 
 // n: the bytes before the extended meta.
-fn body_ok(meta: u8, w: WithMeta, n: usize) -> bool
-    ensures { result ≡ body_ok meta w n }
+
+#[tactic(auto, unfolding(crate::specs::FieldRules::body_ok))]
+fn body_ok(stored: Stored, w: WithMeta, n: usize) -> bool
+    ensures { result ≡ body_ok (stored_number stored) w n }
 {
-    ((meta == 1) & (1 <= n))
-        | ((meta == 2) & ((n == 0) & ((w.numbers.flags == 0) & (w.numbers.expiry == 0))))
+    match stored {
+        Stored::Document => 1 <= n,
+        Stored::Tombstone => n == 0 && w.numbers.flags == 0 && w.numbers.expiry == 0,
+    }
 }
 
-// Whether a with-meta request keeps the field rules; value is what follows its key.
-pub fn with_meta_ok(meta: u8, w: WithMeta, value: &[u8]) -> bool
-    ensures { result ≡ with_meta_ok meta w value.now }
+// Whether a with-meta request keeps the field rules; value is what follows its key. What another command's shape has keeps none.
+#[tactic(auto, unfolding(crate::specs::FieldRules::with_meta_ok))]
+pub fn with_meta_ok(stored: Option<Stored>, w: WithMeta, value: &[u8]) -> bool
+    ensures { result ≡ with_meta_ok (meta_number stored) w value.now }
 {
-    let section = w.section as usize;
-    if value.len() < section {
+    let Some(stored) = stored else {
         return false;
-    }
-    let n = value.len() - section;
-    numbers_ok(w) & (body_ok(meta, w, n) & section_ok(octets::rest(value, n)))
+    };
+    let Some(n) = value.len().checked_sub(w.section as usize) else {
+        return false;
+    };
+    numbers_ok(w) && body_ok(stored, w, n) && section_ok(octets::rest(value, n))
 }

@@ -2,71 +2,53 @@
 #![tactic(auto)]
 
 ghost use Rattle.std.specs.Prelude.{◌≡◌, false, ◌+◌, ltb};
-ghost use Rattle.commands.specs.Rules.{is_number, plain_rule, count_rule, join_rule, touch_rule, status_by};
+ghost use Rattle.commands.specs.Rules.{plain_rule, count_rule, join_rule, touch_rule, status_by};
+ghost use Rattle.outcome.specs.Outcome.{status_of};
 
-use commands::{Context, Counter, Instruction, Tests, Touching, status};
-use digits::Number;
+use commands::{Context, Counter, Instruction, PASSING, Tests, Touching, status};
+use outcome::Status;
 
 // fault: the expiry passes 2^32 - 1; needs: a live document is needed; fresh: a live document is refused.
-pub fn write_status(c: Context, i: Instruction, fault: bool, needs: bool, fresh: bool) -> u8
-    ensures { result ≡ status_by c i (plain_rule fault needs fresh false) }
+pub fn write_status(
+    c: Context,
+    i: Instruction,
+    fault: bool,
+    needs: bool,
+    fresh: bool,
+) -> Result<(), Status>
+    ensures { status_of result ≡ status_by c i (plain_rule fault needs fresh false) }
 {
-    let head = c.head;
-    let row = c.row;
-    let here = status::is_here(head, i.vbucket);
-    let live = document::live(row, c.clock);
-    let old = document::numbers_of(row);
-    let used = document::has_row(row);
-    let guard = i.cas.0 != 0;
+    let live = c.is_live();
+    let guard = i.is_guarded();
     status::first_status(Tests {
         fault,
         unsupported: i.unsupported,
-        long: 1024 < i.size,
-        elsewhere: !here,
-        unstored: false,
+        long: i.is_long(),
+        elsewhere: !status::is_here(c.head, i.vbucket),
         missing: (needs | guard) & !live,
-        conflict: (fresh & live) | (guard & (i.cas.0 != old.cas.0)),
-        joined: false,
-        number: false,
-        spent: (old.revision.0 == 0xffffffffffffffff) | (head.mark.0 == 0xffffffffffffffff),
-        full: !(used | c.free),
+        conflict: (fresh & live) | (guard & (i.cas.0 != c.stored().cas.0)),
+        spent: c.is_spent(),
+        full: !c.has_room(),
+        ..PASSING
     })
 }
 
-fn is_number(n: Number) -> bool
-    ensures { result ≡ is_number n }
+pub fn count_status(c: Context, i: Instruction, k: Counter) -> Result<(), Status>
+    ensures { status_of result ≡ status_by c i (count_rule c k) }
 {
-    match n {
-        Number::Value(_) => true,
-        Number::NoNumber => false,
-    }
-}
-
-pub fn count_status(c: Context, i: Instruction, k: Counter) -> u8
-    ensures { result ≡ status_by c i (count_rule c k) }
-{
-    let head = c.head;
-    let row = c.row;
-    let number = c.number;
-    let fault = numbers::passes(k.expiry, c.clock);
-    let here = status::is_here(head, i.vbucket);
-    let live = document::live(row, c.clock);
-    let old = document::numbers_of(row);
-    let used = document::has_row(row);
-    let said = is_number(number);
-    let guard = i.cas.0 != 0;
+    let live = c.is_live();
+    let guard = i.is_guarded();
     status::first_status(Tests {
-        fault,
+        fault: numbers::passes(k.expiry, c.clock),
         unsupported: i.unsupported,
-        long: 1024 < i.size,
-        elsewhere: !here,
-        unstored: false,
+        long: i.is_long(),
+        elsewhere: !status::is_here(c.head, i.vbucket),
         missing: ((k.expiry == 0xffffffff) | guard) & !live,
-        conflict: guard & (i.cas.0 != old.cas.0),
-        joined: false,
-        number: live & !said,
-        spent: (old.revision.0 == 0xffffffffffffffff) | (head.mark.0 == 0xffffffffffffffff),
-        full: !(used | c.free),
+        conflict: guard & (i.cas.0 != c.stored().cas.0),
+        number: live & c.number.is_none(),
+        spent: c.is_spent(),
+        full: !c.has_room(),
+        ..PASSING
     })
 }
 
@@ -74,61 +56,41 @@ pub fn count_status(c: Context, i: Instruction, k: Counter) -> u8
 fn over(a: usize, b: usize) -> bool
     ensures { result ≡ ltb 1024 (a + b) }
 {
-    if 1024 < a {
-        return true;
-    }
-    1024 - a < b
+    1024 < a.saturating_add(b)
 }
 
 // Append and Prepend.
-pub fn join_status(c: Context, i: Instruction) -> u8
-    ensures { result ≡ status_by c i join_rule }
+pub fn join_status(c: Context, i: Instruction) -> Result<(), Status>
+    ensures { status_of result ≡ status_by c i join_rule }
 {
-    let head = c.head;
-    let row = c.row;
-    let here = status::is_here(head, i.vbucket);
-    let live = document::live(row, c.clock);
-    let old = document::numbers_of(row);
-    let used = document::has_row(row);
-    let joined = over(c.size, i.size);
-    let guard = i.cas.0 != 0;
+    let live = c.is_live();
+    let guard = i.is_guarded();
     status::first_status(Tests {
-        fault: false,
         unsupported: i.unsupported,
-        long: 1024 < i.size,
-        elsewhere: !here,
+        long: i.is_long(),
+        elsewhere: !status::is_here(c.head, i.vbucket),
         unstored: !live,
         missing: guard & !live,
-        conflict: guard & (i.cas.0 != old.cas.0),
-        joined,
-        number: false,
-        spent: (old.revision.0 == 0xffffffffffffffff) | (head.mark.0 == 0xffffffffffffffff),
-        full: !(used | c.free),
+        conflict: guard & (i.cas.0 != c.stored().cas.0),
+        joined: over(c.size, i.size),
+        spent: c.is_spent(),
+        full: !c.has_room(),
+        ..PASSING
     })
 }
 
 // Touch and Get-and-touch.
-pub fn touch_status(c: Context, i: Instruction, t: Touching) -> u8
-    ensures { result ≡ status_by c i (touch_rule c t) }
+pub fn touch_status(c: Context, i: Instruction, t: Touching) -> Result<(), Status>
+    ensures { status_of result ≡ status_by c i (touch_rule c t) }
 {
-    let head = c.head;
-    let row = c.row;
-    let fault = numbers::passes(t.expiry, c.clock);
-    let here = status::is_here(head, i.vbucket);
-    let live = document::live(row, c.clock);
-    let old = document::numbers_of(row);
-    let used = document::has_row(row);
     status::first_status(Tests {
-        fault,
+        fault: numbers::passes(t.expiry, c.clock),
         unsupported: i.unsupported,
-        long: 1024 < i.size,
-        elsewhere: !here,
-        unstored: false,
-        missing: !live,
-        conflict: false,
-        joined: false,
-        number: false,
-        spent: (old.revision.0 == 0xffffffffffffffff) | (head.mark.0 == 0xffffffffffffffff),
-        full: !(used | c.free),
+        long: i.is_long(),
+        elsewhere: !status::is_here(c.head, i.vbucket),
+        missing: !c.is_live(),
+        spent: c.is_spent(),
+        full: !c.has_room(),
+        ..PASSING
     })
 }

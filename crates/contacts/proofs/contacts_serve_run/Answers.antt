@@ -3,8 +3,7 @@ use Prim.Native.Nat.{ℕ}
 use mathlib.Core.Path.{◌≡◌, ap, ◌∙◌}
 use mathlib.Core.List.{List}
 use Rattle.engine.specs.declared.Config.{Config}
-use Rattle.run.specs.declared.Ran.{Ran}
-use Rattle.run.specs.Run.{Stand, begun, run_end, ran_of}
+use Rattle.run.specs.Run.{Ran, Stand, begun, run_end, ran_of}
 use Rattle.answers.specs.Answers.{ran_answer}
 use Rattle.contacts.proofs.contacts_serve_run.Goals as goal
 

@@ -3,12 +3,12 @@ use mathlib.Core.Path.{◌≡◌, sym, ap, ◌∙◌}
 use mathlib.Core.Bool.{Bool, false}
 use mathlib.Core.List.{List}
 use lib.ListN.{length}
-use Rattle.shape.specs.declared.Shape.{Shape}
+use Rattle.shape.specs.Shapes.{Shape, shape_told}
 use Rattle.header.specs.declared.Header.{Header}
 use Rattle.commands.specs.declared.Command.{Command}
 use Rattle.commands.specs.declared.Instruction.{Instruction}
 use Rattle.decode.specs.declared.Family.{Family}
-use Rattle.decode.specs.declared.Decoded.TheVariants.{Whole}
+use Rattle.std.specs.Prelude.{Some}
 use Rattle.decode.specs.Decode.{family_of, instruction_with, decoded_as, decoded_by}
 use Rattle.decode.proofs.decoded_by.Goals as goal
 
@@ -21,36 +21,36 @@ told forcing s h extras value f g e d = ap (λ (x : Family). decoded_as forcing 
 pub returns-in-Bare : goal.returns-in-Bare
 returns-in-Bare c =
     let a = c.args in
-    ap Whole c.instruction_with.ensures
-    ∙ told a.forcing a.shape a.h a.extras.now a.value.now _ _ c.family_of.ensures c.in-Bare.is
+    ap Some c.instruction_with.ensures
+    ∙ told a.forcing (shape_told a.shape) a.h a.extras.now a.value.now _ _ c.family_of.ensures c.in-Bare.is
 
 pub returns-in-Stored : goal.returns-in-Stored
 returns-in-Stored c =
     let a = c.args in
-    let made : Command → Instruction = λ x. instruction_with a.shape a.h x (length a.value.now) false in
-    ap Whole (c.instruction_with-in-Stored.ensures ∙ ap made c.plain_of.ensures)
-    ∙ told a.forcing a.shape a.h a.extras.now a.value.now _ _ c.family_of.ensures c.in-Stored.is
+    let made : Command → Instruction = λ x. instruction_with (shape_told a.shape) a.h x (length a.value.now) false in
+    ap Some (c.instruction_with-in-Stored.ensures ∙ ap made c.plain_of.ensures)
+    ∙ told a.forcing (shape_told a.shape) a.h a.extras.now a.value.now _ _ c.family_of.ensures c.in-Stored.is
 
 pub returns-in-Counted : goal.returns-in-Counted
 returns-in-Counted c =
     let a = c.args in
-    let made : Command → Instruction = λ x. instruction_with a.shape a.h x (length a.value.now) false in
-    ap Whole (c.instruction_with-in-Counted.ensures ∙ ap made c.counter_of.ensures)
-    ∙ told a.forcing a.shape a.h a.extras.now a.value.now _ _ c.family_of.ensures c.in-Counted.is
+    let made : Command → Instruction = λ x. instruction_with (shape_told a.shape) a.h x (length a.value.now) false in
+    ap Some (c.instruction_with-in-Counted.ensures ∙ ap made c.counter_of.ensures)
+    ∙ told a.forcing (shape_told a.shape) a.h a.extras.now a.value.now _ _ c.family_of.ensures c.in-Counted.is
 
 pub returns-in-Carried : goal.returns-in-Carried
 returns-in-Carried c =
     let a = c.args in
-    c.meta_decoded.ensures ∙ told a.forcing a.shape a.h a.extras.now a.value.now _ _ c.family_of.ensures c.in-Carried.is
+    c.meta_decoded.ensures ∙ told a.forcing (shape_told a.shape) a.h a.extras.now a.value.now _ _ c.family_of.ensures c.in-Carried.is
 
 pub returns-in-Listed : goal.returns-in-Listed
 returns-in-Listed c =
     let a = c.args in
-    c.list_decoded.ensures ∙ told a.forcing a.shape a.h a.extras.now a.value.now _ _ c.family_of.ensures c.in-Listed.is
+    c.list_decoded.ensures ∙ told a.forcing (shape_told a.shape) a.h a.extras.now a.value.now _ _ c.family_of.ensures c.in-Listed.is
 
 pub returns-in-Touched : goal.returns-in-Touched
 returns-in-Touched c =
     let a = c.args in
-    let made : Command → Instruction = λ x. instruction_with a.shape a.h x (length a.value.now) false in
-    ap Whole (c.instruction_with-in-Touched.ensures ∙ ap made c.touch_of.ensures)
-    ∙ told a.forcing a.shape a.h a.extras.now a.value.now _ _ c.family_of.ensures c.in-Touched.is
+    let made : Command → Instruction = λ x. instruction_with (shape_told a.shape) a.h x (length a.value.now) false in
+    ap Some (c.instruction_with-in-Touched.ensures ∙ ap made c.touch_of.ensures)
+    ∙ told a.forcing (shape_told a.shape) a.h a.extras.now a.value.now _ _ c.family_of.ensures c.in-Touched.is

@@ -14,6 +14,7 @@ returns c =
       sym c.with_meta_ok.ensures ∙ c.if-not-with_meta_ok.false,
       c.instruction_with.ensures,
       c.meta_of.ensures,
-      c.minus.ensures,
+      c.saturating_sub.ensures,
+      c.from.ensures,
       c.is_forced.ensures,
     )

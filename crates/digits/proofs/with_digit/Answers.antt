@@ -1,26 +1,18 @@
 use native.Mathlib.Omega.{arith}
-use mathlib.Core.Path.{sym}
-use borrow.Author.Tests.{lt-ltb, le-leb, lt-leb, le-ltb}
-use Rattle.digits.specs.Decimal.{is_digit}
-use Rattle.digits.proofs.DecimalLaws.{right-digit, no_digit, too_large}
+use mathlib.Core.Path.{sym, ◌∙◌}
+use Prim.Native.Nat.{◌≤◌, ◌<◌, ◌*◌, ◌^◌}
+use Rattle.digits.proofs.DecimalLaws.{digit-test, no_digit, too_large, added}
 use Rattle.digits.proofs.with_digit.Goals as goal
 
-pub returns-then-c-lt48 : goal.returns-then-c-lt48
-unfolding is_digit
-returns-then-c-lt48 c = sym (no_digit _ _ (rw (lt-leb 48 c.args.c c.if-c-lt48.true)))
+pub returns-then-not-is_ascii_digit : goal.returns-then-not-is_ascii_digit
+returns-then-not-is_ascii_digit c = sym (no_digit _ c.args.c (sym (digit-test c.args.c) ∙ sym c.if-not-is_ascii_digit.ensures.value))
 
-pub returns-then-c-ge58 : goal.returns-then-c-ge58
-unfolding is_digit
-returns-then-c-ge58 c = sym (no_digit _ _ (rw (le-leb 48 c.args.c c.if-c-lt48.false, le-ltb c.args.c 58 c.if-c-ge58.true)))
-
-pub returns-then-a-gt1844674407370955161 : goal.returns-then-a-gt1844674407370955161
-returns-then-a-gt1844674407370955161 c = sym (too_large _ _ (omega arith))
-
-pub returns-then-t-d : goal.returns-then-t-d
-returns-then-t-d c = sym (too_large _ _ (omega arith))
+pub returns-in_err-checked_mul : goal.returns-in_err-checked_mul
+returns-in_err-checked_mul c =
+    let l : c.args.number * 10 < 2 ^ 64 → ⊥ = c.in_err-checked_mul.ensures in
+    let at_least : 2 ^ 64 ≤ c.args.number * 10 = omega (arith, l) in
+    c.from_residual.ensures ∙ sym (too_large c.args.number c.args.c (omega (arith, at_least)))
 
 pub returns : goal.returns
-unfolding is_digit
-returns c =
-    let k = c.args.c in
-    sym (right-digit _ k (rw (le-leb 48 k c.if-c-lt48.false, lt-ltb k 58 c.if-c-ge58.false)) (omega arith))
+returns c = let a = c.args in let t = c.in_ok-checked_mul in
+    added a.number a.c t.field-0 c.from.result c.checked_add.result (sym (digit-test a.c) ∙ sym c.if-not-is_ascii_digit.ensures.value) t.ensures.1 c.from.ensures c.checked_add.ensures

@@ -1,4 +1,4 @@
 use Rattle.effects.proofs.found.Goals as goal
 
 pub returns : goal.returns
-returns c = simp (c.nothing.ensures, c.numbers_of-n.ensures)
+returns c = simp (c.nothing.ensures, c.stored-stored.ensures)

@@ -1,4 +1,4 @@
 use Rattle.effects.proofs.join_done.Goals as goal
 
 pub returns : goal.returns
-returns c = simp (c.storing.ensures, c.plain_numbers-numbers.ensures, c.numbers_of-old.ensures)
+returns c = simp (c.storing.ensures, c.plain_numbers-numbers.ensures, c.stored-stored.ensures)

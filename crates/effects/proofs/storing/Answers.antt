@@ -1,4 +1,4 @@
 use Rattle.effects.proofs.storing.Goals as goal
 
 pub returns : goal.returns
-returns c = simp c.raised-head.ensures
+returns c = simp (c.raised.ensures)

@@ -1,4 +1,3 @@
-use Rattle.std.proofs.Common.{arith}
 use Rattle.numbers.specs.Expiry.{absolute}
 use Rattle.numbers.proofs.absolute.Goals as goal
 
@@ -6,10 +5,6 @@ pub returns-then-expiry : goal.returns-then-expiry
 unfolding absolute
 returns-then-expiry c = rw c.if-expiry.true
 
-pub returns-then-sum-le4294967295 : goal.returns-then-sum-le4294967295
+pub returns : goal.returns
 unfolding absolute
-returns-then-sum-le4294967295 c = rw c.if-expiry.false (omega (arith, c.if-sum-le4294967295.true))
-
-pub returns-else-sum-le4294967295 : goal.returns-else-sum-le4294967295
-unfolding absolute
-returns-else-sum-le4294967295 c = rw c.if-expiry.false (omega (arith, c.if-sum-le4294967295.false))
+returns c = rw c.if-expiry.false c.saturating_add.ensures

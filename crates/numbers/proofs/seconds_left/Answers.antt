@@ -1,5 +1,5 @@
 use Rattle.std.proofs.Common.{ap, to_z-of_z, eq-eqb, ne_eqb}
-use Rattle.numbers.specs.declared.Left.TheVariants.{Seconds}
+use Rattle.std.specs.Prelude.{Some}
 use Rattle.numbers.specs.Expiry.{seconds_left}
 use Rattle.numbers.proofs.Differences.{small, sub-fits}
 use Rattle.numbers.proofs.seconds_left.Goals as goal
@@ -20,4 +20,4 @@ returns c =
     let a = c.args in
     let f = c.ranges in
     let fits = sub-fits a.expiry a.clock f.expiry.fits f.clock.fits in
-    rw (small a.expiry f.expiry.fits, small a.clock f.clock.fits, ne_eqb _ _ c.if-expiry-eq0.false) (ap Seconds (to_z-of_z fits))
+    rw (small a.expiry f.expiry.fits, small a.clock f.clock.fits, ne_eqb _ _ c.if-expiry-eq0.false) (ap Some (to_z-of_z fits))

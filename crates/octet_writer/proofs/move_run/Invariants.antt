@@ -1,18 +1,14 @@
 -- `move_run` meets its contract: what is there is the copy of all bytes but those that are left.
 use Prim.Native.Nat.{◌≤◌}
 use Rattle.octets.proofs.Lists.{moved}
-use lib.ListN.{length}
 use mathlib.Core.Path.{◌≡◌}
 use Rattle.octet_writer.proofs.move_run.Given as goal
 
 abbrev pub invariant-loop-left : goal.invariant-loop-left
-invariant-loop-left l = (l.left ≤ l.n) × (length l.out ≡ length l.initial.out) × (l.out ≡ moved l.initial.out l.at l.n l.by l.left)
+invariant-loop-left l = (l.left ≤ l.n) × (l.out ≡ moved l.initial.out l.at l.n l.by l.left)
 
 abbrev pub decreases-loop-left : goal.decreases-loop-left
 decreases-loop-left l = l.left
 
-abbrev pub invariant-loop-left-2 : goal.invariant-loop-left-2
-invariant-loop-left-2 l = (l.left ≤ l.initial.left) × (length l.out ≡ length l.initial.out) × (l.out ≡ moved l.initial.out l.at l.initial.left l.by l.left)
-
-abbrev pub decreases-loop-left-2 : goal.decreases-loop-left-2
-decreases-loop-left-2 l = l.left
+abbrev pub invariant-loop-k : goal.invariant-loop-k
+invariant-loop-k l = l.out ≡ moved l.initial.out l.at l.left l.by l.k

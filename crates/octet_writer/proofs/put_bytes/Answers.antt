@@ -28,8 +28,8 @@ paste_run-requires c =
     let t = c.fits in
     (c.if-s-lt32.false, room a.out.now a.at (length a.s.now) t.result t.ensures c.if-not-fits.false)
 
-pub returns : goal.returns
-returns c =
+pub returns-else-s-lt32 : goal.returns-else-s-lt32
+returns-else-s-lt32 c =
     let a = c.args in
     let t = c.fits in
     put-there a.out.now a.at (length a.s.now) t.result t.ensures _ a.s.now refl c.if-not-fits.false c.paste_run.ensures

@@ -1,12 +1,8 @@
 -- `number` meets its contract: after i turns it has the number of the first i bytes.
-use Prim.Native.Nat.{◌-◌, ◌^◌, ◌≤◌, ◌<◌}
+use Prim.Native.Nat.{◌^◌, ◌<◌}
 use Rattle.octets.specs.BigEndian.{num}
 use mathlib.Core.Path.{◌≡◌}
 use Rattle.octets.proofs.number.Given as goal
 
--- `number` meets its contract: after i turns it has the number of the first i bytes.
 abbrev pub invariant-loop-i : goal.invariant-loop-i
-invariant-loop-i l = (l.i ≤ l.n) × (l.v ≡ num l.s l.at l.i) × (l.v < 256 ^ l.i)
-
-abbrev pub decreases-loop-i : goal.decreases-loop-i
-decreases-loop-i l = l.n - l.i
+invariant-loop-i l = (l.v ≡ num l.s l.at l.i) × (l.v < 256 ^ l.i)

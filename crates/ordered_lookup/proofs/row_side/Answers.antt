@@ -1,5 +1,4 @@
 use Rattle.keys.specs.Keys.{side_of}
-use Rattle.octets.specs.Parts.{part}
 use mathlib.Core.List.{List}
 use Prim.Native.Nat.{ℕ}
 use Rattle.ordered_lookup.proofs.HalvingLaws.{free-side, used-side}
@@ -14,6 +13,5 @@ returns-then-be16-eq0 c =
 pub returns : goal.returns
 returns c =
     let a = c.args in
-    let p = c.part.ensures ∙ ap (part a.r.now 32) c.be16-2.ensures in
-    c.compare.ensures ∙ ap (λ (l : List ℕ). side_of l a.key.now) p
+    c.compare.ensures ∙ ap (λ (l : List ℕ). side_of l a.key.now) c.key.ensures
     ∙ used-side a.r.now a.key.now (λ z. c.if-be16-eq0.false (c.be16.ensures ∙ z))

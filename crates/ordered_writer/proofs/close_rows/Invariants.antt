@@ -1,16 +1,11 @@
 use mathlib.Core.Path.{◌≡◌}
 use Prim.Native.Nat.{◌+◌, ◌-◌, ◌*◌, ◌≤◌}
 use mathlib.Core.List.{◌++◌}
-use lib.ListN.{length, take, drop}
+use lib.ListN.{take, drop}
 use Rattle.ordered_writer.specs.Gaps.{closed_bytes}
 use Rattle.ordered_writer.proofs.close_rows.Given as goal
 
-abbrev pub invariant-loop-left : goal.invariant-loop-left
-invariant-loop-left l =
-    (length l.b ≡ length l.initial.b)
-    × (l.at + l.left * 1312 ≤ length l.b)
-    × (l.to ≤ l.at)
-    × (take l.to l.b ++ closed_bytes l.left (l.at - l.to) (drop l.at l.b) ≡ take 16 l.initial.b ++ closed_bytes l.n 0 (drop 16 l.initial.b))
-
-abbrev pub decreases-loop-left : goal.decreases-loop-left
-decreases-loop-left l = l.left
+abbrev pub invariant-loop-i : goal.invariant-loop-i
+invariant-loop-i l =
+    (l.to ≤ 16 + l.i * 1312)
+    × (take l.to l.b ++ closed_bytes (l.n - l.i) (16 + l.i * 1312 - l.to) (drop (16 + l.i * 1312) l.b) ≡ take 16 l.initial.b ++ closed_bytes l.n 0 (drop 16 l.initial.b))

@@ -1,18 +1,17 @@
 use mathlib.Core.Path.{sym, ◌∙◌}
 use Rattle.octets.specs.Parts.{Bytes}
-use Rattle.engines.proofs.Checks.{damaged-by, sound-by}
 use Rattle.owner.proofs.Reading.{purge-refused, purge-stepped}
 use borrow.Author.Rules.{rules}
 use Rattle.owner.proofs.purge.Goals as goal
 
-pub returns-in-Damaged : goal.returns-in-Damaged
-returns-in-Damaged c = let a = c.args in
-    purge-refused a.config a.s.now a.clock a.bound.0 (damaged-by _ _ (sym c.checked.ensures ∙ c.in-Damaged.is))
+pub returns-then-not-is_sound : goal.returns-then-not-is_sound
+returns-then-not-is_sound c = let a = c.args in
+    purge-refused a.config a.s.now a.clock a.bound.0 (sym c.is_sound.ensures ∙ c.if-not-is_sound.true)
 
-pub returns-in-Sound : goal.returns-in-Sound
-returns-in-Sound c =
+pub returns : goal.returns
+returns c =
     let step = c.purge_step in
     let a = c.args in
     let y : Bytes a.s.now = λ k. search rules in
-    let whole = sound-by _ _ _ (sym c.checked.ensures ∙ c.in-Sound.is) in
-    purge-stepped a.config a.s.now a.clock a.bound.0 _ _ y c.ranges.clock.fits whole.0 step.ensures.0 step.ensures.1
+    purge-stepped a.config a.s.now a.clock a.bound.0 _ _ y c.ranges.clock.fits (sym c.is_sound.ensures ∙ c.if-not-is_sound.false)
+    step.ensures.0 step.ensures.1

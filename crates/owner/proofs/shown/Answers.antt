@@ -1,7 +1,7 @@
 use mathlib.Core.Path.{sym, ap, ◌∙◌}
 use Rattle.numbers.specs.declared.Numbers.{Numbers}
 use Rattle.numbers.specs.Expiry.{seconds_left, is_past, seconds_in}
-use Rattle.owning.specs.declared.Document.TheVariants.{Expired, Live}
+use Rattle.owning.specs.Owner.{Expired, Live}
 use Rattle.owner.proofs.Reading.{shown-none, shown-past, shown-live}
 use Rattle.numbers.proofs.Differences.{kept}
 use Rattle.owner.proofs.shown.Goals as goal

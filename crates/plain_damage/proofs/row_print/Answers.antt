@@ -1,5 +1,4 @@
 use mathlib.Core.Path.{sym, ap, ◌∙◌}
-use Rattle.octets.specs.Parts.{part}
 use Rattle.fingerprint.specs.Fingerprint.{fingerprint}
 use Rattle.plain_damage.proofs.Prints.{print-free, print-used}
 use Rattle.plain_damage.proofs.row_print.Goals as goal
@@ -12,5 +11,5 @@ returns-then-be16-eq0 c =
 pub returns : goal.returns
 returns c =
     let r = c.args.r.now in
-    c.of_key.ensures ∙ ap fingerprint (c.part.ensures ∙ ap (part r 32) c.be16-2.ensures)
+    c.of_key.ensures ∙ ap fingerprint c.key.ensures
     ∙ sym (print-used r (λ z. c.if-be16-eq0.false (c.be16.ensures ∙ z)))

@@ -1,14 +1,12 @@
-use Rattle.keys.specs.Keys.{by_side}
-use Rattle.keys.specs.declared.Side.{Side}
+use mathlib.Core.Path.{ap, ◌∙◌}
 use mathlib.Core.Bool.{true, false}
-use mathlib.Core.Path.{sym, ap, ◌∙◌}
+use Rattle.std.specs.declared.cmp.Ordering.{Ordering}
+use Rattle.keys.specs.Keys.{by_side}
+use Rattle.keys.proofs.KeyLaws.{sides}
 use Rattle.plain_listing.proofs.is_below.Goals as goal
 
-pub returns-in-Less : goal.returns-in-Less
-returns-in-Less c = sym (ap (λ (o : Side). by_side o true false false) (sym c.compare.ensures ∙ c.in-Less.is))
-
-pub returns-in-Equal : goal.returns-in-Equal
-returns-in-Equal c = sym (ap (λ (o : Side). by_side o true false false) (sym c.compare.ensures ∙ c.in-Equal.is))
-
-pub returns-in-Greater : goal.returns-in-Greater
-returns-in-Greater c = sym (ap (λ (o : Side). by_side o true false false) (sym c.compare.ensures ∙ c.in-Greater.is))
+pub returns : goal.returns
+returns c =
+    c.is_lt.ensures
+    ∙ sides c.compare.result (λ l. rw l) (λ e. rw e) (λ g. rw g)
+    ∙ ap (λ (o : Ordering). by_side o true false false) c.compare.ensures

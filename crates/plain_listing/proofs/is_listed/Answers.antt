@@ -1,6 +1,5 @@
 use Rattle.plain_listing.proofs.Listed.{listed_free, listed-dead, listed-live}
 use Rattle.keys.specs.Keys.{key_below}
-use Rattle.octets.specs.Parts.{part}
 use Prim.Native.Nat.{ℕ}
 use mathlib.Core.List.{List}
 use mathlib.Core.Bool.{not}
@@ -23,6 +22,6 @@ pub returns : goal.returns
 returns c =
     let kind = c.be16-kind.ensures in
     let a = c.args in
-    ap not c.is_below.ensures ∙ ap (λ (k : List ℕ). not (key_below k a.start.now)) (c.part.ensures ∙ ap (part a.r.now 32) c.be16.ensures)
+    ap not c.is_below.ensures ∙ ap (λ (k : List ℕ). not (key_below k a.start.now)) c.key.ensures
     ∙ sym (listed-live a.clock a.start.now a.r.now (λ z. c.if-kind-eq0.false (kind ∙ z)) _ _ kind c.be32.ensures
     (sym c.alive.ensures ∙ c.if-not-alive.false))

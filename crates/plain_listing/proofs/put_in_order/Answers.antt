@@ -16,7 +16,7 @@ loop-i-init c =
     let a = c.args in
     let q = c.requires in
     let b = a.b.now in (
-      (omega arith, (omega arith, omega arith)),
+      (omega arith, omega arith),
       (
         refl,
         (
@@ -33,7 +33,10 @@ put_row-first-requires c =
     let l = c.loop-i in
     let b = a.b.now in
     record {
-      i_bound = ((omega (arith, q.0, l.invariant.0), omega (arith, q.1.0, l.invariant.0)), (l.invariant.1.0 ∙ q.1.1, (omega (arith, q.1.0, l.invariant.0), l.invariant.0.1.0)));
+      i_bound = (
+        (omega (arith, q.0, l.auto.i, c.loop-i-test.true), omega (arith, q.1.0, l.auto.i, c.loop-i-test.true)),
+        (l.invariant.1.0 ∙ q.1.1, (omega (arith, q.1.0, l.invariant.0, c.loop-i-test.true), l.invariant.0.0)),
+      );
       within = (l.invariant.1.1.0, subst InOrder (sym l.invariant.1.1.1) (sort-order (keys_listed a.clock a.start.now (rows_of (a.n - l.i) (drop (16 + l.i * 1312) b)))));
     }
 
@@ -44,13 +47,13 @@ loop-i-preserved c =
     let l = c.loop-i in
     let b = a.b.now in
     let r = c.put_row-first.ensures in (
-      (omega (arith, l.invariant.0), (omega (arith, l.invariant.0, r.0), omega (arith, l.invariant.0, r.0))),
+      (omega (arith, l.invariant.0, r.0), omega (arith, l.invariant.0, r.0, c.loop-i-test.true)),
       (
         r.1.0 ∙ sym q.1.1,
         (
           r.1.1.0,
           r.1.1.1 ∙ ap (with_key a.clock a.start.now (row_of (row_at b (l.i - 1)))) l.invariant.1.1.1
-              ∙ sorted_more a.clock a.start.now b a.n l.i c.loop-i-test.true l.invariant.0.0 q.0,
+              ∙ sorted_more a.clock a.start.now b a.n l.i c.loop-i-test.true l.auto.i q.0,
         ),
       ),
     )
@@ -62,6 +65,6 @@ returns c =
     let l = c.loop-i in
     let b = a.b.now in
     let z : l.i ≡ 0 = omega (arith, c.loop-i-test.false) in (
-      (l.invariant.0.1.0, l.invariant.1.0 ∙ q.1.1),
+      (l.invariant.0.0, l.invariant.1.0 ∙ q.1.1),
       (l.invariant.1.1.0, l.invariant.1.1.1 ∙ ap (sorted_from a.clock a.start.now b a.n) z ∙ sorted_all a.clock a.start.now b a.n q.0),
     )

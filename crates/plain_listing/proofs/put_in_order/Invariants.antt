@@ -8,8 +8,5 @@ use Rattle.plain_listing.proofs.put_in_order.Given as goal
 
 abbrev pub invariant-loop-i : goal.invariant-loop-i
 invariant-loop-i l =
-    ((l.i ≤ l.n) × ((l.first ≤ 256) × (256 + l.i ≤ l.first + l.n)))
+    ((l.first ≤ 256) × (256 + l.i ≤ l.first + l.n))
     × ((length l.order ≡ length l.initial.order) × (Within (row_count l.b) (drop l.first l.order) × (keys_of l.b l.order l.first ≡ sorted_from l.clock l.start l.b l.n l.i)))
-
-abbrev pub decreases-loop-i : goal.decreases-loop-i
-decreases-loop-i l = l.i

@@ -2,14 +2,15 @@ use Rattle.document.specs.Documents.{Entry}
 use Rattle.plain_writer.proofs.Writes.{put-there, put-nowhere}
 use Rattle.plain_writer.proofs.store.Goals as goal
 
-pub returns-then-i-rows_in : goal.returns-then-i-rows_in
-returns-then-i-rows_in c =
+pub returns-in-Some : goal.returns-in-Some
+returns-in-Some c =
     let a = c.args in
     let e : Entry = record { key = a.key.now; doc = record { tomb = a.m.tomb; value = a.value.now; numbers = a.m.numbers } } in
-    put-nowhere a.b.now a.i e a.old (rw c.rows_in.ensures at c.if-i-rows_in.true)
+    let at = c.in-Some.ensures in
+    rw at.1 (put-there a.b.now a.i e a.old at.0 _ (rw at.1 at c.put_row.ensures))
 
-pub returns : goal.returns
-returns c =
+pub returns-in_default : goal.returns-in_default
+returns-in_default c =
     let a = c.args in
     let e : Entry = record { key = a.key.now; doc = record { tomb = a.m.tomb; value = a.value.now; numbers = a.m.numbers } } in
-    put-there a.b.now a.i e a.old (rw c.rows_in.ensures at c.if-i-rows_in.false) _ c.put_row.ensures
+    put-nowhere a.b.now a.i e a.old c.in_default.ensures

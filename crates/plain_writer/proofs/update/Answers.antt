@@ -1,12 +1,13 @@
 use Rattle.plain_writer.proofs.Writes.{update-there, update-nowhere}
 use Rattle.plain_writer.proofs.update.Goals as goal
 
-pub returns-then-i-rows_in : goal.returns-then-i-rows_in
-returns-then-i-rows_in c =
+pub returns-in-Some : goal.returns-in-Some
+returns-in-Some c =
     let a = c.args in
-    update-nowhere a.b.now a.i a.k a.m a.value.now a.old (rw c.rows_in.ensures at c.if-i-rows_in.true)
+    let at = c.in-Some.ensures in
+    rw at.1 (update-there a.b.now a.i a.k a.m a.value.now a.old at.0 _ (rw at.1 at c.update_row.ensures))
 
-pub returns : goal.returns
-returns c =
+pub returns-in_default : goal.returns-in_default
+returns-in_default c =
     let a = c.args in
-    update-there a.b.now a.i a.k a.m a.value.now a.old (rw c.rows_in.ensures at c.if-i-rows_in.false) _ c.update_row.ensures
+    update-nowhere a.b.now a.i a.k a.m a.value.now a.old c.in_default.ensures

@@ -3,4 +3,4 @@ use Rattle.read_status.proofs.list_status.Goals as goal
 
 pub returns : goal.returns
 unfolding tests_of
-returns c = simp (c.first_status.ensures, c.is_here-here.ensures)
+returns c = simp (c.first_status.ensures, c.is_here.ensures, c.is_long.ensures)

@@ -11,16 +11,16 @@ returns-then-b-ne-SIZE c =
 
 pub replay_fields-requires : goal.replay_fields-requires
 replay_fields-requires c =
-    let o = opens c.args.trace.now _ _ (sym c.opening_of.ensures ∙ c.in-Opened.is) in
+    let o = opens c.args.trace.now _ _ (sym c.opening_of.ensures ∙ c.in-Some.is) in
     let sound = made-sound c.args.b.now _ _ c.if-b-ne-SIZE.false _ _ o.known (omega arith) c.make.ensures.1 in
     record { b_value = sound; out_len = (refl, (o.least, o.most)) }
 
-pub returns-in-Broken : goal.returns-in-Broken
-returns-in-Broken c =
+pub returns-in_default : goal.returns-in_default
+returns-in_default c =
     unopened c.args.config c.args.b.now c.args.trace.now c.if-b-ne-SIZE.false
-    (sym c.opening_of.ensures ∙ c.in-Broken.is)
+    (sym c.opening_of.ensures ∙ c.in_default.is)
 
-pub returns-in-Opened : goal.returns-in-Opened
-returns-in-Opened c =
-    opened c.args.config c.args.b.now c.args.trace.now c.if-b-ne-SIZE.false _ _ _ _ _ (sym c.opening_of.ensures ∙ c.in-Opened.is)
+pub returns : goal.returns
+returns c =
+    opened c.args.config c.args.b.now c.args.trace.now c.if-b-ne-SIZE.false _ _ _ _ _ (sym c.opening_of.ensures ∙ c.in-Some.is)
     c.make.ensures.1 _ c.ruled_by.ensures c.replay_fields.ensures

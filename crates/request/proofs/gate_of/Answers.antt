@@ -4,27 +4,27 @@ use Rattle.header.specs.declared.Layout.{Layout}
 use Rattle.request.specs.Reading.{gate_of}
 use Rattle.request.proofs.gate_of.Goals as goal
 
-pub returns-then-received-lt24 : goal.returns-then-received-lt24
+pub returns-then-received-lt-SIZE : goal.returns-then-received-lt-SIZE
 unfolding gate_of
-returns-then-received-lt24 c = simp (lt-ltb _ _ c.if-received-lt24.true)
+returns-then-received-lt-SIZE c = simp (lt-ltb _ _ c.if-received-lt-SIZE.true)
 
 pub returns-then-h : goal.returns-then-h
 unfolding gate_of
-returns-then-h c = simp (le-ltb _ _ c.if-received-lt24.false, ← c.read-h.ensures, ne_eqb _ _ c.if-h.true)
+returns-then-h c = simp (le-ltb _ _ c.if-received-lt-SIZE.false, ← c.read-h.ensures, ne_eqb _ _ c.if-h.true)
 
-pub returns-then-h-gt1400 : goal.returns-then-h-gt1400
+pub returns-then-h-gt-LONGEST_BODY : goal.returns-then-h-gt-LONGEST_BODY
 unfolding gate_of
-returns-then-h-gt1400 c =
-    simp (le-ltb _ _ c.if-received-lt24.false, ← c.read-h.ensures, eq-eqb _ _ c.if-h.false, lt-ltb _ _ c.if-h-gt1400.true)
+returns-then-h-gt-LONGEST_BODY c =
+    simp (le-ltb _ _ c.if-received-lt-SIZE.false, ← c.read-h.ensures, eq-eqb _ _ c.if-h.false, lt-ltb _ _ c.if-h-gt-LONGEST_BODY.true)
 
 pub returns-then-received-end : goal.returns-then-received-end
 unfolding gate_of
 returns-then-received-end c =
-    let l = ap (λ (x : Layout). x.end) c.layout_of-l.ensures in
-    simp (le-ltb _ _ c.if-received-lt24.false, ← c.read-h.ensures, eq-eqb _ _ c.if-h.false, le-ltb _ _ c.if-h-gt1400.false, ← l, lt-ltb _ _ c.if-received-end.true)
+    let l = ap (λ (x : Layout). x.end) c.layout_of-end.ensures in
+    simp (le-ltb _ _ c.if-received-lt-SIZE.false, ← c.read-h.ensures, eq-eqb _ _ c.if-h.false, le-ltb _ _ c.if-h-gt-LONGEST_BODY.false, ← l, lt-ltb _ _ c.if-received-end.true)
 
 pub returns : goal.returns
 unfolding gate_of
 returns c =
-    let l = ap (λ (x : Layout). x.end) c.layout_of-l.ensures in
-    simp (le-ltb _ _ c.if-received-lt24.false, ← c.read-h.ensures, eq-eqb _ _ c.if-h.false, le-ltb _ _ c.if-h-gt1400.false, ← l, le-ltb _ _ c.if-received-end.false)
+    let l = ap (λ (x : Layout). x.end) c.layout_of-end.ensures in
+    simp (le-ltb _ _ c.if-received-lt-SIZE.false, ← c.read-h.ensures, eq-eqb _ _ c.if-h.false, le-ltb _ _ c.if-h-gt-LONGEST_BODY.false, ← l, le-ltb _ _ c.if-received-end.false)

@@ -1,22 +1,18 @@
 use mathlib.Core.Path.{sym, ◌∙◌}
-use borrow.Author.Tests.{leb-true, leb-false}
+use borrow.Author.Tests.{leb-false}
 use Rattle.row_writer.proofs.Writes.{update_other, update-one, update-unfit}
 use Rattle.row_writer.proofs.update_row.Goals as goal
+use Rattle.row_writer.proofs.update_row.Goals.{else-row-eq-ROW-via-then-row-eq-ROW+else-fits, else-row-eq-ROW-via-else-row-eq-ROW}
 
-pub returns-then-row-ne-ROW : goal.returns-then-row-ne-ROW
-returns-then-row-ne-ROW c =
+pub returns-then-fits : goal.returns-then-fits
+returns-then-fits c =
     let a = c.args in
-    update_other a.row.now a.k a.m a.value.now a.old c.if-row-ne-ROW.true
+    c.put_document.ensures ∙ sym (update-one a.row.now a.k a.m a.value.now a.old c.if-row-eq-ROW.true)
 
-pub returns-then-not-fits : goal.returns-then-not-fits
-returns-then-not-fits c =
+pub returns-else-row-eq-ROW : goal.returns-else-row-eq-ROW
+returns-else-row-eq-ROW c =
     let a = c.args in
-    update-unfit a.row.now a.k a.m a.value.now a.old c.if-row-ne-ROW.false (leb-false _ _ (sym c.fits.ensures ∙ c.if-not-fits.true))
-
-pub put_document-requires : goal.put_document-requires
-put_document-requires c = (c.if-row-ne-ROW.false, leb-true _ _ (sym c.fits.ensures ∙ c.if-not-fits.false))
-
-pub returns : goal.returns
-returns c =
-    let a = c.args in
-    c.put_document.ensures ∙ sym (update-one a.row.now a.k a.m a.value.now a.old c.if-row-ne-ROW.false)
+    elim c.else-row-eq-ROW.branch [
+      | else-row-eq-ROW-via-then-row-eq-ROW+else-fits w ↦ update-unfit a.row.now a.k a.m a.value.now a.old w.if-row-eq-ROW.true (leb-false _ _ (sym w.fits.ensures ∙ w.if-fits.false))
+      | else-row-eq-ROW-via-else-row-eq-ROW w ↦ update_other a.row.now a.k a.m a.value.now a.old w.if-row-eq-ROW.false
+    ]

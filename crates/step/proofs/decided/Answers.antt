@@ -9,8 +9,8 @@ returns c =
     c.decide.ensures ∙ (λ i. decision (record {
       head = a.head;
       row = a.l.stored;
-      free = c.has_place-free.ensures i;
+      free = c.has_place.ensures i;
       clock = a.clock;
-      number = c.parse-number.ensures i;
+      number = c.parse.ensures i;
       size = length a.old.now;
     }) a.ask)

@@ -1,4 +1,5 @@
-use Rattle.serving.specs.declared.Served.TheVariants.{Done}
+use Rattle.outcome.specs.Outcome.{status_of}
+use Rattle.serving.specs.Serve.{Done}
 use Rattle.step.proofs.Framed.{asked_by}
 use Rattle.step.proofs.serve_asked.Goals as goal
 
@@ -7,6 +8,6 @@ returns c =
     let x = c.args in
     asked_by x.config x.b.now x.head x.clock x.h x.ask x.key.now _ x.out.now _ _ _ _ _ _
     c.writes.ensures c.find-l.ensures c.part-old.ensures c.at_clock-now.ensures
-    c.decided-d.ensures c.part.ensures _ _ _ _ c.put_answer-n.ensures
-    (λ i. Done c.decided-d.result.status (c.layout_of-frame.ensures i).end c.put_answer-n.result)
+    c.decided-d.ensures c.part.ensures _ _ _ _ c.put_answer-reply.ensures
+    (λ i. Done (status_of c.decided-d.result.status) (c.layout_of-frame.ensures i).end c.put_answer-reply.result)
     c.change.ensures

@@ -1,6 +1,6 @@
 use native.Mathlib.Omega.{arith}
 use mathlib.Core.Path.{sym, ap, ◌∙◌}
-use Rattle.shape.specs.declared.Shape.{Shape}
+use Rattle.shape.specs.Shapes.{Shape}
 use Rattle.rules.specs.Rules.{form_status}
 use Rattle.step.proofs.Framed.{frame_refused, frame-asked}
 use Rattle.step.proofs.Parts.{within, extras-cut, key-cut, value-cut, broken-status, broken-stops, whole-goes, whole-ask, whole-value}
@@ -51,8 +51,8 @@ slice_bounds-value-end c =
     let w = within _ _ _ _ c.layout_of-l.ensures c.requires.shape_value.1.0 c.requires.shape_value.1.1 in
     w.end
 
-pub returns-in-Broken : goal.returns-in-Broken
-returns-in-Broken c =
+pub returns-in-None : goal.returns-in-None
+returns-in-None c =
     let s = c.args.s.now in
     let h = c.args.h in
     let l = c.layout_of-l in
@@ -61,13 +61,13 @@ returns-in-Broken c =
     let extras = extras-cut s h l.result l.ensures in
     let value = value-cut s h l.result l.ensures in
     let decoded = c.decoded_by.ensures in
-    let told = c.in-Broken.is in
+    let told = c.in-None.is in
     frame_refused c.args.config c.args.b.now c.args.head c.args.clock s h c.args.out.now _ _ _ 0x04
     (broken-stops s h whole form _ _ _ _ _ c.requires.shape_value.0 extras value decoded told) (broken-status s h whole form _ _ _ _ _ c.requires.shape_value.0 extras value decoded told)
     c.refused.ensures
 
-pub returns-in-Whole : goal.returns-in-Whole
-returns-in-Whole c =
+pub returns-in-Some : goal.returns-in-Some
+returns-in-Some c =
     let s = c.args.s.now in
     let h = c.args.h in
     let l = c.layout_of-l in
@@ -76,7 +76,7 @@ returns-in-Whole c =
     let extras = extras-cut s h l.result l.ensures in
     let value = value-cut s h l.result l.ensures in
     let decoded = c.decoded_by.ensures in
-    let ask = c.in-Whole.is in
+    let ask = c.in-Some.is in
     frame-asked c.args.config c.args.b.now c.args.head c.args.clock s h c.args.out.now _ _ _ _ _ _
     (whole-goes s h whole form _ _ _ _ _ c.requires.shape_value.0 extras value decoded _ ask) (whole-ask s h whole form _ _ _ _ _ c.requires.shape_value.0 extras value decoded _ ask)
     (key-cut s h l.result l.ensures) (whole-value s h whole form _ _ _ _ _ c.requires.shape_value.0 extras value decoded _ ask) c.serve_asked.ensures

@@ -1,15 +1,7 @@
+use mathlib.Core.Bool.{not-not}
 use Rattle.commands.specs.Rules.{tests_of}
 use Rattle.write_status.proofs.count_status.Goals as goal
 
 pub returns : goal.returns
 unfolding tests_of
-returns c =
-    simp (
-      c.first_status.ensures,
-      c.is_number-said.ensures,
-      c.has_row-used.ensures,
-      c.numbers_of-old.ensures,
-      c.live-live.ensures,
-      c.is_here-here.ensures,
-      c.passes-fault.ensures,
-    )
+returns c = simp (c.first_status.ensures, c.is_here.ensures, c.is_long.ensures, c.has_room.ensures, c.is_spent.ensures, c.is_none.ensures, not-not c.is_none.result, c.stored.ensures, c.is_live-live.ensures, c.is_guarded-guard.ensures, c.passes.ensures)

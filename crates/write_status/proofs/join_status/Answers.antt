@@ -3,12 +3,4 @@ use Rattle.write_status.proofs.join_status.Goals as goal
 
 pub returns : goal.returns
 unfolding tests_of
-returns c =
-    simp (
-      c.first_status.ensures,
-      c.over-joined.ensures,
-      c.has_row-used.ensures,
-      c.numbers_of-old.ensures,
-      c.live-live.ensures,
-      c.is_here-here.ensures,
-    )
+returns c = simp (c.first_status.ensures, c.is_here.ensures, c.is_long.ensures, c.has_room.ensures, c.is_spent.ensures, c.over.ensures, c.stored.ensures, c.is_live-live.ensures, c.is_guarded-guard.ensures)

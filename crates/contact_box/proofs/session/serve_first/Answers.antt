@@ -11,8 +11,7 @@ use Rattle.std.specs.declared.option.Option.{Option}
 use Rattle.std.specs.Io.KnownBytes.{Appends}
 use Rattle.octets.specs.Parts.{part}
 use Rattle.engine.specs.declared.Config.{Config}
-use Rattle.serving.specs.declared.Served.{Served}
-use Rattle.serving.specs.Serve.{served_used, served_length, served, served_table, served_reply}
+use Rattle.serving.specs.Serve.{served_told, Served, served_used, served_length, served, served_table, served_reply}
 use Rattle.serving.specs.Serves.{Serves}
 use Rattle.tally.specs.declared.Tally.{Tally}
 use Rattle.tally.specs.Counts.{counted_of}
@@ -95,7 +94,7 @@ pub record_answer-recorder-requires : goal.record_answer-recorder-requires
 record_answer-recorder-requires g c =
     let a = c.args in
     short a.config a.table.now a.clock c.held_of.result.now _ c.first_frame-frame.result.now c.part-reply.result.now (length a.replies.now) c.length_of.result
-    c.serve_one-answer.result c.serve_one-answer.ensures.answer (search rules) c.first_frame-frame.ensures c.length_of.ensures c.part-reply.ensures
+    (served_told c.serve_one-answer.result) c.serve_one-answer.ensures.answer (search rules) c.first_frame-frame.ensures c.length_of.ensures c.part-reply.ensures
 
 pub past-requires : goal.past-requires
 past-requires g c =
@@ -104,7 +103,7 @@ past-requires g c =
     let frame = c.first_frame-frame in
     let answer = c.serve_one-answer in
     past_fits a.s.held a.received.now c.used_of-used.result run c.held_of.ensures
-    (used-inside a.config a.table.now a.clock (length a.replies.now) run frame.result.now answer.result c.used_of-used.result frame.ensures answer.ensures.answer
+    (used-inside a.config a.table.now a.clock (length a.replies.now) run frame.result.now (served_told answer.result) c.used_of-used.result frame.ensures answer.ensures.answer
     c.used_of-used.ensures)
     (omega arith) (omega arith)
 
@@ -112,20 +111,20 @@ pub returns-clause-goes : goal.returns-clause-goes
 returns-clause-goes g c =
     let a = c.args in
     goes_one a.config a.clock a.table.now _ a.received.now c.held_of.result.now a.replies.now _ a.s c.past.result c.counted.result c.record_answer-recorder.result
-    c.serve_one-answer.result c.used_of-used.result c.length_of.result c.first_frame-frame.result.now c.part-reply.result.now c.next_after.result
+    (served_told c.serve_one-answer.result) c.used_of-used.result c.length_of.result c.first_frame-frame.result.now c.part-reply.result.now c.next_after.result
     c.all-written.result c.held_of.ensures c.first_frame-frame.ensures c.serve_one-answer.ensures c.used_of-used.ensures c.length_of.ensures c.part-reply.ensures
     c.record_answer-recorder.ensures.records c.past.ensures c.counted.ensures c.next_after.ensures
 
 pub returns-clause-sent : goal.returns-clause-sent
 returns-clause-sent g c =
     let a = c.args in
-    sends a.config a.clock a.table.now _ c.held_of.result.now a.replies.now _ (held_of a.s.held a.received.now) c.serve_one-answer.result c.length_of.result
+    sends a.config a.clock a.table.now _ c.held_of.result.now a.replies.now _ (held_of a.s.held a.received.now) (served_told c.serve_one-answer.result) c.length_of.result
     c.first_frame-frame.result.now c.part-reply.result.now c.held_of.ensures c.first_frame-frame.ensures c.serve_one-answer.ensures c.length_of.ensures
     c.part-reply.ensures c.next_after.result c.all-written.result _ _ c.next_after.ensures c.all-written.ensures
 
 pub returns-clause-traced : goal.returns-clause-traced
 returns-clause-traced g c =
     let a = c.args in
-    traced a.config a.clock a.table.now _ c.held_of.result.now a.replies.now _ (held_of a.s.held a.received.now) c.serve_one-answer.result c.length_of.result
+    traced a.config a.clock a.table.now _ c.held_of.result.now a.replies.now _ (held_of a.s.held a.received.now) (served_told c.serve_one-answer.result) c.length_of.result
     c.first_frame-frame.result.now c.part-reply.result.now c.held_of.ensures c.first_frame-frame.ensures c.serve_one-answer.ensures c.length_of.ensures
     c.part-reply.ensures c.record_answer-recorder.result.recording a.s.recorder.clock _ _ c.record_answer-recorder.ensures.fields

@@ -11,8 +11,7 @@ use Rattle.std.specs.Io.KnownBytes.{Appends}
 use Rattle.octets.specs.Parts.{part}
 use Rattle.engine.specs.declared.Config.{Config}
 use Rattle.tally.specs.declared.Tally.{Tally}
-use Rattle.run.specs.declared.Ran.{Ran}
-use Rattle.run.specs.Run.{called_on, begun, run_end, ran_of}
+use Rattle.run.specs.Run.{Ran, ran_told, called_on, begun, run_end, ran_of}
 use Rattle.contact_box.specs.declared.session.Held.{Held}
 use Rattle.contact_box.specs.declared.session.Next.{Next}
 use Rattle.contact_box.specs.declared.session.Next.TheVariants.{Close}
@@ -65,18 +64,18 @@ past-requires g c =
     let a = c.args in
     let run = c.held_of-run in
     past_fits a.s.held a.received.now c.serve_run-ran.result.cursor.at run.result.now run.ensures
-    (ran-inside a.config a.clock run.result.now a.table.now a.replies.now a.s.tally c.serve_run-ran.result c.serve_run-ran.ensures.0)
+    (ran-inside a.config a.clock run.result.now a.table.now a.replies.now a.s.tally (ran_told c.serve_run-ran.result) c.serve_run-ran.ensures.0)
     (omega arith) (omega arith)
 
 pub returns-clause-goes : goal.returns-clause-goes
 returns-clause-goes g c =
     let a = c.args in
-    goes a.config a.clock a.table.now _ a.received.now c.held_of-run.result.now a.replies.now a.s c.serve_run-ran.result c.past.result c.next_after.result
+    goes a.config a.clock a.table.now _ a.received.now c.held_of-run.result.now a.replies.now a.s (ran_told c.serve_run-ran.result) c.past.result c.next_after.result
     c.all-written.result c.held_of-run.ensures c.serve_run-ran.ensures.0 c.serve_run-ran.ensures.1.0 c.past.ensures c.next_after.ensures
 
 pub returns-clause-sent : goal.returns-clause-sent
 returns-clause-sent g c =
     let a = c.args in
-    sends a.config a.clock a.table.now a.replies.now c.held_of-run.result.now (held_of a.s.held a.received.now) _ c.part.result.now a.s.tally c.serve_run-ran.result
+    sends a.config a.clock a.table.now a.replies.now c.held_of-run.result.now (held_of a.s.held a.received.now) _ c.part.result.now a.s.tally (ran_told c.serve_run-ran.result)
     c.next_after.result c.all-written.result _ _ c.held_of-run.ensures c.serve_run-ran.ensures.0 c.serve_run-ran.ensures.1.1 c.part.ensures c.next_after.ensures
     c.all-written.ensures

@@ -1,18 +1,17 @@
 use mathlib.Core.Path.{sym, ap, ◌∙◌}
 use mathlib.Core.Bool.{cond}
 use Rattle.rows.specs.Table.{table_of}
-use Rattle.plain.specs.declared.Found.TheVariants.{Nothing}
-use Rattle.plain.specs.declared.Found.{Found}
+use Rattle.std.specs.Prelude.{Option, None, ℕ}
 use Rattle.plain.specs.Lookup.{free_in, found_place, place_by}
 use Rattle.plain.proofs.lookup.place.Goals as goal
 
-pub returns-in-At : goal.returns-in-At
+pub returns-in-Some : goal.returns-in-Some
 unfolding place_by
-returns-in-At c =
-    ap (λ (f : Found). found_place f (cond c.args.new (free_in 0 (table_of c.args.s.now).rows) Nothing)) (sym c.in-At.is ∙ c.find_key.ensures)
+returns-in-Some c =
+    ap (λ (f : Option ℕ). found_place f (cond c.args.new (free_in 0 (table_of c.args.s.now).rows) None)) (sym c.in-Some.is ∙ c.find_key.ensures)
 
-pub returns-in-Nothing : goal.returns-in-Nothing
+pub returns-in-None : goal.returns-in-None
 unfolding place_by
-returns-in-Nothing c =
-    c.free_place.ensures ∙ ap (λ (f : Found). found_place f (cond c.args.new (free_in 0 (table_of c.args.s.now).rows) Nothing))
-    (sym c.in-Nothing.is ∙ c.find_key.ensures)
+returns-in-None c =
+    c.free_place.ensures ∙ ap (λ (f : Option ℕ). found_place f (cond c.args.new (free_in 0 (table_of c.args.s.now).rows) None))
+    (sym c.in-None.is ∙ c.find_key.ensures)

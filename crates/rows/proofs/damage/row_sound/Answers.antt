@@ -18,5 +18,5 @@ returns c =
     let r = c.args.r.now in
     let mark = c.args.mark in
     (λ i. c.used_ok.ensures i && (c.zero_run.ensures ∙ ap zeros c.rest.ensures) i)
-    ∙ ap (λ (h : Slot). used_ok mark h && zeros (drop (32 + (h.keylen + h.vallen)) r)) c.slot_here-s.ensures
+    ∙ ap (λ (h : Slot). used_ok mark h && zeros (drop (32 + (h.keylen + h.vallen)) r)) c.slot-s.ensures
     ∙ sym (sound-used r mark (λ z. c.if-be16-eq0.false (c.be16.ensures ∙ z)))

@@ -14,7 +14,7 @@ returns-then-not-is_sound c =
 pub overflow_add-result : goal.overflow_add-result
 overflow_add-result c =
     let a = c.args in
-    let rest = c.rest in
+    let rest = c.rest-seen in
     let sound = sym c.is_sound.ensures ∙ c.if-not-is_sound.false in
     let one = one_left a.config a.clock rest.result.now a.b.now a.out.now _ _ _ _ (c.serve_frames-ran.ensures.1 sound) in
     let l = ap length rest.ensures in
@@ -24,7 +24,7 @@ overflow_add-result c =
 pub returns : goal.returns
 returns c =
     let a = c.args in
-    let rest = c.rest in
+    let rest = c.rest-seen in
     let sound = sym c.is_sound.ensures ∙ c.if-not-is_sound.false in
     let one = one_left a.config a.clock rest.result.now a.b.now a.out.now _ _ _ _ (c.serve_frames-ran.ensures.1 sound) in
     moved-eq _ _ _ _ _ _ _ _ _ _ _ rest.ensures one.at one.serves

@@ -4,11 +4,11 @@ use mathlib.Core.Path.{ap, ◌∙◌}
 use Prim.Native.Nat.{ℕ}
 use Rattle.step.proofs.change.change.Goals as goal
 
-pub returns-in-Used : goal.returns-in-Used
-returns-in-Used c =
+pub returns-in-Some : goal.returns-in-Some
+returns-in-Some c =
     let a = c.args in
-    let head = ap (λ (x : List ℕ). stored_from a.config x a.l a.key.now c.in-Used.m a.d.source a.value.now) c.put_head.ensures in
-    rw c.in-Used.is (c.store_from.ensures ∙ head)
+    let head = ap (λ (x : List ℕ). stored_from a.config x a.l a.key.now c.in-Some.m a.d.source a.value.now) c.put_head.ensures in
+    rw c.in-Some.is (c.store_from.ensures ∙ head)
 
-pub returns-in-Nothing : goal.returns-in-Nothing
-returns-in-Nothing c = rw c.in-Nothing.is c.put_clock.ensures
+pub returns-in-None : goal.returns-in-None
+returns-in-None c = rw c.in-None.is c.put_clock.ensures

@@ -1,7 +1,0 @@
-use Rattle.effects.proofs.sum.Goals as goal
-
-pub returns-then-k : goal.returns-then-k
-returns-then-k c = rw (c.in-Value.is, c.if-k.true) c.increment.ensures
-
-pub returns-else-k : goal.returns-else-k
-returns-else-k c = rw (c.in-Value.is, c.if-k.false) c.decrement.ensures

@@ -1,4 +1,0 @@
-use Rattle.plain.proofs.lookup.find_in.Goals as goal
-
-pub returns : goal.returns
-returns c = c.find_from.ensures

@@ -1,8 +1,0 @@
--- `put_run` is safe and ends: each turn puts one byte of the run.
-use Rattle.request_vectors.proofs.text.put_run.Given as goal
-
-abbrev pub invariant-loop-left : goal.invariant-loop-left
-invariant-loop-left l = Unit {0}
-
-abbrev pub decreases-loop-left : goal.decreases-loop-left
-decreases-loop-left l = l.left

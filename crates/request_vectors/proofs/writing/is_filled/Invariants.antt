@@ -1,9 +1,0 @@
--- `is_filled` is safe and ends: each turn looks at a byte.
-use Rattle.std.proofs.Common.{length, ◌-◌}
-use Rattle.request_vectors.proofs.writing.is_filled.Given as goal
-
-abbrev pub invariant-loop-i : goal.invariant-loop-i
-invariant-loop-i l = Unit {0}
-
-abbrev pub decreases-loop-i : goal.decreases-loop-i
-decreases-loop-i l = length l.s - l.i
