@@ -157,11 +157,13 @@ fn calls(file: &Path, trace: &Path, frames: &[Vec<u8>]) -> Vec<String> {
     command.args(["-D", "-f", "-e", "trace=recvfrom,sendto,write,fsync,rename", "-o"]).arg(trace);
     command.args([PROGRAM, "serve"]).arg(file).args(["--listen", "127.0.0.1:0"]);
     let server = Server::of(command);
-    let (id, mut client) = (server.id(), server.connect());
+    let (id, mut client) = (server.id().to_string(), server.connect());
     frames.iter().for_each(|frame| assert_eq!(client.ask(frame).status, 0));
     server.kill();
-    let (end, text) = (format!("{id} +++ killed"), || fs::read_to_string(trace).unwrap());
-    while !text().contains(&end) {
+    // strace puts spaces behind a number of fewer than five digits
+    let ended = |text: &str| text.lines().any(|line| line.split_whitespace().take(3).eq([&id, "+++", "killed"]));
+    let text = || fs::read_to_string(trace).unwrap();
+    while !ended(&text()) {
         thread::sleep(Duration::from_millis(10));
     }
     let text = text();
