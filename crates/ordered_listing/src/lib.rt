@@ -34,7 +34,8 @@ fn put_rows(rows: &[[u8; ROW]], first: usize, clock: u32, count: u32, out: &mut 
         }
         let row = &rows[i];
         if is_live(row, clock) {
-            match listing::put_key(out, size, rows::row::key(row)) {
+            let key = rows::row::key(row);
+            match listing::put_key(out, size, key) {
                 Some(longer) => size = longer,
                 None => return size,
             }

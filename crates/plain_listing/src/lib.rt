@@ -129,7 +129,8 @@ fn put_ordered(b: &[u8], order: &[u8], first: usize, count: u32, out: &mut [u8])
         if left == 0 {
             return size;
         }
-        match listing::put_key(out, size, key_at(b, order[j] as usize)) {
+        let key = key_at(b, order[j] as usize);
+        match listing::put_key(out, size, key) {
             Some(longer) => size = longer,
             None => return size,
         }

@@ -1,5 +1,5 @@
 // Bytes in hexadecimal, with blanks between them where wanted: xx is one byte, and xx*N the same byte N times.
-ghost use Rattle.std.specs.Prelude.{◌≡◌, ◌<◌, ◌≤◌, ◌==◌, min, length, IfSome};
+ghost use Rattle.std.specs.Prelude.{◌≡◌, ◌<◌, ◌≤◌, ◌==◌, min, length, take, IfSome};
 ghost use Rattle.std.specs.List.{list_all};
 ghost use Rattle.vector_text.specs.Hexadecimal.{digit_of, byte_of};
 
@@ -83,19 +83,22 @@ fn first_run(s: &[u8], times: Times) -> Option<Run<'_>>
 
 // Puts a byte so many times at a place, as far as they fit, and answers where they end.
 fn put_run(out: &mut [u8], at: usize, byte: u8, times: usize) -> usize
-    ensures { min at (length out.old) ≤ result }
+    ensures len { length out.new ≡ length out.old }
+    ensures end { min at (length out.old) ≤ result }
+    ensures kept { take at out.new ≡ take at out.old }
 {
     let end = at.saturating_add(times).min(out.len());
-    if let Some(room) = out.get_mut(at..end) {
-        room.fill(byte);
+    if at < end {
+        out[at..end].fill(byte);
     }
     end
 }
 
 // Puts the bytes that a text spells at a place, and answers where they end. Where they fill out to its end, they may have been more.
-// The contract doesn't say which bytes they are: that would be all of `first_run` a second time.
+// The contract doesn't say which bytes they are: that would be all of `first_run` a second time. Those before their place stay.
 pub fn put(out: &mut [u8], from: usize, s: &[u8], times: Times) -> Option<usize>
     ensures len { length out.new ≡ length out.old }
+    ensures kept { take from out.new ≡ take from out.old }
     ensures end { IfSome result (λ end. (from ≤ end) × (end < length out.old)) }
 {
     let mut end = from;

@@ -17,8 +17,8 @@ returns-in-None c =
     let l = c.loop-i in
     let a = c.args in
     let rs = a.rows.now in
-    let e = next-live a.clock rs l.i c.loop-i-test.true (sym c.is_live.ensures ∙ c.if-is_live.true) c.key.result.now c.key.ensures in
-    let p = out-of-room _ _ _ _ _ _ l.invariant c.key.result.now (live_from a.clock rs (l.i + 1)) e c.in-None.ensures.0 in
+    let e = next-live a.clock rs l.i c.loop-i-test.true (sym c.is_live.ensures ∙ c.if-is_live.true) c.key-key.result.now c.key-key.ensures in
+    let p = out-of-room _ _ _ _ _ _ l.invariant c.key-key.result.now (live_from a.clock rs (l.i + 1)) e c.in-None.ensures.0 in
     (p.0, c.in-None.ensures.1 ∙ p.1)
 
 pub loop-i-preserved : goal.loop-i-preserved
@@ -29,8 +29,8 @@ loop-i-preserved c =
     let later = live_from a.clock rs (l.i + 1) in
     elim c.if-is_live.branch [
       | then-is_live+in-Some w ↦
-          let k = w.key.result.now in
-          let e = next-live a.clock rs l.i c.loop-i-test.true (sym c.is_live.ensures ∙ w.if-is_live.true) k w.key.ensures in
+          let k = w.key-key.result.now in
+          let e = next-live a.clock rs l.i c.loop-i-test.true (sym c.is_live.ensures ∙ w.if-is_live.true) k w.key-key.ensures in
           let put = w.in-Some.ensures in
           let size = w.size-is ∙ put.1 in
           rw (w.out-is, size, w.left-is) (one_written _ _ _ _ _ _ l.invariant k later e c.requires (omega (arith, c.if-left-eq0.false)) put.0 _ _ refl put.2)

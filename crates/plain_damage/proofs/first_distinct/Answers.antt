@@ -1,8 +1,10 @@
+use native.Mathlib.Omega.{arith}
 use mathlib.Core.Path.{◌≡◌, sym, ap, ◌∙◌}
 use mathlib.Core.Bool.{Bool, true, false, not, ◌&&◌}
 use mathlib.Core.List.{List, map}
 use Prim.Native.Nat.{ℕ}
 use Rattle.std.specs.Prelude.{is_none}
+use Rattle.std.proofs.lemmas.Grind.{common_steps}
 use Rattle.fingerprint.specs.Fingerprint.{print_among}
 use Rattle.rows.specs.Row.{row_of}
 use Rattle.plain.specs.Damage.{distinct}
@@ -30,5 +32,6 @@ pub returns : goal.returns
 returns c =
     let a = c.args in
     let ws = map row_of a.later.now in
-    ap (λ (t : Bool). t && distinct ws) (opposite c.is_none.result _ c.is_none.ensures ∙ ap is_none (c.find_among.ensures ∙ ap (λ (k : List ℕ). find_in k 0 ws) c.key-key.ensures))
+    let found : c.find_among.result ≡ find_in c.key-key.result.now 0 ws = grind (arith, common_steps, c.find_among.ensures) in
+    ap (λ (t : Bool). t && distinct ws) (opposite c.is_none.result _ c.is_none.ensures ∙ ap is_none (found ∙ ap (λ (k : List ℕ). find_in k 0 ws) c.key-key.ensures))
     ∙ distinct-used a.row.now ws (λ z. c.if-be16-eq0.false (c.be16.ensures ∙ z))
