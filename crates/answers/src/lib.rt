@@ -6,7 +6,6 @@ ghost use Rattle.std.specs.Prelude.{◌≡◌};
 ghost use Rattle.outcome.specs.Outcome.{status_number};
 ghost use Rattle.owning.specs.Owner.{read_told, purged_told, activated_told};
 ghost use Rattle.replay.specs.Replay.{ending_told};
-ghost use Rattle.request.specs.Reading.{reading_told};
 ghost use Rattle.request_writer.specs.Writing.{written_told};
 ghost use Rattle.run.specs.Run.{ran_told};
 ghost use Rattle.serving.specs.Serve.{served_told};
@@ -16,7 +15,7 @@ use numbers::Numbers;
 use outcome::{Refusal, Status};
 use owning::{ActivateError, Document, PurgeError, ReadError};
 use replay::ReplayError;
-use request::{Frame, Span, Unread};
+use request::{Frame, ReadingCode, ReadingNumbers, Span};
 use request_writer::WriteError;
 use run::Ran;
 use serving::Served;
@@ -287,13 +286,13 @@ fn request_shown(f: Frame) -> RequestAnswer
     }
 }
 
-pub fn request_answer(answer: Result<Frame, Unread>) -> RequestAnswer
-    ensures { result ≡ request_answer (reading_told answer) }
+pub fn request_answer<R: ReadingCode>(answer: R) -> RequestAnswer
+    ensures { result ≡ request_answer (R.told answer) }
 {
-    match answer {
-        Ok(frame) => request_shown(frame),
-        Err(Unread::Refused(refusal)) => request_refused(refusal.number(), 0),
-        Err(Unread::Status(status)) => request_refused(0, status.number()),
+    match answer.numbers() {
+        ReadingNumbers::Outcome(outcome) => request_refused(outcome, 0),
+        ReadingNumbers::Status(status) => request_refused(0, status),
+        ReadingNumbers::Accepted(frame) => request_shown(frame),
     }
 }
 

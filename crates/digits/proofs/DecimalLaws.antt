@@ -85,6 +85,9 @@ module _ (a c : ℕ) where
   unfolding number_from all_digits
   no_digit e = rw e
 
+  pub no_ascii_digit : is_ascii_digit c ≡ false → number_from a (c ∷ []) ≡ None
+  no_ascii_digit e = no_digit (sym (digit-test c) ∙ e)
+
   pub too_large : 2 ^ 64 ≤ a * 10 + (c - 48) → number_from a (c ∷ []) ≡ None
   unfolding number_from all_digits value_from
   too_large h = rw (le-ltb (a * 10 + (c - 48)) (2 ^ 64) h, and-false)

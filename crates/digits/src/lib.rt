@@ -40,6 +40,7 @@ pub fn put_number(out: &mut [u8], n: u64) -> usize
 }
 
 // The number with one more digit, where that is one and the number stays under 2^64.
+#[tactic(auto, using(crate::proofs::DecimalLaws::no_ascii_digit))]
 fn with_digit(number: u64, c: u8) -> Option<u64>
     ensures { result ≡ number_from number (c ∷ []) }
 {

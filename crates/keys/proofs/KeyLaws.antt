@@ -2,7 +2,7 @@
 use native.Mathlib.Omega.{arith}
 use mathlib.Core.Path.{◌≡◌, refl, sym, ap, ◌∙◌}
 use mathlib.Core.Logic.{◌⊎◌, inl, inr}
-use mathlib.Core.Bool.{true, false, false≢true}
+use mathlib.Core.Bool.{true, false, ◌&&◌, ◌||◌, false≢true}
 use mathlib.Core.List.{List, [], ◌∷◌}
 use Prim.Native.Nat.{ℕ, suc, ◌+◌, ◌*◌, ◌≤◌, ◌<◌}
 use lib.Dec.{ltb, eqb}
@@ -89,7 +89,11 @@ side-flip a b =
 pub side-trans : (a b c : List ℕ) → side_of a b ≡ Less → side_of b c ≡ Less → side_of a c ≡ Less
 side-trans a b c p q = side-is a c ∙ nat_list_cmp_total.trans a b c (sym (side-is a b) ∙ p) (sym (side-is b c) ∙ q)
 
--- the order as a test: irreflexive, transitive, and of two keys that differ one is below the other
+-- the order as a test: lexicographic, irreflexive, transitive, and of two keys that differ one is below the other
+pub below_step : (x y : ℕ) (a b : List ℕ) → key_below (x ∷ a) (y ∷ b) ≡ (ltb x y || (eqb x y && key_below a b))
+unfolding side_of
+below_step x y a b = cases (ltb x y) (λ t. rw t) (λ f. cases (eqb x y) (λ t. rw (f, t)) (λ n. rw (f, n)))
+
 pub below-side : (a b : List ℕ) → key_below a b ≡ true → side_of a b ≡ Less
 below-side a b e = sides (side_of a b) (λ l. l) (λ q. absurd (false≢true (rw q at e))) (λ q. absurd (false≢true (rw q at e)))
 

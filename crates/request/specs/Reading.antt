@@ -1,5 +1,7 @@
 -- Reading a request: outcomes 1, 2, 3 of document 01, then statuses 1 to 3 save the rules that need mode or clock, else the fields.
 use Rattle.std.specs.Prelude.{ℕ, ◌+◌, ◌-◌, List, not, cond, length, ltb, eqb}
+use Rattle.std.specs.declared.option.Option.{Option}
+use Rattle.std.specs.declared.option.Option.TheVariants.{Some, None}
 use Rattle.std.specs.declared.result.Result.{Result}
 use Rattle.std.specs.declared.result.Result.TheVariants.{Ok, Err}
 use Rattle.octets.specs.Parts.{part}
@@ -13,6 +15,8 @@ use Rattle.rules.specs.Rules.{status, meta_size}
 use Rattle.request.specs.declared.Fields.{Fields}
 use Rattle.request.specs.declared.Span.{Span}
 use Rattle.request.specs.declared.Frame.{Frame}
+use Rattle.request.specs.declared.ReadingNumbers.{ReadingNumbers}
+use Rattle.request.specs.declared.ReadingNumbers.TheVariants.{Outcome as OutcomeNumber, Status as StatusNumber, Accepted as Shown}
 use Rattle.request.specs.declared.Unread.{Unread}
 use Rattle.request.specs.declared.Unread.TheVariants.{Refused, Status as Answered}
 
@@ -39,6 +43,27 @@ unread_told (Answered status) = Status (status_number status)
 abbrev pub reading_told : Result Frame Unread → Reading
 reading_told (Ok frame) = Accepted frame
 reading_told (Err unread) = unread_told unread
+
+-- the reading that an answer by its numbers says
+abbrev pub numbers_told : ReadingNumbers → Reading
+numbers_told (OutcomeNumber n) = Outcome n
+numbers_told (StatusNumber n) = Status n
+numbers_told (Shown frame) = Accepted frame
+
+-- the bytes that the code's answer says are needed from the frame's start, 0 where it says none
+abbrev pub unread_needed : Unread → ℕ
+unread_needed (Refused refusal) = refusal_needed refusal
+unread_needed (Answered status) = 0
+
+abbrev pub reading_needed : Result Frame Unread → ℕ
+reading_needed (Ok frame) = 0
+reading_needed (Err unread) = unread_needed unread
+
+-- the request of a reading, where it was read
+abbrev pub accepted : Reading → Option Frame
+accepted (Outcome n) = None
+accepted (Status n) = None
+accepted (Accepted f) = Some f
 
 -- 01's numbers for the gate: its outcome, 0 where a whole frame stands there, and the bytes that it says are needed from the frame's start, 0 where 01 has it say none
 abbrev pub gate_outcome : Gate → ℕ

@@ -5,7 +5,7 @@
 ghost use Rattle.std.specs.Prelude.{◌≡◌};
 ghost use Rattle.outcome.specs.Outcome.{status_of};
 ghost use Rattle.request.specs.declared.Unread.TheVariants.{Refused, Status as Answered};
-ghost use Rattle.request.specs.Reading.{gate_told, reading_told, gate_of, extras_span, key_span, value_span, bytes_in, fields_of, frame_of, frame_status, reading};
+ghost use Rattle.request.specs.Reading.{Reading, gate_told, numbers_told, reading_told, reading_needed, accepted, gate_needed, gate_of, extras_span, key_span, value_span, bytes_in, fields_of, frame_of, frame_status, reading};
 
 use header::Header;
 use numbers::Cas;
@@ -63,6 +63,57 @@ impl From<Status> for Unread {
 
     fn from(status: Status) -> Unread {
         Unread::Status(status)
+    }
+}
+
+// An answer of the reader by its numbers, of which any may stand here: an outcome, a status, or the request.
+#[derive(Clone, Copy)]
+pub enum ReadingNumbers {
+    Outcome(u8),
+    Status(u8),
+    Accepted(Frame),
+}
+
+impl ReadingNumbers {
+    // The request, where it was read.
+    #[inline(always)]
+    pub fn accepted(self) -> Option<Frame>
+        ensures { result ≡ accepted (numbers_told self) }
+    {
+        match self {
+            ReadingNumbers::Accepted(frame) => Some(frame),
+            _ => None,
+        }
+    }
+}
+
+// What tells what reading gave: the reader's own answer, or an answer by its numbers.
+pub trait ReadingCode: Copy {
+    ghost told: { Self → Reading };
+
+    fn numbers(self) -> ReadingNumbers
+        ensures { numbers_told result ≡ told self };
+}
+
+impl ReadingCode for ReadingNumbers {
+    ghost told = { numbers_told };
+
+    #[inline(always)]
+    fn numbers(self) -> ReadingNumbers {
+        self
+    }
+}
+
+impl ReadingCode for Result<Frame, Unread> {
+    ghost told = { reading_told };
+
+    #[inline(always)]
+    fn numbers(self) -> ReadingNumbers {
+        match self {
+            Ok(frame) => ReadingNumbers::Accepted(frame),
+            Err(Unread::Refused(refusal)) => ReadingNumbers::Outcome(refusal.number()),
+            Err(Unread::Status(status)) => ReadingNumbers::Status(status.number()),
+        }
     }
 }
 
@@ -165,7 +216,8 @@ pub fn frame_status(s: &[u8], h: Header) -> Result<(), Status>
 // Reads the request at the start of the received bytes.
 #[tactic(auto, unfolding(crate::specs::Reading::reading, crate::specs::Reading::whole_reading))]
 pub fn read(received: &[u8]) -> Result<Frame, Unread>
-    ensures { reading_told result ≡ reading received.now }
+    ensures reading { reading_told result ≡ reading received.now }
+    ensures needed { reading_needed result ≡ gate_needed (gate_of received.now) }
 {
     let h = gate_of(received)?;
     frame_status(received, h)?;

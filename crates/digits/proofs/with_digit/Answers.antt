@@ -1,11 +1,11 @@
 use native.Mathlib.Omega.{arith}
-use mathlib.Core.Path.{sym, ◌∙◌}
+use mathlib.Core.Bool.{true}
+use mathlib.Core.Path.{◌≡◌, sym, ◌∙◌}
+use Rattle.std.specs.Char.{is_ascii_digit}
+use Rattle.std.proofs.lemmas.Bool.Decides.{nat_tests}
 use Prim.Native.Nat.{◌≤◌, ◌<◌, ◌*◌, ◌^◌}
-use Rattle.digits.proofs.DecimalLaws.{digit-test, no_digit, too_large, added}
+use Rattle.digits.proofs.DecimalLaws.{digit-test, too_large, added}
 use Rattle.digits.proofs.with_digit.Goals as goal
-
-pub returns-then-not-is_ascii_digit : goal.returns-then-not-is_ascii_digit
-returns-then-not-is_ascii_digit c = sym (no_digit _ c.args.c (sym (digit-test c.args.c) ∙ sym c.if-not-is_ascii_digit.ensures.value))
 
 pub returns-in_err-checked_mul : goal.returns-in_err-checked_mul
 returns-in_err-checked_mul c =
@@ -15,4 +15,5 @@ returns-in_err-checked_mul c =
 
 pub returns : goal.returns
 returns c = let a = c.args in let t = c.in_ok-checked_mul in
-    added a.number a.c t.field-0 c.from.result c.checked_add.result (sym (digit-test a.c) ∙ sym c.if-not-is_ascii_digit.ensures.value) t.ensures.1 c.from.ensures c.checked_add.ensures
+    let digit : is_ascii_digit a.c ≡ true = grind (arith, nat_tests) in
+    added a.number a.c t.field-0 c.from.result c.checked_add.result (sym (digit-test a.c) ∙ digit) t.ensures.1 c.from.ensures c.checked_add.ensures

@@ -1,4 +1,5 @@
 use borrow.Author.Rules.{rules}
+use native.Mathlib.Omega.{arith}
 use mathlib.Core.Path.{◌≡◌, sym, ◌∙◌}
 use Rattle.std.specs.Ordering.{nat_cmp}
 use Rattle.std.specs.Cmp.Lexicographic.{slice_cmp}
@@ -14,5 +15,5 @@ returns-then-t-eq8 c =
 pub returns : goal.returns
 returns c =
     let a = c.args in
-    let e : c.cmp-2.result ≡ slice_cmp nat_cmp a.s.now a.t.now = c.cmp-2.ensures in
+    let e : c.cmp-2.result ≡ slice_cmp nat_cmp a.s.now a.t.now = grind arith in
     e ∙ sym (side-is a.s.now a.t.now)
