@@ -17,5 +17,4 @@ unfolding reply_header
 returns c =
     let k = c.key_size-k.ensures in
     let e = c.extras_size-e.ensures in
-    let t = c.status_of-status.ensures in
-    c.header_with.ensures ∙ (λ i. header_with c.args.op c.args.opaque (t i) (k i) (e i) (c.requires.1.1 i) c.args.d.done.cas)
+    c.header_with.ensures ∙ (λ i. header_with c.args.op c.args.opaque c.args.d.status (k i) (e i) (c.requires.1.1 i) c.args.d.done.cas)
