@@ -59,6 +59,11 @@ abbrev pub served_succeeds : Served → Bool
 served_succeeds (Refused n need) = false
 served_succeeds (Done status used len) = eqb status 0
 
+-- or with another
+abbrev pub served_fails : Served → Bool
+served_fails (Refused n need) = false
+served_fails (Done status used len) = not (eqb status 0)
+
 -- the bytes consumed
 abbrev pub served_used : Served → ℕ
 served_used (Refused n need) = 0

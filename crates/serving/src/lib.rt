@@ -2,7 +2,7 @@
 #![tactic(auto)]
 
 ghost use Rattle.std.specs.Prelude.{◌≡◌};
-ghost use Rattle.serving.specs.Serve.{Served, served_told, numbers_told, served_succeeds};
+ghost use Rattle.serving.specs.Serve.{Served, served_told, numbers_told, served_succeeds, served_fails};
 
 use outcome::{Refusal, Status};
 
@@ -32,6 +32,10 @@ pub trait AnswerCode: Copy {
     // Whether a frame was served with status 0.
     fn succeeds(self) -> bool
         ensures { result ≡ served_succeeds (told self) };
+
+    // Whether a frame was served with another status.
+    fn fails(self) -> bool
+        ensures { result ≡ served_fails (told self) };
 }
 
 impl AnswerCode for ServedNumbers {
@@ -45,6 +49,11 @@ impl AnswerCode for ServedNumbers {
     #[inline(always)]
     fn succeeds(self) -> bool {
         matches!(self, ServedNumbers::Done(0, _, _))
+    }
+
+    #[inline(always)]
+    fn fails(self) -> bool {
+        matches!(self, ServedNumbers::Done(1.., _, _))
     }
 }
 
@@ -65,7 +74,12 @@ impl AnswerCode for Result<Served, Refusal> {
 
     #[inline(always)]
     fn succeeds(self) -> bool {
-        matches!(self, Ok(Served { status: Ok(()), .. }))
+        self.is_ok_and(|frame| frame.status.is_ok())
+    }
+
+    #[inline(always)]
+    fn fails(self) -> bool {
+        self.is_ok_and(|frame| frame.status.is_err())
     }
 }
 

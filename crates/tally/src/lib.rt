@@ -42,10 +42,9 @@ pub fn counted<A: AnswerCode>(t: Tally, answer: A) -> Tally
     let ServedNumbers::Done(_, _, reply) = answer.numbers() else {
         return t;
     };
-    let succeeds = answer.succeeds();
     Tally {
-        served: more_if(succeeds, t.served),
-        refused: more_if(!succeeds, t.refused),
+        served: more_if(answer.succeeds(), t.served),
+        refused: more_if(answer.fails(), t.refused),
         silent: more_if(reply == 0, t.silent),
     }
 }
