@@ -7,18 +7,15 @@ ghost use Rattle.outcome.specs.Outcome.{status_number};
 ghost use Rattle.owning.specs.Owner.{read_told, purged_told, activated_told};
 ghost use Rattle.replay.specs.Replay.{ending_told};
 ghost use Rattle.request_writer.specs.Writing.{written_told};
-ghost use Rattle.run.specs.Run.{ran_told};
-ghost use Rattle.serving.specs.Serve.{served_told};
 ghost use Rattle.answers.specs.Answers.{served_answer, ran_answer, part_of, lifetime_of, live_answer, no_document, document_answer, purged_answer, activated_answer, request_refused, request_shown, request_answer, written_answer, replayed_answer};
 
 use numbers::Numbers;
-use outcome::{Refusal, Status};
 use owning::{ActivateError, Document, PurgeError, ReadError};
 use replay::ReplayError;
 use request::{Frame, ReadingCode, ReadingNumbers, Span};
 use request_writer::WriteError;
-use run::Ran;
-use serving::Served;
+use run::RanCode;
+use serving::{AnswerCode, ServedNumbers};
 use tally::Tally;
 
 // Bytes of a frame or of a table: a place counted from its first byte, and a length.
@@ -115,44 +112,45 @@ pub struct ReplayedAnswer {
 
 const NO_PART: Part = Part { at: 0, len: 0 };
 
-pub fn served_answer(answer: Result<Served, Refusal>) -> ServedAnswer
-    ensures { result ≡ served_answer (served_told answer) }
+pub fn served_answer<A: AnswerCode>(answer: A) -> ServedAnswer
+    ensures { result ≡ served_answer (A.told answer) }
 {
-    match answer {
-        Ok(served) => ServedAnswer {
-            outcome: 0,
-            status: outcome::status_of(served.status),
-            used: served.used,
-            reply: served.reply,
-            needed: 0,
-        },
-        Err(refusal) => ServedAnswer {
-            outcome: refusal.number(),
+    match answer.numbers() {
+        ServedNumbers::Refused(outcome, needed) => ServedAnswer {
+            outcome,
             status: 0,
             used: 0,
             reply: 0,
-            needed: refusal.needed(),
+            needed,
+        },
+        ServedNumbers::Done(status, used, reply) => ServedAnswer {
+            outcome: 0,
+            status,
+            used,
+            reply,
+            needed: 0,
         },
     }
 }
 
-pub fn ran_answer(r: Ran) -> RanAnswer
-    ensures { result ≡ ran_answer (ran_told r) }
+pub fn ran_answer<R: RanCode>(r: R) -> RanAnswer
+    ensures { result ≡ ran_answer (R.told r) }
 {
-    let stop = served_answer(r.stop);
+    let ran = r.numbers();
+    let stop = served_answer(ran.stop);
     RanAnswer {
         outcome: stop.outcome,
-        used: r.cursor.at,
-        reply: r.filled,
+        used: ran.cursor.at,
+        reply: ran.filled,
         needed: stop.needed,
     }
 }
 
 // The counts after a run.
-pub fn ran_tally(r: Ran) -> Tally
-    ensures { result ≡ r.tally }
+pub fn ran_tally<R: RanCode>(r: R) -> Tally
+    ensures { result ≡ (R.told r).tally }
 {
-    r.tally
+    r.numbers().tally
 }
 
 fn part_of(p: Span) -> Part

@@ -6,6 +6,7 @@ use Rattle.effects.specs.declared.Reply.TheVariants.{Bare}
 use Rattle.effects.specs.declared.Done.{Done}
 use Rattle.outcome.specs.Outcome.{status_of}
 use Rattle.decision.specs.declared.Decision.{Decision as Told}
+use Rattle.decision.specs.declared.DecisionNumbers.{DecisionNumbers}
 use Rattle.commands.specs.Rules.{Rule, rule_of, status_by}
 use Rattle.effects.specs.Done.{nothing, done_of}
 
@@ -18,6 +19,10 @@ pub record Decision : Type 0 where
 -- the code's decision in these numbers
 abbrev pub decision_told : Told → Decision
 decision_told d = record { status = status_of d.status; silent = d.silent; done = d.done }
+
+-- one whose status stands as a number, whatever it is
+abbrev pub numbers_told : DecisionNumbers → Decision
+numbers_told d = record { status = d.status; silent = d.silent; done = d.done }
 
 -- all of it where the status is 0, else the status alone, "CAS 0": "A non-zero status changes no table byte." The quiet form sends nothing on one status.
 abbrev pub with_status : Context → Instruction → ℕ → ℕ → Done → Decision

@@ -5,7 +5,7 @@ ghost use Rattle.std.specs.Prelude.{◌≡◌};
 ghost use Rattle.commands.specs.Rules.{get_rule, list_rule, noop_rule, write_rule, delete_rule, count_rule, meta_rule, is_add_meta, join_rule, touch_rule};
 ghost use Rattle.effects.specs.Done.{nothing, found, write_done, delete_done, count_done, is_delete, meta_done, join_done, touch_done};
 ghost use Rattle.outcome.specs.Outcome.{status_of};
-ghost use Rattle.decision.specs.Decision.{decision_told, with_status, decision_by, decision};
+ghost use Rattle.decision.specs.Decision.{Decision, decision_told, numbers_told, with_status, decision_by, decision};
 
 use commands::{Command, Context, Counter, Instruction, Kind, Meta, MetaKind, Plain, Touching};
 use document::Side;
@@ -18,6 +18,44 @@ pub struct Decision {
     pub status: Result<(), Status>,
     pub silent: bool,
     pub done: Done,
+}
+
+// A decision with its status by number, of which any may stand here.
+#[derive(Clone, Copy)]
+pub struct DecisionNumbers {
+    pub status: u8,
+    pub silent: bool,
+    pub done: Done,
+}
+
+// What tells a decision. told: the decision in 01's numbers.
+pub trait DecisionCode: Copy {
+    ghost told: { Self → Decision };
+
+    fn numbers(self) -> DecisionNumbers
+        ensures { numbers_told result ≡ told self };
+}
+
+impl DecisionCode for DecisionNumbers {
+    ghost told = { numbers_told };
+
+    #[inline(always)]
+    fn numbers(self) -> DecisionNumbers {
+        self
+    }
+}
+
+impl DecisionCode for Decision {
+    ghost told = { decision_told };
+
+    #[inline(always)]
+    fn numbers(self) -> DecisionNumbers {
+        DecisionNumbers {
+            status: outcome::status_of(self.status),
+            silent: self.silent,
+            done: self.done,
+        }
+    }
 }
 
 // What is done where no test failed, and nothing where one did. The quiet form sends nothing on success.

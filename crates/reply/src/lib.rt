@@ -5,12 +5,11 @@ ghost use Rattle.std.specs.Prelude.{◌≡◌, cond, [], ◌++◌, ◌+◌, ◌�
 ghost use Rattle.octets.specs.Parts.{written};
 ghost use Rattle.octets.specs.BigEndian.{bytes_of};
 ghost use Rattle.decision.specs.Decide.{reply_extras, reply_key};
-ghost use Rattle.decision.specs.Decision.{decision_told};
 ghost use Rattle.header.specs.Header.{header_bytes};
 ghost use Rattle.serving.specs.Reply.{body_of, header_with, reply_header, reply_bytes};
 ghost use Rattle.reply.specs.Fitting.{fitting_reply, bare_header};
 
-use decision::Decision;
+use decision::DecisionCode;
 use effects::Reply;
 use header::Header;
 use numbers::Cas;
@@ -72,7 +71,7 @@ fn key_size(r: Reply, key: &[u8]) -> usize
     ensures { result ≡ length (reply_key r key.now) }
 {
     match r {
-        Reply::Found(_, true) => key.len(),
+        Reply::Found(_, keyed) => shown_key(keyed, key).len(),
         _ => 0,
     }
 }
@@ -102,34 +101,57 @@ fn header_with(
     }
 }
 
-fn reply_header(op: u8, opaque: u32, d: Decision, key: &[u8], old: &[u8], body: usize) -> Header
-    requires { (length key.now ≤ 250) × ((length old.now ≤ 1024) × (body ≡ length (body_of d.done.reply key.now old.now))) }
-    ensures { result ≡ reply_header op opaque (decision_told d) key.now old.now }
+fn reply_header<D: DecisionCode>(
+    op: u8,
+    opaque: u32,
+    d: D,
+    key: &[u8],
+    old: &[u8],
+    body: usize,
+) -> Header
+    requires { (length key.now ≤ 250)
+        × ((length old.now ≤ 1024) × (body ≡ length (body_of (D.told d).done.reply key.now old.now))) }
+    ensures { result ≡ reply_header op opaque (D.told d) key.now old.now }
 {
-    let status = outcome::status_of(d.status);
+    let d = d.numbers();
     let k = key_size(d.done.reply, key) as u16;
     let e = extras_size(d.done.reply);
-    header_with(op, opaque, status, k, e, body as u32, d.done.cas)
+    header_with(op, opaque, d.status, k, e, body as u32, d.done.cas)
 }
 
-fn put_fitting(out: &mut [u8], op: u8, opaque: u32, d: Decision, key: &[u8], old: &[u8]) -> usize
+fn put_fitting<D: DecisionCode>(
+    out: &mut [u8],
+    op: u8,
+    opaque: u32,
+    d: D,
+    key: &[u8],
+    old: &[u8],
+) -> usize
     requires { (1302 ≤ length out.old) × ((length key.now ≤ 250) × (length old.now ≤ 1024)) }
-    ensures { (result ≡ length (reply_bytes op opaque (decision_told d) key.now old.now))
-        × (out.new ≡ written out.old 0 (reply_bytes op opaque (decision_told d) key.now old.now)) }
+    ensures { (result ≡ length (reply_bytes op opaque (D.told d) key.now old.now))
+        × (out.new ≡ written out.old 0 (reply_bytes op opaque (D.told d) key.now old.now)) }
 {
-    if d.silent {
+    let told = d.numbers();
+    if told.silent {
         return 0;
     }
-    let n = put_body(out, d.done.reply, key, old);
+    let n = put_body(out, told.done.reply, key, old);
     header::put(out, reply_header(op, opaque, d, key, old, n));
     24 + n
 }
 
 // Writes a decision's reply and answers its length, 0 where the frame is silent. old: the stored value. Nothing where the
 // key is over 250 bytes, the value over 1,024 or the room under 1,302.
-pub fn put_reply(out: &mut [u8], op: u8, opaque: u32, d: Decision, key: &[u8], old: &[u8]) -> usize
-    ensures { (result ≡ length (fitting_reply (length out.old) op opaque (decision_told d) key.now old.now))
-        × (out.new ≡ written out.old 0 (fitting_reply (length out.old) op opaque (decision_told d) key.now old.now)) }
+pub fn put_reply<D: DecisionCode>(
+    out: &mut [u8],
+    op: u8,
+    opaque: u32,
+    d: D,
+    key: &[u8],
+    old: &[u8],
+) -> usize
+    ensures { (result ≡ length (fitting_reply (length out.old) op opaque (D.told d) key.now old.now))
+        × (out.new ≡ written out.old 0 (fitting_reply (length out.old) op opaque (D.told d) key.now old.now)) }
 {
     if (out.len() < ROOM) | (key.len() > 250) | (old.len() > 1024) {
         return 0;

@@ -1,12 +1,13 @@
 -- "A cursor over a run of received frames is handed back advanced by what was consumed. One past the end sees no bytes."
 use Rattle.std.specs.Prelude.{ℕ, zero, suc, ◌+◌, ◌-◌, List, ◌++◌, length, take, drop}
 use Rattle.engine.specs.declared.Config.{Config}
-use Rattle.serving.specs.Serve.{served_told, Served, Refused, Done, served_used, served, served_table, served_reply}
+use Rattle.serving.specs.Serve.{served_told, numbers_told, Served, Refused, Done, served_used, served, served_table, served_reply}
 use Rattle.tally.specs.declared.Tally.{Tally}
 use Rattle.tally.specs.Counts.{counted_of}
 use Rattle.run.specs.declared.Cursor.{Cursor}
 use Rattle.run.specs.declared.Moved.{Moved as MovedCursor}
 use Rattle.run.specs.declared.Ran.{Ran as RanFrames}
+use Rattle.run.specs.declared.RanNumbers.{RanNumbers}
 
 -- what a cursor sees of a run
 abbrev pub seen : ℕ → List ℕ → List ℕ
@@ -30,6 +31,10 @@ moved_told m = record { cursor = m.cursor; served = served_told m.served }
 
 abbrev pub ran_told : RanFrames → Ran
 ran_told r = record { cursor = r.cursor; filled = r.filled; tally = r.tally; stop = served_told r.stop }
+
+-- one whose last answer stands in numbers
+abbrev pub ran_numbers_told : RanNumbers → Ran
+ran_numbers_told r = record { cursor = r.cursor; filled = r.filled; tally = r.tally; stop = numbers_told r.stop }
 
 -- "handed back advanced by what was consumed"
 unfoldable pub moved_by : ℕ → Served → Moved

@@ -3,7 +3,7 @@
 
 ghost use Rattle.std.specs.Prelude.{◌≡◌, true};
 ghost use Rattle.engines.specs.Damage.{sound_by};
-ghost use Rattle.run.specs.Run.{moved_told, ran_told, seen, moved_by, begun, run_end, ran_of};
+ghost use Rattle.run.specs.Run.{Ran, moved_told, ran_told, ran_numbers_told, seen, moved_by, begun, run_end, ran_of};
 ghost use Rattle.run.specs.Frames.{frames_from, step_at, serve_at, Leaves};
 ghost use Rattle.serving.specs.Serve.{served_told, served_used};
 ghost use Rattle.serving.specs.Serves.{Serves};
@@ -11,7 +11,7 @@ ghost use Rattle.tally.specs.Serves.{ServesCounted};
 
 use engine::Config;
 use outcome::Refusal;
-use serving::Served;
+use serving::{AnswerCode, Served, ServedNumbers};
 use tally::Tally;
 
 #[derive(Clone, Copy)]
@@ -35,11 +35,54 @@ pub struct Ran {
     pub stop: Result<Served, Refusal>,
 }
 
+// A run's end as above, with the last answer in numbers, of which any may stand here.
+#[derive(Clone, Copy)]
+pub struct RanNumbers {
+    pub cursor: Cursor,
+    pub filled: usize,
+    pub tally: Tally,
+    pub stop: ServedNumbers,
+}
+
+// What tells how a run ended. told: with the last answer in 01's numbers.
+pub trait RanCode: Copy {
+    ghost told: { Self → Ran };
+
+    fn numbers(self) -> RanNumbers
+        ensures { ran_numbers_told result ≡ told self };
+}
+
+impl RanCode for RanNumbers {
+    ghost told = { ran_numbers_told };
+
+    #[inline(always)]
+    fn numbers(self) -> RanNumbers {
+        self
+    }
+}
+
+impl RanCode for Ran {
+    ghost told = { ran_told };
+
+    #[inline(always)]
+    fn numbers(self) -> RanNumbers {
+        RanNumbers {
+            cursor: self.cursor,
+            filled: self.filled,
+            tally: self.tally,
+            stop: self.stop.numbers(),
+        }
+    }
+}
+
 // The bytes that a call consumed.
-pub fn used_of(answer: Result<Served, Refusal>) -> usize
-    ensures { result ≡ served_used (served_told answer) }
+pub fn used_of<A: AnswerCode>(answer: A) -> usize
+    ensures { result ≡ served_used (A.told answer) }
 {
-    answer.map_or(0, |frame| frame.used)
+    match answer.numbers() {
+        ServedNumbers::Done(_, used, _) => used,
+        ServedNumbers::Refused(_, _) => 0,
+    }
 }
 
 // Serves the frames of a run one after another on memory that its caller knows to be a table that is not damaged, each reply after those

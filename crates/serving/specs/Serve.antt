@@ -1,7 +1,7 @@
 -- Serving one request on a table of the engine that the call is for: the outcomes of document 01 in the order tested; then the request is decided, answered and stored.
 use Rattle.std.specs.declared.result.Result.{Result}
 use Rattle.std.specs.declared.result.Result.TheVariants.{Ok, Err}
-use Rattle.std.specs.Prelude.{ℕ, ◌+◌, Bool, false, cond, not, List, length, ltb, Option, None}
+use Rattle.std.specs.Prelude.{ℕ, ◌+◌, Bool, false, cond, not, List, length, eqb, ltb, Option, None}
 use Rattle.octets.specs.Parts.{written}
 use Rattle.header.specs.declared.Header.{Header}
 use Rattle.shape.specs.Shapes.{shape_of}
@@ -25,6 +25,8 @@ use Rattle.rows.specs.Find.{find_row, free_rows}
 use Rattle.outcome.specs.declared.Refusal.{Refusal}
 use Rattle.outcome.specs.Outcome.{status_of, refusal_number, refusal_needed}
 use Rattle.serving.specs.declared.Served.{Served as ServedFrame}
+use Rattle.serving.specs.declared.ServedNumbers.{ServedNumbers}
+use Rattle.serving.specs.declared.ServedNumbers.TheVariants.{Refused as RefusedNumbers, Done as DoneNumbers}
 use Rattle.serving.specs.Reply.{reply_shows, reply_bytes}
 
 -- ---- an outcome with the bytes needed from the frame's start, or status, bytes consumed and reply length
@@ -37,6 +39,11 @@ abbrev pub served_told : Result ServedFrame Refusal → Served
 served_told (Ok s) = Done (status_of s.status) s.used s.reply
 served_told (Err refusal) = Refused (refusal_number refusal) (refusal_needed refusal)
 
+-- an answer that stands in numbers, whatever they are
+abbrev pub numbers_told : ServedNumbers → Served
+numbers_told (RefusedNumbers n need) = Refused n need
+numbers_told (DoneNumbers status used len) = Done status used len
+
 -- ---- 01's numbers for each answer; what it doesn't have is 0
 -- its outcome, 0 where a frame was served
 abbrev pub served_outcome : Served → ℕ
@@ -46,6 +53,16 @@ served_outcome (Done status used len) = 0
 abbrev pub served_status : Served → ℕ
 served_status (Refused n need) = 0
 served_status (Done status used len) = status
+
+-- whether a frame was served with status 0
+abbrev pub served_succeeds : Served → Bool
+served_succeeds (Refused n need) = false
+served_succeeds (Done status used len) = eqb status 0
+
+-- or with another
+abbrev pub served_fails : Served → Bool
+served_fails (Refused n need) = false
+served_fails (Done status used len) = not (eqb status 0)
 
 -- the bytes consumed
 abbrev pub served_used : Served → ℕ

@@ -2,11 +2,9 @@
 #![tactic(auto)]
 
 ghost use Rattle.std.specs.Prelude.{◌≡◌};
-ghost use Rattle.serving.specs.Serve.{served_told};
 ghost use Rattle.tally.specs.Counts.{more_if, counted_of};
 
-use outcome::Refusal;
-use serving::Served;
+use serving::{AnswerCode, ServedNumbers};
 
 #[repr(C)]
 #[derive(Clone, Copy)]
@@ -38,22 +36,22 @@ pub fn none() -> Tally
 
 // The counts after an answer. A call that was refused counts nowhere.
 #[tactic(auto, unfolding(crate::specs::Counts::counted_of))]
-pub fn counted(t: Tally, answer: Result<Served, Refusal>) -> Tally
-    ensures { result ≡ counted_of t (served_told answer) }
+pub fn counted<A: AnswerCode>(t: Tally, answer: A) -> Tally
+    ensures { result ≡ counted_of t (A.told answer) }
 {
-    let Ok(frame) = answer else {
+    let ServedNumbers::Done(_, _, reply) = answer.numbers() else {
         return t;
     };
     Tally {
-        served: more_if(frame.status.is_ok(), t.served),
-        refused: more_if(frame.status.is_err(), t.refused),
-        silent: more_if(frame.reply == 0, t.silent),
+        served: more_if(answer.succeeds(), t.served),
+        refused: more_if(answer.fails(), t.refused),
+        silent: more_if(reply == 0, t.silent),
     }
 }
 
 // Counts one answer.
-pub fn count(t: &mut Tally, answer: Result<Served, Refusal>)
-    ensures { t.new ≡ counted_of t.old (served_told answer) }
+pub fn count<A: AnswerCode>(t: &mut Tally, answer: A)
+    ensures { t.new ≡ counted_of t.old (A.told answer) }
 {
     *t = counted(*t, answer);
 }
