@@ -2,13 +2,12 @@
 #![tactic(auto)]
 
 ghost use Rattle.std.specs.Prelude.{◌≡◌};
-ghost use Rattle.shape.specs.Shapes.{shape_told};
 ghost use Rattle.decode.specs.Decode.{plain_of, counter_of, touch_of, meta_command, family_of, instruction_with, list_decoded, meta_decoded, decoded_by};
 
 use commands::{Command, Counter, Instruction, Kind, Meta, MetaKind, Plain, Touching};
 use document::Side;
 use header::Header;
-use shape::{Operation, Shape};
+use shape::{Operation, ShapeCode};
 use with_meta::WithMeta;
 
 fn plain_of(kind: Kind, extras: &[u8]) -> Command
@@ -96,20 +95,20 @@ fn family_of(operation: Operation) -> Family
     }
 }
 
-fn instruction_with(
-    shape: Shape,
+fn instruction_with<S: ShapeCode>(
+    shape: S,
     h: Header,
     command: Command,
     size: usize,
     unsupported: bool,
 ) -> Instruction
-    ensures { result ≡ instruction_with (shape_told shape) h command size unsupported }
+    ensures { result ≡ instruction_with (S.told shape) h command size unsupported }
 {
     let cas = h.cas;
     Instruction {
         vbucket: h.vbucket,
         cas,
-        quiet: shape.quiet,
+        quiet: shape.is_quiet(),
         size,
         unsupported,
         command,
@@ -117,8 +116,13 @@ fn instruction_with(
 }
 
 // A listing, unless its count is 0.
-fn list_decoded(shape: Shape, h: Header, extras: &[u8], size: usize) -> Option<Instruction>
-    ensures { result ≡ list_decoded (shape_told shape) h extras.now size }
+fn list_decoded<S: ShapeCode>(
+    shape: S,
+    h: Header,
+    extras: &[u8],
+    size: usize,
+) -> Option<Instruction>
+    ensures { result ≡ list_decoded (S.told shape) h extras.now size }
 {
     let count = rules::count_of(extras);
     if count == 0 {
@@ -128,18 +132,18 @@ fn list_decoded(shape: Shape, h: Header, extras: &[u8], size: usize) -> Option<I
 }
 
 // A with-meta command, unless its fields break the rules. forcing: option 0x01 is taken.
-fn meta_decoded(
+fn meta_decoded<S: ShapeCode>(
     forcing: bool,
-    shape: Shape,
+    shape: S,
     h: Header,
     kind: MetaKind,
     extras: &[u8],
     value: &[u8],
 ) -> Option<Instruction>
-    ensures { result ≡ meta_decoded forcing (shape_told shape) h kind extras.now value.now }
+    ensures { result ≡ meta_decoded forcing (S.told shape) h kind extras.now value.now }
 {
     let w = with_meta::read(extras);
-    if !with_meta::with_meta_ok(shape.form.meta, w, value) {
+    if !with_meta::with_meta_ok(shape.stored(), w, value) {
         return None;
     }
     Some(instruction_with(
@@ -154,18 +158,17 @@ fn meta_decoded(
 // Field rules and command by one reading of the extras, from a frame's header, its opcode's shape, its extras and what
 // follows its key. Each kind of command is made at one place, so that the compiler puts it there, and its extras are read
 // only once the kind is known: each read past their end is a slow one.
-pub fn decoded_by(
+pub fn decoded_by<S: ShapeCode>(
     forcing: bool,
-    shape: Shape,
+    shape: S,
     h: Header,
     extras: &[u8],
     value: &[u8],
 ) -> Option<Instruction>
-    ensures { result ≡ decoded_by forcing (shape_told shape) h extras.now value.now }
+    ensures { result ≡ decoded_by forcing (S.told shape) h extras.now value.now }
 {
     let size = value.len();
-    let operation = shape.operation;
-    match family_of(operation) {
+    match family_of(shape.operation()) {
         Family::Bare(c) => Some(instruction_with(shape, h, c, size, false)),
         Family::Stored(k) => Some(instruction_with(shape, h, plain_of(k, extras), size, false)),
         Family::Counted(u) => Some(instruction_with(shape, h, counter_of(u, extras), size, false)),

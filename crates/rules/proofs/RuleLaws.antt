@@ -12,8 +12,10 @@ use borrow.Author.Tests.{leb-true, eqb-true, eqb-false, eq-eqb, ne_eqb, not-true
 use Rattle.octets.proofs.Choices.{cases, cond-elim, both, either}
 use Rattle.shape.specs.Shapes.{Shape, shape_of}
 use Rattle.header.specs.declared.Header.{Header}
+use Rattle.with_meta.specs.declared.WithMeta.{WithMeta}
 use Rattle.with_meta.specs.WithMeta.{with_meta}
-use Rattle.with_meta.specs.FieldRules.{with_meta_ok}
+use Rattle.with_meta.specs.FieldRules.{meta_number, stored_of, with_meta_ok}
+use Rattle.with_meta.proofs.StoredLaws.{told-ok}
 use Rattle.rules.specs.Rules.{extras_ok, key_ok, form_ok, count_ok, meta_size, field_rules_ok, keeps_rules, forces, form_status, meta_status, field_status, judged, status}
 
 -- a request that keeps the rules of statuses 1 and 2 is of a built command, in a right form
@@ -138,3 +140,8 @@ module _ (s : Shape) (extras value : List ℕ) where
   pub field_plain : count_ok s.extras extras ≡ true → s.meta ≡ 0 → field_status s extras value ≡ cond (ltb 1024 (length value)) 0x03 0
   unfolding field_status forces meta_size
   field_plain c e = rw (rules-plain c e, eq-eqb s.meta 0 e, sub-zero (length value))
+
+-- what a request stores, told from any number, has the number's status
+pub status-told : (n : ℕ) (w : WithMeta) (value : List ℕ) → meta_status (meta_number (stored_of n)) w value ≡ meta_status n w value
+unfolding meta_status
+status-told n w value = rw (told-ok n w value)

@@ -2,16 +2,16 @@
 // that need mode or clock. Reader and writer share them.
 #![tactic(auto)]
 
-ghost use Rattle.std.specs.Prelude.{◌≡◌, ◌-◌, ◌≤◌, length, ltb};
+ghost use Rattle.std.specs.Prelude.{◌≡◌, ℕ, ◌-◌, ◌≤◌, length, ltb};
 ghost use Rattle.outcome.specs.Outcome.{status_of};
 ghost use Rattle.shape.specs.Shapes.{key_number, shape_told};
 ghost use Rattle.with_meta.specs.WithMeta.{with_meta};
-ghost use Rattle.with_meta.specs.FieldRules.{stored_number};
+ghost use Rattle.with_meta.specs.FieldRules.{meta_number};
 ghost use Rattle.rules.specs.Rules.{extras_ok, key_ok, form_ok, count_of, count_ok, meta_size, is_forced, form_status, meta_status, field_status, judged, status};
 
 use header::Header;
 use outcome::Status;
-use shape::{Extras, Key, Shape};
+use shape::{Extras, Key, Shape, ShapeCode, ShapeNumbers};
 use with_meta::{Stored, WithMeta};
 
 const LONGEST_KEY: u16 = 250;
@@ -47,17 +47,25 @@ fn key_ok(key: Key, n: u16) -> bool
     }
 }
 
-fn form_ok(s: Shape, h: Header) -> bool
-    ensures { result ≡ form_ok (shape_told s) h }
+fn key_fits<S: ShapeCode>(s: S, n: u16) -> bool
+    ensures { result ≡ key_ok (S.told s).key n }
 {
-    let form = s.form;
+    match s.key() {
+        Some(key) => key_ok(key, n),
+        None => false,
+    }
+}
+
+fn form_ok<S: ShapeCode>(s: S, h: Header) -> bool
+    ensures { result ≡ form_ok (S.told s) h }
+{
     let parts = u32::from(h.extlen) + u32::from(h.keylen);
     // &, not &&: with && reading requests of 16 kinds in random order took 29.2 ns each, with & 27.8
     (h.datatype == 0)
         & (parts <= h.body)
-        & extras_ok(form.extras, h.extlen)
-        & key_ok(form.key, h.keylen)
-        & (form.takes_value | (h.body == parts))
+        & extras_ok(s.extras(), h.extlen)
+        & key_fits(s, h.keylen)
+        & (s.takes_value() | (h.body == parts))
 }
 
 // How many keys a listing asks for.
@@ -84,13 +92,13 @@ fn count_ok(class: Extras, extras: &[u8]) -> bool
 
 // How many bytes of extended meta end the value.
 #[tactic(auto, unfolding(crate::specs::Rules::meta_size))]
-pub fn meta_size(s: Shape, extras: &[u8]) -> usize
-    ensures { result ≡ meta_size (shape_told s) extras.now }
+pub fn meta_size<S: ShapeCode>(s: S, extras: &[u8]) -> usize
+    ensures { result ≡ meta_size (S.told s) extras.now }
 {
-    match s.form.meta {
-        Some(_) => usize::from(with_meta::section_of(extras)),
-        None => 0,
+    if !s.has_meta() {
+        return 0;
     }
+    usize::from(with_meta::section_of(extras))
 }
 
 // Whether a value is over 1,024 bytes, its extended meta not counted.
@@ -98,18 +106,6 @@ fn too_large(len: usize, meta: usize) -> bool
     ensures { result ≡ ltb 1024 (len - meta) }
 {
     LONGEST_VALUE < len.saturating_sub(meta)
-}
-
-// Status 1, and status 2 as far as the header shows it. Where there is none, extras and key end within the body.
-#[tactic(auto, unfolding(crate::specs::Rules::form_status))]
-pub fn form_status(s: Shape, h: Header) -> Result<(), Status>
-    ensures { status_of result ≡ form_status (shape_told s) h }
-{
-    s.built?;
-    if !form_ok(s, h) {
-        return Err(Status::Invalid);
-    }
-    Ok(())
 }
 
 // Whether a with-meta request has option 0x01.
@@ -121,11 +117,11 @@ pub fn is_forced(w: WithMeta) -> bool
 }
 
 #[tactic(auto, unfolding(crate::specs::Rules::meta_status))]
-fn meta_status(stored: Stored, extras: &[u8], value: &[u8]) -> Result<(), Status>
-    ensures { status_of result ≡ meta_status (stored_number stored) (with_meta extras.now) value.now }
+fn meta_status(stored: Option<Stored>, extras: &[u8], value: &[u8]) -> Result<(), Status>
+    ensures { status_of result ≡ meta_status (meta_number stored) (with_meta extras.now) value.now }
 {
     let w = with_meta::read(extras);
-    if !with_meta::with_meta_ok(Some(stored), w, value) {
+    if !with_meta::with_meta_ok(stored, w, value) {
         return Err(Status::Invalid);
     }
     if is_forced(w) {
@@ -137,20 +133,90 @@ fn meta_status(stored: Stored, extras: &[u8], value: &[u8]) -> Result<(), Status
     Ok(())
 }
 
-// Status 2 by the field rules, 0x83 for option 0x01, and status 3.
-pub fn field_status(s: Shape, extras: &[u8], value: &[u8]) -> Result<(), Status>
-    ensures { status_of result ≡ field_status (shape_told s) extras.now value.now }
+// The field rules answer no other status than document 01's, of numbers too.
+fn judge_fields<S: ShapeCode>(s: S, extras: &[u8], value: &[u8]) -> Result<(), Status>
+    ensures { status_of result ≡ field_status (S.told s) extras.now value.now }
 {
-    if !count_ok(s.form.extras, extras) {
+    if !count_ok(s.extras(), extras) {
         return Err(Status::Invalid);
     }
-    if let Some(stored) = s.form.meta {
-        return meta_status(stored, extras, value);
+    if s.has_meta() {
+        return meta_status(s.stored(), extras, value);
     }
-    if LONGEST_VALUE < value.len() {
+    let too_long = LONGEST_VALUE < value.len();
+    if too_long {
         return Err(Status::TooLarge);
     }
     Ok(())
+}
+
+// What the rules are asked of: a shape, whose answers are statuses, or a shape's numbers, whose answers are numbers, 0 where
+// no rule is broken.
+pub trait Judged: ShapeCode {
+    type Answer;
+
+    ghost number: { Self.Answer → ℕ };
+
+    fn form_status(self, h: Header) -> Self::Answer
+        ensures { number result ≡ form_status (Self.told self) h };
+
+    fn field_status(self, extras: &[u8], value: &[u8]) -> Self::Answer
+        ensures { number result ≡ field_status (Self.told self) extras.now value.now };
+}
+
+impl Judged for Shape {
+    type Answer = Result<(), Status>;
+
+    ghost number = { status_of };
+
+    #[tactic(auto, unfolding(crate::specs::Rules::form_status))]
+    fn form_status(self, h: Header) -> Result<(), Status> {
+        self.built?;
+        if !form_ok(self, h) {
+            return Err(Status::Invalid);
+        }
+        Ok(())
+    }
+
+    fn field_status(self, extras: &[u8], value: &[u8]) -> Result<(), Status> {
+        judge_fields(self, extras, value)
+    }
+}
+
+// A number for a status may be any here, so it is answered as it stands.
+impl Judged for ShapeNumbers {
+    type Answer = u8;
+
+    ghost number = { λ n. n };
+
+    #[tactic(auto, unfolding(crate::specs::Rules::form_status))]
+    fn form_status(self, h: Header) -> u8 {
+        if self.status != 0 {
+            return self.status;
+        }
+        if !form_ok(self, h) {
+            return Status::Invalid.number();
+        }
+        0
+    }
+
+    fn field_status(self, extras: &[u8], value: &[u8]) -> u8 {
+        outcome::status_of(judge_fields(self, extras, value))
+    }
+}
+
+// Status 1, and status 2 as far as the header shows it. Where there is none, extras and key end within the body.
+pub fn form_status<S: Judged>(s: S, h: Header) -> S::Answer
+    ensures { S.number result ≡ form_status (S.told s) h }
+{
+    s.form_status(h)
+}
+
+// Status 2 by the field rules, 0x83 for option 0x01, and status 3.
+pub fn field_status<S: Judged>(s: S, extras: &[u8], value: &[u8]) -> S::Answer
+    ensures { S.number result ≡ field_status (S.told s) extras.now value.now }
+{
+    s.field_status(extras, value)
 }
 
 fn judge(s: Shape, h: Header, extras: &[u8], value: &[u8]) -> Result<(), Status>

@@ -9,6 +9,7 @@ use Rattle.std.specs.declared.option.Option.TheVariants.{Some, None}
 use Rattle.outcome.specs.Outcome.{status_of}
 use Rattle.with_meta.specs.declared.Stored.{Stored}
 use Rattle.shape.specs.declared.Shape.{Shape as DeclaredShape}
+use Rattle.shape.specs.declared.ShapeNumbers.{ShapeNumbers}
 use Rattle.with_meta.specs.FieldRules.{meta_number}
 use Rattle.shape.specs.declared.Key.{Key}
 use Rattle.shape.specs.declared.Key.TheVariants.{Forbidden, Needed, Optional}
@@ -40,6 +41,10 @@ key_number Forbidden = 0
 key_number Needed = 1
 key_number Optional = 2
 
+-- what a number says of a key: nothing, where it is none of those three
+abbrev pub key_of : ℕ → Option Key
+key_of n = cond (eqb n 0) (Some Forbidden) (cond (eqb n 1) (Some Needed) (cond (eqb n 2) (Some Optional) None))
+
 abbrev pub form_told : DeclaredForm → Form
 form_told f = record { extras = f.extras; key = key_number f.key; value = cond f.takes_value 1 0; meta = meta_number f.meta }
 
@@ -53,6 +58,10 @@ shape_told s = record {
   meta = meta_number s.form.meta;
   quiet = s.quiet;
 }
+
+-- the shape that has these numbers, whatever they are
+abbrev pub numbers_told : ShapeNumbers → Shape
+numbers_told s = record { status = s.status; operation = s.operation; extras = s.extras; key = s.key; value = s.value; meta = s.meta; quiet = s.quiet }
 
 -- "nothing after the header"
 abbrev pub bare : Form

@@ -2,13 +2,14 @@
 // command is built.
 #![tactic(auto)]
 
-ghost use Rattle.std.specs.Prelude.{◌≡◌};
+ghost use Rattle.std.specs.Prelude.{◌≡◌, not, eqb};
 ghost use Rattle.outcome.specs.Outcome.{status_number};
-ghost use Rattle.shape.specs.Shapes.{form_told, shape_told, refused, shape_by, shape_of};
+ghost use Rattle.shape.specs.Shapes.{Shape as ToldShape, key_of, form_told, shape_told, numbers_told, refused, shape_by, shape_of};
+ghost use Rattle.with_meta.specs.FieldRules.{stored_of};
 ghost use Rattle.shape.specs.Table.{numbered};
 
 use outcome::Status;
-use with_meta::Stored;
+use with_meta::{MetaCode, Stored};
 
 // The command that an opcode is, its quiet form aside.
 #[derive(Clone, Copy)]
@@ -122,6 +123,119 @@ pub struct Shape {
     pub operation: Operation,
     pub form: Form,
     pub quiet: bool,
+}
+
+// The numbers of a shape.
+#[derive(Clone, Copy)]
+pub struct ShapeNumbers {
+    // 0 where the command is built, 0x83 where it is not, 0x81 where there is no such command
+    pub status: u8,
+    pub operation: Operation,
+    pub extras: Extras,
+    // 0: forbidden, 1: needed, 2: optional
+    pub key: u8,
+    // 0: forbidden, 1: any
+    pub value: u8,
+    // with-meta: 1 has a value before the extended meta, 2 has none; 0: another command
+    pub meta: u8,
+    pub quiet: bool,
+}
+
+// What tells an opcode's shape: a shape, or the numbers of one, of which any may stand here.
+pub trait ShapeCode: Copy {
+    ghost told: { Self → ToldShape };
+
+    fn operation(self) -> Operation
+        ensures { result ≡ (told self).operation };
+
+    fn extras(self) -> Extras
+        ensures { result ≡ (told self).extras };
+
+    // None where the number is no key's, by which no length is right.
+    fn key(self) -> Option<Key>
+        ensures { result ≡ key_of (told self).key };
+
+    fn takes_value(self) -> bool
+        ensures { result ≡ eqb (told self).value 1 };
+
+    // Whether it is a with-meta command's.
+    fn has_meta(self) -> bool
+        ensures { result ≡ not (eqb (told self).meta 0) };
+
+    fn stored(self) -> Option<Stored>
+        ensures { result ≡ stored_of (told self).meta };
+
+    fn is_quiet(self) -> bool
+        ensures { result ≡ (told self).quiet };
+}
+
+impl ShapeCode for Shape {
+    ghost told = { shape_told };
+
+    fn operation(self) -> Operation {
+        self.operation
+    }
+
+    fn extras(self) -> Extras {
+        self.form.extras
+    }
+
+    fn key(self) -> Option<Key> {
+        Some(self.form.key)
+    }
+
+    fn takes_value(self) -> bool {
+        self.form.takes_value
+    }
+
+    fn has_meta(self) -> bool {
+        self.form.meta.is_some()
+    }
+
+    fn stored(self) -> Option<Stored> {
+        self.form.meta
+    }
+
+    fn is_quiet(self) -> bool {
+        self.quiet
+    }
+}
+
+impl ShapeCode for ShapeNumbers {
+    ghost told = { numbers_told };
+
+    fn operation(self) -> Operation {
+        self.operation
+    }
+
+    fn extras(self) -> Extras {
+        self.extras
+    }
+
+    fn key(self) -> Option<Key> {
+        match self.key {
+            0 => Some(Key::Forbidden),
+            1 => Some(Key::Needed),
+            2 => Some(Key::Optional),
+            _ => None,
+        }
+    }
+
+    fn takes_value(self) -> bool {
+        self.value == 1
+    }
+
+    fn has_meta(self) -> bool {
+        self.meta != 0
+    }
+
+    fn stored(self) -> Option<Stored> {
+        self.meta.stored()
+    }
+
+    fn is_quiet(self) -> bool {
+        self.quiet
+    }
 }
 
 // A table, since document 01 says so: "One fixed table of 256 entries gives every opcode's shape."

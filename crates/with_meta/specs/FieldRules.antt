@@ -1,5 +1,5 @@
 -- The "field rules, each 0x04" of a with-meta request, save option 0x02's, which needs the mode.
-use Rattle.std.specs.Prelude.{ℕ, ◌-◌, ◌/◌, ◌%◌, List, Bool, ◌&&◌, ◌||◌, length, drop, leb, eqb, Option, Some, None}
+use Rattle.std.specs.Prelude.{ℕ, ◌-◌, ◌/◌, ◌%◌, List, Bool, ◌&&◌, ◌||◌, cond, length, drop, leb, eqb, Option, Some, None}
 use Rattle.with_meta.specs.declared.WithMeta.{WithMeta}
 use Rattle.with_meta.specs.declared.Stored.{Stored}
 use Rattle.with_meta.specs.declared.Stored.TheVariants.{Document, Tombstone}
@@ -26,6 +26,10 @@ stored_number Tombstone = 2
 abbrev pub meta_number : Option Stored → ℕ
 meta_number None = 0
 meta_number (Some stored) = stored_number stored
+
+-- what a number says is stored: nothing, where it is none of those two
+abbrev pub stored_of : ℕ → Option Stored
+stored_of n = cond (eqb n 1) (Some Document) (cond (eqb n 2) (Some Tombstone) None)
 
 -- "for Set and Add, no value byte before the extended meta; for Delete, such a byte, or flags or expiry not 0", n being the bytes before it
 unfoldable pub body_ok : ℕ → WithMeta → ℕ → Bool

@@ -1,10 +1,10 @@
 // What a with-meta request carries in its extras and in its extended meta, and the rules that its fields must keep.
 #![tactic(auto)]
 
-ghost use Rattle.std.specs.Prelude.{◌≡◌};
+ghost use Rattle.std.specs.Prelude.{◌≡◌, ℕ};
 ghost use Rattle.with_meta.specs.WithMeta.{carried_numbers, options_of, section_of, with_meta};
 ghost use Rattle.with_meta.specs.Section.{field_ok, fields_ok, section_ok};
-ghost use Rattle.with_meta.specs.FieldRules.{stored_number, meta_number, numbers_ok, body_ok, with_meta_ok};
+ghost use Rattle.with_meta.specs.FieldRules.{stored_number, meta_number, stored_of, numbers_ok, body_ok, with_meta_ok};
 
 use numbers::{Cas, Numbers, Revision};
 
@@ -21,6 +21,34 @@ const VERSION: u8 = 1;
 pub enum Stored {
     Document,
     Tombstone,
+}
+
+// What tells what a with-meta request stores: that itself, or the number of it in a shape, of which any may stand here.
+pub trait MetaCode: Copy {
+    ghost told: { Self → ℕ };
+
+    fn stored(self) -> Option<Stored>
+        ensures { result ≡ stored_of (told self) };
+}
+
+impl MetaCode for Option<Stored> {
+    ghost told = { meta_number };
+
+    fn stored(self) -> Option<Stored> {
+        self
+    }
+}
+
+impl MetaCode for u8 {
+    ghost told = { λ n. n };
+
+    fn stored(self) -> Option<Stored> {
+        match self {
+            1 => Some(Stored::Document),
+            2 => Some(Stored::Tombstone),
+            _ => None,
+        }
+    }
 }
 
 // What the extras of a with-meta request carry.
@@ -144,9 +172,9 @@ fn body_ok(stored: Stored, w: WithMeta, n: usize) -> bool
     }
 }
 
-// Whether a with-meta request keeps the field rules; value is what follows its key. What another command's shape has keeps none.
+// Whether a request that stores this keeps the field rules; one that stores nothing is another command's, and keeps none.
 #[tactic(auto, unfolding(crate::specs::FieldRules::with_meta_ok))]
-pub fn with_meta_ok(stored: Option<Stored>, w: WithMeta, value: &[u8]) -> bool
+fn stored_ok(stored: Option<Stored>, w: WithMeta, value: &[u8]) -> bool
     ensures { result ≡ with_meta_ok (meta_number stored) w value.now }
 {
     let Some(stored) = stored else {
@@ -156,4 +184,11 @@ pub fn with_meta_ok(stored: Option<Stored>, w: WithMeta, value: &[u8]) -> bool
         return false;
     };
     numbers_ok(w) && body_ok(stored, w, n) && section_ok(octets::rest(value, n))
+}
+
+// Whether a with-meta request keeps the field rules; value is what follows its key.
+pub fn with_meta_ok<M: MetaCode>(meta: M, w: WithMeta, value: &[u8]) -> bool
+    ensures { result ≡ with_meta_ok (M.told meta) w value.now }
+{
+    stored_ok(meta.stored(), w, value)
 }
