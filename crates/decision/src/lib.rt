@@ -28,20 +28,45 @@ pub struct DecisionNumbers {
     pub done: Done,
 }
 
-// What tells a decision. told: the decision in 01's numbers.
+// What tells a decision, as far as a reply goes by it. told: the decision in 01's numbers.
 pub trait DecisionCode: Copy {
     ghost told: { Self → Decision };
 
-    fn numbers(self) -> DecisionNumbers
-        ensures { numbers_told result ≡ told self };
+    // Its number.
+    fn status(&self) -> u8
+        ensures { result ≡ (told self.now).status };
+
+    fn silent(&self) -> bool
+        ensures { result ≡ (told self.now).silent };
+
+    fn reply(&self) -> Reply
+        ensures { result ≡ (told self.now).done.reply };
+
+    fn cas(&self) -> Cas
+        ensures { result ≡ (told self.now).done.cas };
 }
 
 impl DecisionCode for DecisionNumbers {
     ghost told = { numbers_told };
 
     #[inline(always)]
-    fn numbers(self) -> DecisionNumbers {
-        self
+    fn status(&self) -> u8 {
+        self.status
+    }
+
+    #[inline(always)]
+    fn silent(&self) -> bool {
+        self.silent
+    }
+
+    #[inline(always)]
+    fn reply(&self) -> Reply {
+        self.done.reply
+    }
+
+    #[inline(always)]
+    fn cas(&self) -> Cas {
+        self.done.cas
     }
 }
 
@@ -49,12 +74,23 @@ impl DecisionCode for Decision {
     ghost told = { decision_told };
 
     #[inline(always)]
-    fn numbers(self) -> DecisionNumbers {
-        DecisionNumbers {
-            status: outcome::status_of(self.status),
-            silent: self.silent,
-            done: self.done,
-        }
+    fn status(&self) -> u8 {
+        outcome::status_of(self.status)
+    }
+
+    #[inline(always)]
+    fn silent(&self) -> bool {
+        self.silent
+    }
+
+    #[inline(always)]
+    fn reply(&self) -> Reply {
+        self.done.reply
+    }
+
+    #[inline(always)]
+    fn cas(&self) -> Cas {
+        self.done.cas
     }
 }
 

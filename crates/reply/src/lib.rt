@@ -113,10 +113,11 @@ fn reply_header<D: DecisionCode>(
         × ((length old.now ≤ 1024) × (body ≡ length (body_of (D.told d).done.reply key.now old.now))) }
     ensures { result ≡ reply_header op opaque (D.told d) key.now old.now }
 {
-    let d = d.numbers();
-    let k = key_size(d.done.reply, key) as u16;
-    let e = extras_size(d.done.reply);
-    header_with(op, opaque, d.status, k, e, body as u32, d.done.cas)
+    let status = d.status();
+    let r = d.reply();
+    let k = key_size(r, key) as u16;
+    let e = extras_size(r);
+    header_with(op, opaque, status, k, e, body as u32, d.cas())
 }
 
 fn put_fitting<D: DecisionCode>(
@@ -131,11 +132,10 @@ fn put_fitting<D: DecisionCode>(
     ensures { (result ≡ length (reply_bytes op opaque (D.told d) key.now old.now))
         × (out.new ≡ written out.old 0 (reply_bytes op opaque (D.told d) key.now old.now)) }
 {
-    let told = d.numbers();
-    if told.silent {
+    if d.silent() {
         return 0;
     }
-    let n = put_body(out, told.done.reply, key, old);
+    let n = put_body(out, d.reply(), key, old);
     header::put(out, reply_header(op, opaque, d, key, old, n));
     24 + n
 }
