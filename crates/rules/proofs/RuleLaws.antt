@@ -10,8 +10,10 @@ use lib.ListN.{length}
 use lib.Dec.{ltb, leb, eqb}
 use borrow.Author.Tests.{leb-true, eqb-true, eqb-false, eq-eqb, ne_eqb, not-true, not-false}
 use Rattle.octets.proofs.Choices.{cases, cond-elim, both, either}
-use Rattle.shape.specs.Shapes.{Shape, shape_of}
+use Rattle.std.specs.Prelude.{Option, None}
+use Rattle.shape.specs.Shapes.{Shape, key_of, shape_of}
 use Rattle.header.specs.declared.Header.{Header}
+use Rattle.with_meta.specs.declared.Stored.{Stored}
 use Rattle.with_meta.specs.declared.WithMeta.{WithMeta}
 use Rattle.with_meta.specs.WithMeta.{with_meta}
 use Rattle.with_meta.specs.FieldRules.{meta_number, stored_of, with_meta_ok}
@@ -142,6 +144,13 @@ module _ (s : Shape) (extras value : List ℕ) where
   field_plain c e = rw (rules-plain c e, eq-eqb s.meta 0 e, sub-zero (length value))
 
 -- what a request stores, told from any number, has the number's status
-pub status-told : (n : ℕ) (w : WithMeta) (value : List ℕ) → meta_status (meta_number (stored_of n)) w value ≡ meta_status n w value
+pub status-told : (s : Option Stored) (n : ℕ) (w : WithMeta) (value : List ℕ) → s ≡ stored_of n → meta_status (meta_number s) w value ≡ meta_status n w value
 unfolding meta_status
-status-told n w value = rw (told-ok n w value)
+status-told s n w value e = rw (e, told-ok n w value)
+
+-- by a number that is no key's, no length is right
+pub no-key : (m n : ℕ) → None ≡ key_of m → key_ok m n ≡ false
+no-key m n e =
+    cases (eqb m 0)
+    (λ z. let l = rw z at e in cc)
+    (λ z. cases (eqb m 1) (λ y. let l = rw (z, y) at e in cc) (λ y. cases (eqb m 2) (λ x. let l = rw (z, y, x) at e in cc) (λ x. rw (z, y, x))))

@@ -7,7 +7,6 @@ use Rattle.shape.specs.declared.Extras.TheVariants.{Nothing, FlagsExpiry, Counte
 use Rattle.std.specs.declared.option.Option.{Option}
 use Rattle.std.specs.declared.option.Option.TheVariants.{Some, None}
 use Rattle.outcome.specs.Outcome.{status_of}
-use Rattle.with_meta.specs.declared.Stored.{Stored}
 use Rattle.shape.specs.declared.Shape.{Shape as DeclaredShape}
 use Rattle.shape.specs.declared.ShapeNumbers.{ShapeNumbers}
 use Rattle.with_meta.specs.FieldRules.{meta_number}

@@ -1,8 +1,5 @@
-use mathlib.Core.Path.{sym, ap, ◌∙◌}
+use mathlib.Core.Path.{sym, ◌∙◌}
 use borrow.Author.Tests.{le-ltb, lt-ltb, eqb-true, eqb-false, not-true, not-false}
-use Rattle.with_meta.specs.FieldRules.{meta_number}
-use Rattle.with_meta.specs.WithMeta.{with_meta}
-use Rattle.rules.specs.Rules.{meta_status}
 use Rattle.rules.proofs.RuleLaws.{rules-count, field-broken, field-meta, field_plain, status-told}
 use Rattle.rules.proofs.judge_fields.Goals as goal
 
@@ -14,8 +11,7 @@ pub returns-then-has_meta : goal.returns-then-has_meta
 returns-then-has_meta g c =
     let k = rw c.extras.ensures at (sym c.count_ok.ensures ∙ c.if-not-count_ok.false) in
     c.meta_status.ensures
-    ∙ ap (λ s. meta_status (meta_number s) (with_meta c.args.extras.now) c.args.value.now) c.stored.ensures
-    ∙ status-told _ _ _
+    ∙ status-told _ _ _ _ c.stored.ensures
     ∙ sym (field-meta _ _ _ k (eqb-false _ 0 (not-true _ (sym c.has_meta.ensures ∙ c.if-has_meta.true))))
 
 pub returns-then-too_long : goal.returns-then-too_long
