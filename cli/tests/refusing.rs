@@ -89,7 +89,8 @@ fn a_table_in_use_can_be_looked_at_and_not_changed() {
     for line in ["show boat.table", "get boat.table sonar:17", "keys boat.table", "purge boat.table --bound 12"] {
         folder.line(line).done();
     }
-    drop(held);
+    // unlocked, and not only closed: until it runs its program, a process that another test has just begun has the file open too
+    held.unlock().unwrap();
     folder.line("set boat.table net adrift").done();
 }
 
