@@ -3,7 +3,8 @@
  *
  * Link with libcontacts.a, which is for x86-64 Linux. A table is plain memory of yours: the library makes it, serves
  * requests on it, reads and purges it, makes it active, and keeps nothing between calls. It allocates nothing, does no
- * input or output, and takes less than 5 KiB of stack, contacts_replay less than 6 KiB (measured).
+ * input or output, and takes less than 4 KiB of stack (measured: docs/BENCHMARK.md). Where the dynamic linker binds
+ * memcpy, memmove and memset at their first call, that call of the library's takes some 3 KiB more; with -z now none does.
  *
  * Every call is proved to return and to meet a contract that fixes its answer and every lent byte, whatever numbers and
  * bytes you pass. This header says the contracts in words. docs/LAYOUT.md has the layout of tables, frames, traces and
